@@ -1,0 +1,9 @@
+use crate::row_list::RowList;
+use crate::types::Columns;
+
+/// A table: its columns and its rows.
+#[derive(Debug, Drop)]
+pub struct Table {
+    pub columns: Columns,
+    pub rows: RowList,
+}

@@ -1,0 +1,30 @@
+use crate::items::Items;
+use crate::text::Text;
+
+/// The type of a column.
+#[derive(Clone, Copy, Debug, PartialEq, Eq)]
+pub enum SqlType {
+    /// Whole numbers of 64 bits with a sign.
+    Bigint,
+    /// UTF-8 texts of at most 1 000 000 bytes.
+    Varchar,
+}
+
+/// A column of a table: its name and its type.
+#[derive(Debug, Drop)]
+pub struct Column {
+    pub name: Text,
+    pub kind: SqlType,
+}
+
+/// The columns of a table, in order.
+pub type Columns = Items<Column>;
+
+/// The types of the columns of a row, in order.
+pub type Types = Items<SqlType>;
+
+/// Places of columns, from 0.
+pub type Places = Items<u32>;
+
+/// Names of columns.
+pub type Names = Items<Text>;

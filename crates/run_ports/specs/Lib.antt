@@ -1,0 +1,7 @@
+pub mod Counts
+pub mod Reading
+pub mod Writing
+pub mod Delivering
+pub mod FailingCalls
+pub mod MemFiles
+pub mod MemSink

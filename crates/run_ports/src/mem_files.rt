@@ -1,0 +1,91 @@
+ghost use Rattle.std.specs.Prelude.{◌≡◌, ◌≤◌, Some, None, MatchOption, IfOk, if◌then◌else◌};
+ghost use Rattle.run_ports.specs.Counts.{Rose};
+ghost use Rattle.run_ports.specs.Reading.{AreBytesOf, IfFailed, refused_after};
+ghost use Rattle.run_ports.specs.MemFiles.{held_in, read_of, Answers, FollowsRead};
+
+use crate::failing_calls::FailingCalls;
+use crate::files::{FileFault, Files, Refusals};
+use sql_values::Text;
+use std::alloc::Global;
+
+/// A file in memory.
+#[derive(Drop)]
+pub struct NamedBytes {
+    pub name: Text,
+    pub bytes: Vec<u8>,
+}
+
+/// Files in memory. The first file of a name is the one that is read.
+#[derive(Drop)]
+pub struct MemFiles {
+    files: Vec<NamedBytes>,
+    calls: FailingCalls,
+    refusals: Refusals,
+}
+
+impl MemFiles {
+    /// Reads fail at the calls whose numbers, from 1, are in `failing`, and for a name that is not
+    /// held.
+    pub fn new(files: Vec<NamedBytes>, failing: Vec<u32>) -> MemFiles
+        ensures files { result.files ≡ files }
+        ensures failing { result.calls.numbers ≡ failing }
+        ensures made { result.calls.made ≡ 0 }
+    {
+        MemFiles {
+            files,
+            calls: FailingCalls::of(failing),
+            refusals: Refusals::new(),
+        }
+    }
+}
+
+impl Files for MemFiles {
+    ghost use Rattle.std.specs.Prelude.{Some};
+    ghost use Rattle.run_ports.specs.MemFiles.{held_in};
+
+    ghost holds = { λ f. Some (held_in f.files.items) };
+
+    ghost faults = { λ f. f.refusals.count };
+
+    ghost refused = { λ f. f.refusals.latest };
+
+    fn read(&mut self, alloc: Global, name: &str) -> Result<Vec<u8>, FileFault>
+        ensures answer { Answers result (read_of self.old name.now) }
+        ensures follows { FollowsRead self.old self.new result name.now }
+
+        ensures same { Some (held_in self.new.files.items) ≡ Some (held_in self.old.files.items) }
+        ensures bytes { IfOk result (λ bytes. held_in self.old.files.items name.now ≡ Some bytes.items) }
+        ensures later { self.old.refusals.count ≤ self.new.refusals.count }
+        ensures cause { IfFailed result (Rose self.old.refusals.count self.new.refusals.count) }
+        ensures latest { self.new.refusals.latest ≡ refused_after self.old.refusals.latest result name.now }
+    {
+        let fails = self.calls.count_one();
+        let name = Text::copy_of(alloc, name)?;
+        let answer = answer_of(&self.files, fails, alloc, name.as_str());
+        self.refusals.note(&answer, name);
+        answer
+    }
+}
+
+fn answer_of(files: &[NamedBytes], fails: bool, alloc: Global, name: &str) -> Result<Vec<u8>, FileFault>
+    ensures { Answers result (if fails then None else held_in files.now name.now) }
+{
+    if fails {
+        return Err(FileFault::Failed);
+    }
+    match held(files, name) {
+        Some(bytes) => Ok(Vec::from_slice(alloc, bytes)?),
+        None => Err(FileFault::Failed),
+    }
+}
+
+fn held<'a>(files: &'a [NamedBytes], name: &str) -> Option<&'a [u8]>
+    ensures { MatchOption result (held_in files.now name.now ≡ None) (λ bytes. held_in files.now name.now ≡ Some bytes.now) }
+{
+    for file in files {
+        if file.name.as_str() == name {
+            return Some(file.bytes.as_slice());
+        }
+    }
+    None
+}

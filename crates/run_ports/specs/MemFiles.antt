@@ -15,9 +15,30 @@ abbrev pub held_in : List NamedBytes → List ℕ → Option (List ℕ)
 held_in [] name = None
 held_in (file ∷ files) name = if pointwise nat_eq file.name name then Some file.bytes.items else held_in files name
 
+-- files that were not read yet
+abbrev pub new_files : Vec NamedBytes Global → Vec ℕ Global → MemFiles
+new_files files failing =
+    record {
+      files = files;
+      calls = record { numbers = failing; made = 0 };
+      refusals = record { count = 0; latest = None };
+    }
+
+-- what each name stands for
+abbrev pub held_by : MemFiles → List ℕ → Option (List ℕ)
+held_by files = held_in files.files.items
+
+-- how many reads were answered Failed
+abbrev pub faults_of : MemFiles → ℕ
+faults_of files = files.refusals.count
+
+-- the name of the latest of these
+abbrev pub latest_of : MemFiles → Option (List ℕ)
+latest_of files = files.refusals.latest
+
 -- what the next read of a name gives: None for Failed
 abbrev pub read_of : MemFiles → List ℕ → Option (List ℕ)
-read_of files name = if fails_next files.calls then None else held_in files.files.items name
+read_of files name = if fails_next files.calls then None else held_by files name
 
 -- a read gave this, or memory was wanting
 abbrev pub Answers : Result (Vec ℕ Global) FileFault → Option (List ℕ) → Type 0
@@ -25,9 +46,9 @@ Answers (Ok bytes) given = given ≡ Some bytes.items
 Answers (Err Failed) given = given ≡ None
 Answers (Err Memory) given = ⊤
 
--- the files once a read of `name` has this answer: what they hold stays
+-- the files after a read of `name` with this answer: what they hold stays
 pub record FollowsRead (old new : MemFiles) (answer : Result (Vec ℕ Global) FileFault) (name : List ℕ) : Type 0 where
   pub files : new.files ≡ old.files
   pub calls : new.calls ≡ counted old.calls
-  pub count : new.refusals.count ≡ faults_after old.refusals.count answer
-  pub latest : new.refusals.latest ≡ refused_after old.refusals.latest answer name
+  pub faults : faults_of new ≡ faults_after (faults_of old) answer
+  pub latest : latest_of new ≡ refused_after (latest_of old) answer name

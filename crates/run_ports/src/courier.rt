@@ -31,7 +31,7 @@ pub struct ReplayCourier {
 
 impl ReplayCourier {
     pub fn new() -> ReplayCourier
-        ensures { result.missed ≡ 0 }
+        ensures { ⟦<ReplayCourier as Courier>⟧.missed result ≡ 0 }
     {
         ReplayCourier { missed: 0 }
     }

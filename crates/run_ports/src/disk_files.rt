@@ -3,9 +3,8 @@ ghost use Rattle.std.specs.Prelude.{◌≡◌, ◌≤◌, None, vec_len, IfOk};
 use crate::files::{FileFault, Files, Refusals};
 use sql_values::Text;
 use std::alloc::Global;
-use std::fs;
 use std::io::Read;
-use std::rt;
+use std::{fs, rt};
 
 /// A file of more bytes is refused.
 const MOST_BYTES: usize = 2_000_000_000;
@@ -21,7 +20,9 @@ pub struct DiskFiles<'a, R: rt::Files> {
 }
 
 impl<'a, R: rt::Files> DiskFiles<'a, R> {
-    pub fn new(host: &'a R) -> DiskFiles<'a, R> {
+    pub fn new(host: &'a R) -> DiskFiles<'a, R>
+        ensures { ⟦<DiskFiles<'a, R> as Files>⟧.faults result ≡ 0 }
+    {
         DiskFiles {
             host,
             refusals: Refusals::new(),

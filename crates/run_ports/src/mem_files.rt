@@ -1,7 +1,7 @@
 ghost use Rattle.std.specs.Prelude.{◌≡◌, ◌≤◌, Some, None, MatchOption, IfOk, if◌then◌else◌};
 ghost use Rattle.run_ports.specs.Counts.{Rose};
 ghost use Rattle.run_ports.specs.Reading.{AreBytesOf, IfFailed, refused_after};
-ghost use Rattle.run_ports.specs.MemFiles.{held_in, read_of, Answers, FollowsRead};
+ghost use Rattle.run_ports.specs.MemFiles.{held_in, new_files, held_by, faults_of, latest_of, read_of, Answers, FollowsRead};
 
 use crate::failing_calls::FailingCalls;
 use crate::files::{FileFault, Files, Refusals};
@@ -27,9 +27,7 @@ impl MemFiles {
     /// Reads fail at the calls whose numbers, from 1, are in `failing`, and for a name that is not
     /// held.
     pub fn new(files: Vec<NamedBytes>, failing: Vec<u32>) -> MemFiles
-        ensures files { result.files ≡ files }
-        ensures failing { result.calls.numbers ≡ failing }
-        ensures made { result.calls.made ≡ 0 }
+        ensures { result ≡ new_files files failing }
     {
         MemFiles {
             files,
@@ -41,23 +39,23 @@ impl MemFiles {
 
 impl Files for MemFiles {
     ghost use Rattle.std.specs.Prelude.{Some};
-    ghost use Rattle.run_ports.specs.MemFiles.{held_in};
+    ghost use Rattle.run_ports.specs.MemFiles.{held_by, faults_of, latest_of};
 
-    ghost holds = { λ f. Some (held_in f.files.items) };
+    ghost holds = { λ f. Some (held_by f) };
 
-    ghost faults = { λ f. f.refusals.count };
+    ghost faults = { faults_of };
 
-    ghost refused = { λ f. f.refusals.latest };
+    ghost refused = { latest_of };
 
     fn read(&mut self, alloc: Global, name: &str) -> Result<Vec<u8>, FileFault>
         ensures answer { Answers result (read_of self.old name.now) }
         ensures follows { FollowsRead self.old self.new result name.now }
 
-        ensures same { Some (held_in self.new.files.items) ≡ Some (held_in self.old.files.items) }
-        ensures bytes { IfOk result (λ bytes. held_in self.old.files.items name.now ≡ Some bytes.items) }
-        ensures later { self.old.refusals.count ≤ self.new.refusals.count }
-        ensures cause { IfFailed result (Rose self.old.refusals.count self.new.refusals.count) }
-        ensures latest { self.new.refusals.latest ≡ refused_after self.old.refusals.latest result name.now }
+        ensures same { Some (held_by self.new) ≡ Some (held_by self.old) }
+        ensures bytes { IfOk result (λ bytes. AreBytesOf (Some (held_by self.old)) name.now bytes.items) }
+        ensures later { faults_of self.old ≤ faults_of self.new }
+        ensures cause { IfFailed result (Rose (faults_of self.old) (faults_of self.new)) }
+        ensures latest { latest_of self.new ≡ refused_after (latest_of self.old) result name.now }
     {
         let fails = self.calls.count_one();
         let name = Text::copy_of(alloc, name)?;
@@ -67,7 +65,12 @@ impl Files for MemFiles {
     }
 }
 
-fn answer_of(files: &[NamedBytes], fails: bool, alloc: Global, name: &str) -> Result<Vec<u8>, FileFault>
+fn answer_of(
+    files: &[NamedBytes],
+    fails: bool,
+    alloc: Global,
+    name: &str,
+) -> Result<Vec<u8>, FileFault>
     ensures { Answers result (if fails then None else held_in files.now name.now) }
 {
     if fails {

@@ -45,7 +45,8 @@ pub fn write_whole<S: Sink>(sink: &mut S, bytes: &[u8]) -> Result<(), SinkFailed
 {
     let mut at = 0;
     while at < bytes.len() {
-        at += sink.write(&bytes[at..])?;
+        let taken = sink.write(&bytes[at..])?;
+        at += taken;
     }
     Ok(())
 }

@@ -12,7 +12,7 @@ pub struct StdSink<W: Write + Drop> {
 
 impl<W: Write + Drop> StdSink<W> {
     pub fn of(writer: W) -> StdSink<W>
-        ensures { result.faults ≡ 0 }
+        ensures { ⟦<StdSink<W> as Sink>⟧.faults result ≡ 0 }
     {
         StdSink { writer, faults: 0 }
     }

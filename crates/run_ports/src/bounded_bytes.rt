@@ -41,9 +41,10 @@ impl BoundedBytes {
         self.room - self.bytes.len()
     }
 
-    /// Takes the first bytes of a piece, at most `most` of them, and says how many. Takes no memory.
+    /// Takes the first bytes of a piece, at most `most`, and says how many. Takes no memory.
     pub(crate) fn append(&mut self, piece: &[u8]) -> usize
-        ensures count { result ≡ min (length piece.now) (min self.old.most (self.old.room - vec_len self.old.bytes)) }
+        ensures count { result ≡ min (length piece.now)
+            (min self.old.most (self.old.room - vec_len self.old.bytes)) }
         ensures bytes { self.new.bytes.items ≡ self.old.bytes.items ++ take result piece.now }
         ensures room { self.new.room ≡ self.old.room }
         ensures most { self.new.most ≡ self.old.most }

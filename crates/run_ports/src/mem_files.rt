@@ -52,7 +52,8 @@ impl Files for MemFiles {
         ensures follows { FollowsRead self.old self.new result name.now }
 
         ensures same { Some (held_by self.new) ≡ Some (held_by self.old) }
-        ensures bytes { IfOk result (λ bytes. AreBytesOf (Some (held_by self.old)) name.now bytes.items) }
+        ensures bytes { IfOk result
+            (λ bytes. AreBytesOf (Some (held_by self.old)) name.now bytes.items) }
         ensures later { faults_of self.old ≤ faults_of self.new }
         ensures cause { IfFailed result (Rose (faults_of self.old) (faults_of self.new)) }
         ensures latest { latest_of self.new ≡ refused_after (latest_of self.old) result name.now }
@@ -83,7 +84,8 @@ fn answer_of(
 }
 
 fn held<'a>(files: &'a [NamedBytes], name: &str) -> Option<&'a [u8]>
-    ensures { MatchOption result (held_in files.now name.now ≡ None) (λ bytes. held_in files.now name.now ≡ Some bytes.now) }
+    ensures { MatchOption result (held_in files.now name.now ≡ None)
+        (λ bytes. held_in files.now name.now ≡ Some bytes.now) }
 {
     for file in files {
         if file.name.as_str() == name {

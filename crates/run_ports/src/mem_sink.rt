@@ -19,8 +19,8 @@ pub struct MemSink {
 }
 
 impl MemSink {
-    /// A sink that takes at most `most` bytes at a write, and fails at the writes whose numbers, from
-    /// 1, are in `failing`.
+    /// A sink that takes at most `most` bytes at a write, and fails at the writes whose numbers,
+    /// from 1, are in `failing`.
     pub fn new(
         alloc: Global,
         room: usize,
@@ -62,12 +62,14 @@ impl Sink for MemSink {
 
     /// Takes no memory.
     fn write(&mut self, piece: &[u8]) -> Result<usize, SinkFailed>
-        ensures takes { MatchResult result (λ n. taken_of self.old piece.now ≡ Some n) (λ _. taken_of self.old piece.now ≡ None) }
+        ensures takes { MatchResult result (λ n. taken_of self.old piece.now ≡ Some n)
+            (λ _. taken_of self.old piece.now ≡ None) }
         ensures follows { FollowsWrite self.old self.new result }
 
         ensures bound { WritesAtMost result piece.now }
         ensures some { IfOk result (λ n. 0 < length piece.now → 0 < n) }
-        ensures bytes { WriteAppends (Some (written_to self.old)) (Some (written_to self.new)) result piece.now }
+        ensures bytes { WriteAppends (Some (written_to self.old)) (Some (written_to self.new))
+            result piece.now }
         ensures later { faults_of self.old ≤ faults_of self.new }
         ensures cause { OnErr result (Rose (faults_of self.old) (faults_of self.new)) }
     {

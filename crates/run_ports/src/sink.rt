@@ -39,7 +39,8 @@ pub trait Sink {
 /// Writes all the bytes, and hands over the whole rest at each write.
 pub fn write_whole<S: Sink>(sink: &mut S, bytes: &[u8]) -> Result<(), SinkFailed>
     ensures ok { OnOk result (Appends (S.written sink.old) (S.written sink.new) bytes.now) }
-    ensures prefix { OnErr result (AppendsPrefix (S.written sink.old) (S.written sink.new) bytes.now) }
+    ensures prefix { OnErr result
+        (AppendsPrefix (S.written sink.old) (S.written sink.new) bytes.now) }
     ensures later { S.faults sink.old ≤ S.faults sink.new }
     ensures cause { OnErr result (Rose (S.faults sink.old) (S.faults sink.new)) }
 {

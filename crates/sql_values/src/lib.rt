@@ -11,6 +11,7 @@
 #![tactic(auto)]
 
 mod digits;
+mod fail;
 mod items;
 mod memory;
 mod row;
@@ -21,6 +22,7 @@ mod types;
 mod value;
 mod value_texts;
 
+pub use fail::Fail;
 pub use items::Items;
 pub use memory::Memory;
 pub use row::Row;

@@ -1,0 +1,9 @@
+use Rattle.std.proofs.Common.{◌≡◌, drop}
+use Rattle.csv.specs.Records.{fields_of}
+use Rattle.csv_tables.specs.Tables.{cells_from}
+use Rattle.csv_tables.proofs.RowLemmas.{after}
+use Rattle.csv_tables.proofs.rows.read_cells.Given as goal
+
+abbrev pub invariant-loop-at : goal.invariant-loop-at
+invariant-loop-at l = cells_from l.row 0 l.columns (fields_of l.line)
+    ≡ after l.cells.items (cells_from l.row l.at (drop l.at l.columns) (drop l.at (fields_of l.line)))

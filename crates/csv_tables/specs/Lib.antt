@@ -1,0 +1,6 @@
+pub mod Places
+pub mod Fields
+pub mod Records
+pub mod Tables
+pub mod ResultTexts
+pub mod Writers

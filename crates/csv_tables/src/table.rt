@@ -1,0 +1,61 @@
+ghost use Rattle.std.specs.Prelude.{◌≡◌, ◌<◌, ◌-◌, ◌^◌, MatchResult, IfOk};
+ghost use Rattle.csv_tables.specs.Tables.{IsTable, TableRefusedFor};
+
+use crate::fault::{TableFault, WRONG_HEADER};
+use crate::header::header_difference;
+use crate::records::Records;
+use crate::rows::read_rows;
+use csv::ByteRecord;
+use sql_values::{Column, Columns, Memory, Table};
+use std::alloc::Global;
+
+fn copy_columns(alloc: Global, columns: &[Column]) -> Result<Columns, Memory>
+    ensures { IfOk result (λ copy. copy ≡ columns.now) }
+{
+    let mut copy = Vec::with_capacity(alloc, columns.len())?;
+    for column in columns {
+        copy.push(Column {
+            name: column.name.copy(alloc)?,
+            kind: column.kind,
+        })?;
+    }
+    Ok(Columns::of(copy))
+}
+
+/// The table of these columns that a text in CSV is. Its first record is the header, row 0, which
+/// is the columns' names; at most `limit` rows may follow. Of several refusals the first record's
+/// is given, and in a record the first field's. More columns than a `u32` counts are `Memory`.
+pub fn read_table(
+    alloc: Global,
+    columns: &[Column],
+    limit: u32,
+    bytes: &[u8],
+) -> Result<Table, TableFault>
+    requires { limit < 2 ^ 32 - 1 }
+    ensures { MatchResult result (λ t. (t.columns ≡ columns.now) × IsTable columns.now limit bytes.now t.rows) (TableRefusedFor columns.now limit bytes.now) }
+{
+    if columns.len() > u32::MAX as usize {
+        return Err(TableFault::Memory);
+    }
+    let mut records = Records::of(alloc, bytes);
+    let mut line = ByteRecord::new(alloc);
+    if !records.next(&mut line)? {
+        return Err(TableFault::Refused {
+            row: 0,
+            column: 0,
+            why: WRONG_HEADER,
+        });
+    }
+    if let Some(column) = header_difference(columns, &line) {
+        return Err(TableFault::Refused {
+            row: 0,
+            column,
+            why: WRONG_HEADER,
+        });
+    }
+    let rows = read_rows(alloc, columns, limit, records, line)?;
+    Ok(Table {
+        columns: copy_columns(alloc, columns)?,
+        rows,
+    })
+}

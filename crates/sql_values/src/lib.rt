@@ -31,4 +31,4 @@ pub use table::Table;
 pub use text::Text;
 pub use types::{Column, Columns, Names, Places, SqlType, Types};
 pub use value::{Value, ValueRef};
-pub use value_texts::{LONGEST_TEXT, ParseFault, parse_value, print_value};
+pub use value_texts::{LONGEST_TEXT, ParseFault, parse_value, print_value, text_reads_back};

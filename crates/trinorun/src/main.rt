@@ -1,0 +1,59 @@
+//! The program: `run`, the top call, and `main`, which gives it the real world.
+//!
+//! What `run` promises is its contract, in the words of `specs/Answers.antt`: for every command line
+//! and all contents of files, status 0 means that what was written is the text of a list of rows
+//! that the plan's tree allows over its tables, and each other status has its cause.
+//!
+//! - `words`: the command line
+//! - `load`: the plan and its tables, from files
+//! - `evaluate`: the rows of a tree, node by node over whole lists
+//! - `top`: `run`
+//! - `status`: the answers, and the exit status of each
+#![tactic(auto)]
+
+mod evaluate;
+mod load;
+mod status;
+#[cfg(test)]
+mod tests;
+mod top;
+mod words;
+
+use run_ports::{DiskFiles, NoMeet, ReplayCourier, StdSink};
+use sql_values::Text;
+use status::Status;
+use std::process::ExitCode;
+use std::rt::Env;
+use std::{env, io};
+use top::run;
+
+fn main(rt: HostRuntime) -> ExitCode {
+    let status = match words_of(&rt) {
+        Ok(words) => run(
+            &rt,
+            rt.alloc(),
+            words.as_slice(),
+            &mut DiskFiles::new(&rt),
+            &mut StdSink::of(rt.stdout()),
+            &mut StdSink::of(rt.stderr()),
+            &ReplayCourier::new(),
+            &NoMeet,
+        ),
+        Err(status) => status,
+    };
+    ExitCode::from(status.exit_code())
+}
+
+/// The words after the program's name. With a word that is not UTF-8 they are no command line.
+fn words_of<R: Env + AllocGlobal>(rt: &R) -> Result<Vec<Text>, Status> {
+    let args = match env::args(rt) {
+        Ok(args) => args,
+        Err(fault) if fault.kind() == io::ErrorKind::OutOfMemory => return Err(Status::Memory),
+        Err(_) => return Err(Status::BadWords),
+    };
+    let mut words = Vec::new(rt.alloc());
+    for word in args.skip(1) {
+        words.push(Text::of(word))?;
+    }
+    Ok(words)
+}

@@ -1,19 +1,19 @@
 -- The field of a value reads back as the value.
-use Rattle.std.proofs.Common.{◌≡◌, ◌≢◌, ◌∙◌, ◌==◌, ◌<◌, ◌≤◌, ◌^◌, ◌++◌, ℕ, zero, suc, List, [], ◌∷◌, length, Bool, true, false, Option, Some, None, Ok, refl, sym, ap, arith}
-use Rattle.std.specs.Prelude.{ℤ, pos, negsuc, nat_eq, ◌||◌, ◌&&◌, not, if◌then◌else◌}
-use Rattle.std.specs.Cmp.Lexicographic.{pointwise, same_text}
+use Rattle.std.proofs.Common.{◌≡◌, ◌==◌, ◌<◌, ◌^◌, ℕ, suc, List, [], ◌∷◌, length, Bool, true, false, Option, Some, None, Ok, refl, sym, arith}
+use Rattle.std.specs.Prelude.{ℤ}
+use Rattle.std.specs.Cmp.Lexicographic.{same_text}
 use Rattle.std.specs.Fmt.{signed_decimal}
 use lib.Signed.{mag}
-use Rattle.std.specs.Str.{IsUtf8, IsAscii, chars, is_utf8}
+use Rattle.std.specs.Str.{IsUtf8, chars, is_utf8}
 use Rattle.std.proofs.lemmas.Bool.{ne_eqb}
 use Rattle.std.proofs.lemmas.Fmt.{IsAscii-signed}
 use Rattle.std.proofs.lemmas.Str.{IsUtf8-append, IsUtf8-from_ascii, IsUtf8-from_is_utf8}
-use Rattle.sql_values.specs.Texts.{HasType, text_of_value, value_of_text}
+use Rattle.sql_values.specs.Texts.{value_of_text}
 use Rattle.sql_values.specs.declared.types.SqlType.{SqlType}
 use Rattle.sql_values.specs.declared.types.SqlType.TheVariants as kind
 use Rattle.sql_values.specs.declared.value.Value.{Value}
 use Rattle.sql_values.specs.declared.value.Value.TheVariants as value
-use Rattle.csv_tables.specs.Fields.{backslash, escaped, field_text, is_null, is_varchar, null_field, same_bytes, unescaped, value_of_field}
+use Rattle.csv_tables.specs.Fields.{backslash, escaped, is_null, is_varchar, null_field, same_bytes, value_of_field}
 use Rattle.csv_tables.proofs.ValueLemmas.{value_null, value_parsed}
 
 differ : (o : Option Value) (v : Value) → o ≡ Some v → o ≡ None → ⊥

@@ -41,9 +41,9 @@ impl<'a> Records<'a> {
     pub(crate) fn next(&mut self, line: &mut ByteRecord) -> Result<bool, Memory>
         ensures { IfOk result (λ found. Gives found (fields_of line.new) self.old self.new) }
     {
-        match self.reader.read_byte_record(line) {
-            Ok(found) => return Ok(found),
-            Err(_) => return Err(Memory),
-        }
+        let Ok(found) = self.reader.read_byte_record(line) else {
+            return Err(Memory);
+        };
+        Ok(found)
     }
 }

@@ -30,19 +30,19 @@ fn print_field(kind: SqlType, value: ValueRef<'_>, field: &mut Vec<u8>) -> Resul
 fn put_field(writer: &mut Writer<Vec<u8>>, field: &[u8]) -> Result<(), Memory>
     ensures { OnOk result ((bytes : List ℕ) (fields : List (List ℕ)) → length fields < 2 ^ 64 - 1 → HasWritten bytes fields writer.old → HasWritten bytes (fields ++ field.now ∷ []) writer.new) }
 {
-    match writer.write_field(field) {
-        Ok(()) => return Ok(()),
-        Err(_) => return Err(Memory),
-    }
+    let Ok(()) = writer.write_field(field) else {
+        return Err(Memory);
+    };
+    Ok(())
 }
 
 fn end_record(writer: &mut Writer<Vec<u8>>) -> Result<(), Memory>
     ensures { OnOk result ((bytes : List ℕ) (fields : List (List ℕ)) → HasWritten bytes fields writer.old → HasWritten (bytes ++ record_text fields) [] writer.new) }
 {
-    match writer.end_record() {
-        Ok(()) => return Ok(()),
-        Err(_) => return Err(Memory),
-    }
+    let Ok(()) = writer.end_record() else {
+        return Err(Memory);
+    };
+    Ok(())
 }
 
 fn put_names(writer: &mut Writer<Vec<u8>>, names: &[Text]) -> Result<(), Memory>
@@ -87,10 +87,10 @@ fn put_row(
 fn finish(writer: Writer<Vec<u8>>) -> Result<Vec<u8>, Memory>
     ensures { IfOk result (λ text. (bytes : List ℕ) → HasWritten bytes [] writer → text.items ≡ bytes) }
 {
-    match writer.into_inner() {
-        Ok(text) => return Ok(text),
-        Err(_) => return Err(Memory),
-    }
+    let Ok(text) = writer.into_inner() else {
+        return Err(Memory);
+    };
+    Ok(text)
 }
 
 /// The text of a result in CSV: a record of the names and then one of each row, with a field for

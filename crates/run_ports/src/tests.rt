@@ -44,9 +44,10 @@ fn a_sink_in_memory_fails_as_told(rt: HostRuntime) -> Result<(), Memory> {
     let alloc = rt.alloc();
     let text = b"a\n3\n1\n\\N\n";
     // room, most, the failing write, what is written
-    let rows: [(usize, usize, u32, &[u8]); 4] = [
+    let rows: [(usize, usize, u32, &[u8]); 5] = [
         (64, 4, 3, b"a\n3\n1\n\\N"),
         (64, 4, 9, b"a\n3\n1\n\\N\n"),
+        (64, 100, 2, b"a\n3\n1\n\\N\n"),
         (9, 100, 9, b"a\n3\n1\n\\N\n"),
         (5, 3, 9, b"a\n3\n1"),
     ];

@@ -7,10 +7,9 @@ use Rattle.plan_reader.specs.Plans.{IsPlan, RefusedFor}
 use Rattle.csv_tables.specs.Tables.{IsTable}
 use Rattle.plan_reader.specs.declared.fault.PlanFault.TheVariants as plan_fault
 use Rattle.trinorun.specs.Words.{Job}
-use Rattle.trinorun.specs.Answers.{Answered, IsComplete, IsOtherTable, IsPlanAsked, IsTableAsked, JobAnswered, MetNoFault, PlanIsRefused, Seen, TableIsRefused, table_columns, table_name}
+use Rattle.trinorun.specs.Answers.{Answered, IsComplete, row_limit, IsOtherTable, IsPlanAsked, IsTableAsked, JobAnswered, MetNoFault, PlanIsRefused, Seen, TableIsRefused, table_columns, table_name}
 use Rattle.trinorun.specs.declared.status.Status.{Status}
 use Rattle.trinorun.specs.declared.status.Status.TheVariants as status
-use Rattle.trinorun.specs.declared.load.TheConstants.{ROW_LIMIT}
 
 -- bytes mean one plan
 pub one_plan : (bytes : List ℕ) (a b : Plan) → IsPlan bytes a → IsPlan bytes b → a ≡ b
@@ -43,7 +42,7 @@ table_serves : (held : List ℕ → Option (List ℕ)) (job : Job) (plan : Plan)
     → IsTableAsked (Some held) job plan rows → TableIsRefused (Some held) job plan row column why → ⊥
 table_serves held job plan rows row column why good bad =
     let same : bad.bytes ≡ good.bytes = one_content held job.file bad.bytes good.bytes bad.are_bytes good.are_bytes in
-    let here : IsTable (table_columns plan) ROW_LIMIT bad.bytes rows = subst (λ (bytes : List ℕ). IsTable (table_columns plan) ROW_LIMIT bytes rows) (sym same) good.is_table in
+    let here : IsTable (table_columns plan) row_limit bad.bytes rows = subst (λ (bytes : List ℕ). IsTable (table_columns plan) row_limit bytes rows) (sym same) good.is_table in
     let reads = here.reads in let refused = bad.refused.is in cc (reads, refused)
 
 job_complete : (job : Job) (seen : Seen) (answer : Status) (held : List ℕ → Option (List ℕ)) (plan : Plan) (rows : List (List Value))

@@ -18,15 +18,18 @@ use Rattle.csv_tables.specs.declared.fault.TableFault.TheVariants as table_fault
 use Rattle.trinorun.specs.Words.{Job}
 use Rattle.trinorun.specs.declared.status.Status.{Status}
 use Rattle.trinorun.specs.declared.status.Status.TheVariants as status
-use Rattle.trinorun.specs.declared.load.TheConstants.{ROW_LIMIT}
+
+-- how many rows a table may have
+abbrev pub row_limit : ℕ
+row_limit = 16000000
 
 -- the bytes of a name, where the files tell
-abbrev pub Held : Type 0
-Held = Option (List ℕ → Option (List ℕ))
+abbrev pub Contents : Type 0
+Contents = Option (List ℕ → Option (List ℕ))
 
 -- what is seen of a run from outside, before it and after it
 pub record Seen : Type 0 where
-  pub held : Held
+  pub held : Contents
   pub read_faults_before : ℕ
   pub read_faults_after : ℕ
   pub refused : Option (List ℕ)
@@ -47,17 +50,17 @@ abbrev pub table_columns : Plan → List Column
 table_columns plan = columns_of plan.tables 0
 
 -- the plan's file holds this plan, of a table of the asked name
-pub record IsPlanAsked (held : Held) (job : Job) (plan : Plan) : Type 0 where
+pub record IsPlanAsked (held : Contents) (job : Job) (plan : Plan) : Type 0 where
   pub bytes : List ℕ
   pub are_bytes : AreBytesOf held job.plan bytes
   pub is_plan : IsPlan bytes plan
   pub is_named : table_name plan ≡ job.name
 
 -- the table's file holds these rows, in the columns of the plan's table
-pub record IsTableAsked (held : Held) (job : Job) (plan : Plan) (rows : List (List Value)) : Type 0 where
+pub record IsTableAsked (held : Contents) (job : Job) (plan : Plan) (rows : List (List Value)) : Type 0 where
   pub bytes : List ℕ
   pub are_bytes : AreBytesOf held job.file bytes
-  pub is_table : IsTable (table_columns plan) ROW_LIMIT bytes rows
+  pub is_table : IsTable (table_columns plan) row_limit bytes rows
 
 -- the text of a list of rows that the plan's tree allows over its tables
 pub record IsTextOf (plan : Plan) (tables : List (List (List Value))) (text : List ℕ) : Type 0 where
@@ -66,7 +69,7 @@ pub record IsTextOf (plan : Plan) (tables : List (List (List Value))) (text : Li
   pub is_text : text ≡ result_text plan.output (types_of plan.tables (tree_of plan)) list
 
 -- a text that what was asked allows
-pub record IsResult (held : Held) (job : Job) (text : List ℕ) : Type 0 where
+pub record IsResult (held : Contents) (job : Job) (text : List ℕ) : Type 0 where
   pub plan : Plan
   pub rows : List (List Value)
   pub is_plan : IsPlanAsked held job plan
@@ -93,26 +96,26 @@ pub record IsOtherTable (job : Job) (bytes : List ℕ) (code : ℕ) (path : List
   pub no_place : path ≡ []
 
 -- the plan's file holds no plan that serves
-pub record PlanIsRefused (held : Held) (job : Job) (code : ℕ) (path : List ℕ) : Type 0 where
+pub record PlanIsRefused (held : Contents) (job : Job) (code : ℕ) (path : List ℕ) : Type 0 where
   pub bytes : List ℕ
   pub are_bytes : AreBytesOf held job.plan bytes
   pub why : RefusedFor bytes (plan_fault.Refused code path) ⊎ IsOtherTable job bytes code path
 
 -- the table's file holds no table of the plan's
-pub record TableIsRefused (held : Held) (job : Job) (plan : Plan) (row column why : ℕ) : Type 0 where
+pub record TableIsRefused (held : Contents) (job : Job) (plan : Plan) (row column why : ℕ) : Type 0 where
   pub bytes : List ℕ
   pub are_bytes : AreBytesOf held job.file bytes
-  pub refused : TableRefusedFor (table_columns plan) ROW_LIMIT bytes (table_fault.Refused row column why)
+  pub refused : TableRefusedFor (table_columns plan) row_limit bytes (table_fault.Refused row column why)
 
 -- why there is no plan: what each status says of the reads so far
-abbrev pub PlanFails : Held → Job → ℕ → ℕ → Option (List ℕ) → Status → Type 0
+abbrev pub PlanFails : Contents → Job → ℕ → ℕ → Option (List ℕ) → Status → Type 0
 PlanFails held job before after refused status.Memory = Unit {0}
 PlanFails held job before after refused (status.ReadFault file) = (file ≡ 0) × ReadFailed before after refused job.plan
 PlanFails held job before after refused (status.PlanRefused code path) = PlanIsRefused held job code path
 PlanFails held job before after refused _ = ⊥
 
 -- why there is no table
-abbrev pub TableFails : Held → Job → Plan → ℕ → ℕ → Option (List ℕ) → Status → Type 0
+abbrev pub TableFails : Contents → Job → Plan → ℕ → ℕ → Option (List ℕ) → Status → Type 0
 TableFails held job plan before after refused status.Memory = Unit {0}
 TableFails held job plan before after refused (status.ReadFault file) = (file ≡ 1) × ReadFailed before after refused job.file
 TableFails held job plan before after refused (status.TableRefused table row column why) =
@@ -143,7 +146,8 @@ JobAnswered job seen status.Memory = WroteNothing seen
 JobAnswered job seen status.BadWords = ⊥
 JobAnswered job seen (status.ReadFault file) = WroteNothing seen
     × (((file ≡ 0) × ReadFailed seen.read_faults_before seen.read_faults_after seen.refused job.plan)
-    ⊎ ((file ≡ 1) × ReadFailed seen.read_faults_before seen.read_faults_after seen.refused job.file))
+    ⊎ ((file ≡ 1) × ReadFailed seen.read_faults_before seen.read_faults_after seen.refused job.file
+    × ((plan : Plan) × IsPlanAsked seen.held job plan)))
 JobAnswered job seen (status.PlanRefused code path) = WroteNothing seen × PlanIsRefused seen.held job code path
 JobAnswered job seen (status.TableRefused table row column why) = WroteNothing seen × (table ≡ 0)
     × ((plan : Plan) × IsPlanAsked seen.held job plan × TableIsRefused seen.held job plan row column why)

@@ -17,7 +17,7 @@ const ONE_COLUMN: &str = "{\"version\":1,\"output\":[\"a\"],\
     \"root\":{\"id\":9,\"op\":\"scan\",\"table\":\"t\",\"columns\":[\"a\"]}}]}";
 
 /// The words, the plan, the table, the read and the write that fail (0: none), how many bytes a
-/// write takes, the exit status, and what was written.
+/// write takes, the answer, and what was written.
 type Case = (
     &'static str,
     &'static str,
@@ -25,13 +25,17 @@ type Case = (
     u32,
     u32,
     usize,
-    u8,
+    &'static str,
     &'static str,
 );
 
 const WORDS: &str = "--plan p t=t";
 
-const CASES: [Case; 16] = [
+const NO_JSON: &str = "PlanRefused { code: 1, path: Text { inner: \"\" } }";
+
+const NO_PLAN: &str = "PlanRefused { code: 10, path: Text { inner: \"\" } }";
+
+const CASES: [Case; 21] = [
     (
         WORDS,
         TWO_COLUMNS,
@@ -39,7 +43,7 @@ const CASES: [Case; 16] = [
         0,
         0,
         99,
-        0,
+        "Ok",
         "a,c\n1,x\n2,\n\\N,\\N\n",
     ),
     (
@@ -49,29 +53,97 @@ const CASES: [Case; 16] = [
         0,
         0,
         99,
-        0,
+        "Ok",
         "a,c\n1,\n2,\\\\N\n3,\\\\\\N\n",
     ),
-    (WORDS, ONE_COLUMN, "a\n", 0, 0, 99, 0, "a\n"),
-    (WORDS, ONE_COLUMN, "a\n+7\n-0\n\n", 0, 0, 1, 0, "a\n7\n0\n"),
-    ("", ONE_COLUMN, "a\n", 0, 0, 99, 2, ""),
-    ("--plan p", ONE_COLUMN, "a\n", 0, 0, 99, 2, ""),
-    ("--plan p t", ONE_COLUMN, "a\n", 0, 0, 99, 2, ""),
-    ("--plan p t=", ONE_COLUMN, "a\n", 0, 0, 99, 2, ""),
-    ("--plan -p t=t", ONE_COLUMN, "a\n", 0, 0, 99, 2, ""),
-    (WORDS, ONE_COLUMN, "a\n", 1, 0, 99, 3, ""),
-    (WORDS, ONE_COLUMN, "a\n", 2, 0, 99, 3, ""),
-    ("--plan p t=z", ONE_COLUMN, "a\n", 0, 0, 99, 3, ""),
-    (WORDS, "{\"version\":1", "a\n", 0, 0, 99, 4, ""),
-    ("--plan p u=t", ONE_COLUMN, "a\n", 0, 0, 99, 4, ""),
-    (WORDS, ONE_COLUMN, "a\n1x\n", 0, 0, 99, 5, ""),
-    (WORDS, ONE_COLUMN, "a\n", 0, 2, 1, 7, "a"),
+    (WORDS, ONE_COLUMN, "a\n", 0, 0, 99, "Ok", "a\n"),
+    (
+        WORDS,
+        ONE_COLUMN,
+        "a\n+7\n-0\n\n",
+        0,
+        0,
+        1,
+        "Ok",
+        "a\n7\n0\n",
+    ),
+    ("", ONE_COLUMN, "a\n", 0, 0, 99, "BadWords", ""),
+    ("--plan p", ONE_COLUMN, "a\n", 0, 0, 99, "BadWords", ""),
+    ("--plan p t", ONE_COLUMN, "a\n", 0, 0, 99, "BadWords", ""),
+    ("--plan p t=", ONE_COLUMN, "a\n", 0, 0, 99, "BadWords", ""),
+    ("--plan -p t=t", ONE_COLUMN, "a\n", 0, 0, 99, "BadWords", ""),
+    ("--pla p t=t", ONE_COLUMN, "a\n", 0, 0, 99, "BadWords", ""),
+    ("--plan p =t", ONE_COLUMN, "a\n", 0, 0, 99, "BadWords", ""),
+    ("--plan p -t=t", ONE_COLUMN, "a\n", 0, 0, 99, "BadWords", ""),
+    (
+        "--plan p t=t u=u",
+        ONE_COLUMN,
+        "a\n",
+        0,
+        0,
+        99,
+        "BadWords",
+        "",
+    ),
+    (
+        WORDS,
+        ONE_COLUMN,
+        "a\n",
+        1,
+        0,
+        99,
+        "ReadFault { file: 0 }",
+        "",
+    ),
+    (
+        WORDS,
+        ONE_COLUMN,
+        "a\n",
+        2,
+        0,
+        99,
+        "ReadFault { file: 1 }",
+        "",
+    ),
+    (
+        "--plan p t=z",
+        ONE_COLUMN,
+        "a\n",
+        0,
+        0,
+        99,
+        "ReadFault { file: 1 }",
+        "",
+    ),
+    (WORDS, "{\"version\":1", "a\n", 0, 0, 99, NO_JSON, ""),
+    ("--plan p u=t", ONE_COLUMN, "a\n", 0, 0, 99, NO_PLAN, ""),
+    (
+        WORDS,
+        ONE_COLUMN,
+        "a\n1x\n",
+        0,
+        0,
+        99,
+        "TableRefused { table: 0, row: 1, column: 0, why: 4 }",
+        "",
+    ),
+    (
+        WORDS,
+        TWO_COLUMNS,
+        "a,c\n1,x\n2",
+        0,
+        0,
+        99,
+        "TableRefused { table: 0, row: 2, column: 1, why: 2 }",
+        "",
+    ),
+    (WORDS, ONE_COLUMN, "a\n", 0, 2, 1, "WriteFault", "a"),
 ];
 
 #[test]
 fn answers_by_the_table(rt: HostRuntime) -> Result<(), Fail> {
     let alloc = rt.alloc();
-    for (words, plan, table, failing_read, failing_write, most, status, written) in CASES {
+    for (words, plan, table, failing_read, failing_write, most, answer, written) in CASES {
         let mut line = Vec::new(alloc);
         for word in words.split_whitespace() {
             line.push(Text::copy_of(alloc, word)?)?;
@@ -92,7 +164,7 @@ fn answers_by_the_table(rt: HostRuntime) -> Result<(), Fail> {
         )?;
         let mut err = MemSink::new(alloc, 0, 1, Vec::new(alloc))?;
         let courier = ReplayCourier::new();
-        let answer = run(
+        let status = run(
             &rt,
             alloc,
             line.as_slice(),
@@ -102,8 +174,9 @@ fn answers_by_the_table(rt: HostRuntime) -> Result<(), Fail> {
             &courier,
             &NoMeet,
         );
-        assert_eq!(rt; answer.exit_code(), status, "{written}");
-        assert!(rt; out.written() == written.as_bytes(), "{written}");
+        let found = format!(in alloc; "{status:?}")?;
+        assert!(rt; found.as_str() == answer, "{words}: {found}");
+        assert!(rt; out.written() == written.as_bytes(), "{words}: {written}");
     }
     Ok(())
 }

@@ -1,2 +1,2 @@
-pub mod NumberLemmas
-pub mod PrintedNumbers
+pub mod OrderLemmas
+pub mod HashLemmas

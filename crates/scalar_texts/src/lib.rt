@@ -1,0 +1,24 @@
+//! The texts of whole numbers, decimals and dates: what is accepted, and what is printed.
+//!
+//! Each reader equals its definition, and each printer appends the text of its definition:
+//! `specs/Numbers.antt`, `specs/Decimals.antt`, `specs/Dates.antt`. Where memory was wanting a
+//! printer has appended a beginning of the text. What is printed reads back as the same number.
+//!
+//! - `digits`: numbers of digits without a sign
+//! - `bigint`, `decimal`, `date`: a reader and a printer each
+#![tactic(auto)]
+
+mod append;
+mod bigint;
+mod boolean;
+mod date;
+mod decimal;
+mod digits;
+#[cfg(test)]
+mod tests;
+
+pub use bigint::{bigint_reads_back, print_bigint, read_bigint};
+pub use boolean::{boolean_reads_back, print_boolean, read_boolean};
+pub use date::{FIRST_DAY, LAST_DAY, date_reads_back, print_date, read_date};
+pub use decimal::{decimal_reads_back, print_decimal, read_decimal};
+pub use digits::{number as read_number, short_number as read_short_number};

@@ -1,5 +1,5 @@
 -- The field of a value reads back as the value.
-use Rattle.std.proofs.Common.{◌≡◌, ◌==◌, ◌<◌, ◌^◌, ℕ, suc, List, [], ◌∷◌, length, Bool, true, false, Option, Some, None, Ok, refl, sym, arith}
+use Rattle.std.proofs.Common.{◌≡◌, ◌==◌, ◌<◌, ◌≤◌, ◌^◌, ℕ, suc, List, [], ◌∷◌, length, Bool, true, false, Option, Some, None, Ok, refl, sym, arith}
 use Rattle.std.specs.Prelude.{ℤ}
 use Rattle.std.specs.Cmp.Lexicographic.{same_text}
 use Rattle.std.specs.Fmt.{signed_decimal}
@@ -14,6 +14,11 @@ use Rattle.sql_values.specs.declared.types.SqlType.TheVariants as kind
 use Rattle.sql_values.specs.declared.value.Value.{Value}
 use Rattle.sql_values.specs.declared.value.Value.TheVariants as value
 use Rattle.csv_tables.specs.Fields.{backslash, escaped, is_null, is_varchar, null_field, same_bytes, value_of_field}
+use Rattle.std.specs.Prelude.{unsigned_abs}
+use Rattle.scalar_texts.specs.Decimals.{decimal_text}
+use Rattle.scalar_texts.specs.Dates.{date_text, has_date}
+use Rattle.scalar_texts.specs.Booleans.{boolean_text}
+use Rattle.scalar_texts.proofs.AsciiTexts.{boolean_utf8, date_utf8, decimal_utf8}
 use Rattle.csv_tables.proofs.ValueLemmas.{value_null, value_parsed}
 
 differ : (o : Option Value) (v : Value) → o ≡ Some v → o ≡ None → ⊥
@@ -37,6 +42,18 @@ plain_back k v text plain utf8 e null empty =
 pub bigint_back : (z : ℤ) → mag z < 2 ^ 63 → value_of_text kind.Bigint (signed_decimal z) ≡ Some (value.Bigint z)
     → value_of_field kind.Bigint (signed_decimal z) ≡ Ok (value.Bigint z)
 bigint_back z h e = plain_back kind.Bigint (value.Bigint z) (signed_decimal z) refl (IsUtf8-from_ascii (signed_decimal z) (IsAscii-signed z h)) e refl refl
+
+pub boolean_back : (b : Bool) → value_of_text kind.Boolean (boolean_text b) ≡ Some (value.Boolean b)
+    → value_of_field kind.Boolean (boolean_text b) ≡ Ok (value.Boolean b)
+boolean_back b e = plain_back kind.Boolean (value.Boolean b) (boolean_text b) refl (boolean_utf8 b) e refl refl
+
+pub decimal_back : (p s : ℕ) (z : ℤ) → p ≤ 38 → unsigned_abs z < 10 ^ p → value_of_text (kind.Decimal p s) (decimal_text s z) ≡ Some (value.Decimal z)
+    → value_of_field (kind.Decimal p s) (decimal_text s z) ≡ Ok (value.Decimal z)
+decimal_back p s z most small e = plain_back (kind.Decimal p s) (value.Decimal z) (decimal_text s z) refl (decimal_utf8 p s z most small) e refl refl
+
+pub date_back : (z : ℤ) → has_date z ≡ true → value_of_text kind.Date (date_text z) ≡ Some (value.Date z)
+    → value_of_field kind.Date (date_text z) ≡ Ok (value.Date z)
+date_back z day e = plain_back kind.Date (value.Date z) (date_text z) refl (date_utf8 z day) e refl refl
 
 pub null_back : (k : SqlType) → value_of_field k null_field ≡ Ok value.Null
 unfolding is_utf8 chars lib.Utf8.encode

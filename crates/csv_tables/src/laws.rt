@@ -1,10 +1,12 @@
-ghost use Rattle.std.specs.Prelude.{◌≡◌, ◌≤◌, List, ℕ, Ok, length};
+ghost use Rattle.std.specs.Prelude.{◌≡◌, ◌<◌, ◌≤◌, ◌^◌, List, ℕ, Ok, true, length, unsigned_abs};
 ghost use Rattle.csv.specs.Reading.{AreRecords, default_config, strip_bom};
 ghost use Rattle.csv.specs.declared.parser.State.TheVariants as st;
 ghost use Rattle.csv_tables.specs.Fields.{field_text, value_of_field};
 ghost use Rattle.csv_tables.specs.Tables.{records_of};
 ghost use Rattle.sql_values.specs.Cells.{value_of};
-ghost use Rattle.sql_values.specs.Texts.{HasType, longest_text};
+ghost use Rattle.scalar_texts.specs.Dates.{has_date};
+ghost use Rattle.sql_values.specs.Texts.{longest_text};
+ghost use Rattle.sql_values.specs.Types.{HasType, IsType};
 ghost use Rattle.sql_values.specs.declared.types.SqlType.TheVariants as type;
 ghost use Rattle.sql_values.specs.declared.value.Value.TheVariants as value;
 
@@ -30,15 +32,43 @@ fn varchar_reads_back(text: &str)
     text_reads_back(SqlType::Varchar, ValueRef::Varchar(text));
 }
 
+#[tactic(auto, using(crate::proofs::ReadBackLemmas::boolean_back))]
+fn boolean_reads_back(truth: bool)
+    ensures { value_of_field type.Boolean (field_text type.Boolean (value.Boolean truth)) ≡ Ok (value.Boolean truth) }
+{
+    text_reads_back(SqlType::Boolean, ValueRef::Boolean(truth));
+}
+
+#[tactic(auto, using(crate::proofs::ReadBackLemmas::decimal_back))]
+fn decimal_reads_back(p: u8, s: u8, unscaled: i128)
+    requires is_type { IsType (type.Decimal p s) }
+    requires digits { unsigned_abs unscaled < 10 ^ p }
+    ensures { value_of_field (type.Decimal p s) (field_text (type.Decimal p s) (value.Decimal unscaled)) ≡ Ok (value.Decimal unscaled) }
+{
+    text_reads_back(SqlType::Decimal { p, s }, ValueRef::Decimal(unscaled));
+}
+
+#[tactic(auto, using(crate::proofs::ReadBackLemmas::date_back))]
+fn date_reads_back(day: i32)
+    requires { has_date day ≡ true }
+    ensures { value_of_field type.Date (field_text type.Date (value.Date day)) ≡ Ok (value.Date day) }
+{
+    text_reads_back(SqlType::Date, ValueRef::Date(day));
+}
+
 /// The law that the field of a value, NULL among them, reads back as that value.
 #[tactic(auto, using(crate::proofs::ReadBackLemmas::null_back))]
 pub fn field_reads_back(kind: SqlType, value: ValueRef<'_>)
+    requires is_type { IsType kind }
     requires has_type { HasType kind (value_of value) }
     ensures { value_of_field kind (field_text kind (value_of value.entry)) ≡ Ok (value_of value.entry) }
 {
     match (kind, value) {
         (_, ValueRef::Null) => {}
+        (SqlType::Boolean, ValueRef::Boolean(truth)) => boolean_reads_back(truth),
         (SqlType::Bigint, ValueRef::Bigint(n)) => bigint_reads_back(n),
+        (SqlType::Decimal { p, s }, ValueRef::Decimal(unscaled)) => decimal_reads_back(p, s, unscaled),
+        (SqlType::Date, ValueRef::Date(day)) => date_reads_back(day),
         (SqlType::Varchar, ValueRef::Varchar(text)) => varchar_reads_back(text),
         _ => {}
     }

@@ -5,3 +5,4 @@ pub mod DecimalLemmas
 pub mod PrintedNumbers
 pub mod PrintedDecimals
 pub mod PrintedDates
+pub mod AsciiTexts

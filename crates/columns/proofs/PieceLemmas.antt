@@ -1,5 +1,5 @@
 -- Pieces of one buffer: read, appended, cut, and counted from another start.
-use Rattle.std.proofs.Common.{◌≡◌, ℕ, ◌+◌, ◌-◌, ◌<◌, ◌≤◌, List, [], ◌∷◌, ◌++◌, length, get_or, take, drop, map, refl, ap, sym, ◌∙◌, subst, arith, zero, suc, length-drop}
+use Rattle.std.proofs.Common.{◌≡◌, ℕ, ◌+◌, ◌-◌, ◌<◌, ◌≤◌, List, [], ◌∷◌, ◌++◌, length, get_or, take, drop, map, refl, ap, sym, ◌∙◌, arith, zero, suc, length-drop}
 use Rattle.std.proofs.lemmas.List.{drop-drop, drop_at, drop-append-le, take-append-le, take-take, drop-take}
 use Rattle.std.specs.Str.{IsUtf8}
 use Rattle.columns.specs.Pieces.{pieces, EndsRise, EachUtf8}

@@ -1,5 +1,5 @@
 -- Items and their marks, cut and joined side by side.
-use Rattle.std.proofs.Common.{◌≡◌, ℕ, ◌<◌, ◌≤◌, Bool, true, false, List, [], ◌∷◌, ◌++◌, Option, Some, None, length, get_or, take, drop, map, refl, ap, sym, ◌∙◌, arith, zero, suc}
+use Rattle.std.proofs.Common.{◌≡◌, ℕ, ◌<◌, Bool, true, false, List, [], ◌∷◌, ◌++◌, Option, Some, None, length, get_or, take, drop, map, refl, ap, sym, ◌∙◌, arith, zero, suc}
 use Rattle.std.specs.Prelude.{is_none, All}
 use Rattle.columns.specs.Present.{unless, present, gather}
 
@@ -31,7 +31,8 @@ present-drop (suc n) [] bs = refl
 present-drop (suc n) (x ∷ xs) [] = present-nil (drop n xs)
 present-drop (suc n) (x ∷ xs) (b ∷ bs) = present-drop n xs bs
 
-get_or-present : {A : Type 0} (xs : List A) (bs : List Bool) (i : ℕ) (x : A) (b : Bool) (o : Option A) → i < length bs → length xs ≡ length bs → get_or (present xs bs) i o ≡ unless (get_or bs i b) (get_or xs i x)
+-- an item that is read beside its mark
+pub get_or-present : {A : Type 0} (xs : List A) (bs : List Bool) (i : ℕ) (x : A) (b : Bool) (o : Option A) → i < length bs → length xs ≡ length bs → get_or (present xs bs) i o ≡ unless (get_or bs i b) (get_or xs i x)
 get_or-present [] [] i x b o l h = absurd (omega arith)
 get_or-present [] (c ∷ bs) i x b o l h = cc
 get_or-present (y ∷ xs) [] i x b o l h = cc
@@ -89,3 +90,13 @@ present-gather (x ∷ xs) ys bs cs (p ∷ ps) h r l e f =
 
 pub All-within : (n m : ℕ) (ps : List ℕ) → n ≡ m → All (λ p. p < n) ps → All (λ p. p < m) ps
 All-within n m ps e r = λ k d l. let w : get_or ps k d < n = r k d l in omega arith
+
+get_or-mapped : {A B : Type 0} (f : A → B) (xs : List A) (i : ℕ) (d : A) → f (get_or xs i d) ≡ get_or (map f xs) i (f d)
+get_or-mapped f [] i d = refl
+get_or-mapped f (x ∷ xs) zero d = refl
+get_or-mapped f (x ∷ xs) (suc i) d = get_or-mapped f xs i d
+
+-- the elements at places, each made into another by one function
+pub map-gather : {A B : Type 0} (f : A → B) (xs : List A) (d : A) (ps : List ℕ) → map f (gather xs d ps) ≡ gather (map f xs) (f d) ps
+map-gather f xs d [] = refl
+map-gather f xs d (p ∷ ps) = cc (get_or-mapped f xs p d, map-gather f xs d ps)

@@ -1,11 +1,11 @@
 -- Texts in one buffer with their ends and marks: what each step on the three lists makes of them.
 use Rattle.std.proofs.Common.{◌≡◌, ℕ, ◌+◌, ◌-◌, ◌<◌, ◌≤◌, Bool, true, false, List, [], ◌∷◌, ◌++◌, Option, Some, None, length, get_or, take, drop, map, refl, ap, sym, ◌∙◌, subst, arith, zero, suc, length-drop, length-take, length-append}
-use Rattle.std.proofs.lemmas.List.{length-map, take_all, get_or-take, drop-take, take-map, get_or_default}
+use Rattle.std.proofs.lemmas.List.{length-map, take_all, get_or-take, drop-take, get_or_default}
 use Rattle.std.specs.Prelude.{All}
 use Rattle.std.specs.Str.{IsUtf8}
-use Rattle.columns.specs.Pieces.{pieces, EndsRise, EachUtf8, AreTexts}
+use Rattle.columns.specs.Pieces.{pieces, EndsRise, AreTexts}
 use Rattle.columns.specs.Present.{unless, present}
-use Rattle.columns.proofs.PieceLemmas.{rise-start, rise-at, rise-between, length-pieces, get_or-pieces, rise-append, pieces-append, rise-take, pieces-take, rise-drop, pieces-drop, rise-from, pieces-from, EachUtf8-append, EachUtf8-take, EachUtf8-drop, EachUtf8-at}
+use Rattle.columns.proofs.PieceLemmas.{rise-at, rise-between, length-pieces, get_or-pieces, rise-append, pieces-append, rise-take, pieces-take, rise-drop, pieces-drop, rise-from, pieces-from, EachUtf8-append, EachUtf8-take, EachUtf8-drop, EachUtf8-at}
 use Rattle.columns.proofs.PresentLemmas.{length-present, present-append, present-take, present-drop, present-read_missing, present-read_item}
 
 -- what the three lists show
@@ -133,10 +133,6 @@ text-item bs es ns i s e o l r hs he t =
     present-read_item (pieces 0 es bs) ns i (take (e - s) (drop s bs)) o l (length-pieces 0 es bs ∙ t.marked) r
     (sym (text-piece bs es i s e (take (e - s) (drop s bs)) hs he within))
 
-pub cut-bounds : (bs es : List ℕ) (ns : List Bool) (i j s e : ℕ) → s ≡ get_or (0 ∷ es) i 0 → e ≡ get_or (0 ∷ es) j 0 → i ≤ j → j ≤ length es → AreTexts bs es ns → (s ≤ e) × (e ≤ length bs)
-cut-bounds bs es ns i j s e hs he l m t =
-    let between = rise-between 0 es (length bs) i j t.rise l m in (omega (arith, between.0), omega (arith, between.1))
-
 pub ends-fit : (bs es : List ℕ) (ns : List Bool) (k n : ℕ) → AreTexts bs es ns → k + length bs < n → All (λ e. e + k < n) es
 ends-fit bs es ns k n t h = λ i d l.
     let end = (rise-at 0 es (length bs) i t.rise l).1 in
@@ -146,13 +142,19 @@ ends-fit bs es ns k n t h = λ i d l.
 pub AreTexts-by : (bs es : List ℕ) (ns : List Bool) (cs gs : List ℕ) (ms : List Bool) → cs ≡ bs → gs ≡ es → ms ≡ ns → AreTexts bs es ns → AreTexts cs gs ms
 AreTexts-by bs es ns cs gs ms h k l t = rw (h, k, l) t
 
+pub start-le-start : (bs es : List ℕ) (ns : List Bool) (i j : ℕ) → i ≤ j → j ≤ length es → AreTexts bs es ns → get_or (0 ∷ es) i 0 ≤ get_or (0 ∷ es) j 0
+start-le-start bs es ns i j l m t = (rise-between 0 es (length bs) i j t.rise l m).0
+
+pub start-le-length : (bs es : List ℕ) (ns : List Bool) (j : ℕ) → j ≤ length es → AreTexts bs es ns → get_or (0 ∷ es) j 0 ≤ length bs
+start-le-length bs es ns j m t = (rise-between 0 es (length bs) zero j t.rise (omega arith) m).1
+
 pub ruleset texts = (length-texts_of)
 
 pub ruleset pushes = (texts_of-push)
 
 pub ruleset takes = (length-texts_of, texts_of-take)
 
-pub ruleset cuts = (length-texts_of, cut-bounds, texts_of-cut)
+pub ruleset cuts = (length-texts_of, start-le-start, start-le-length)
 
 pub ruleset appends = (texts_of-append)
 

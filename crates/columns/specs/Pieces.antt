@@ -1,5 +1,5 @@
 -- One buffer that holds texts end to end, with the place where each ends.
-use Rattle.std.specs.Prelude.{◌≡◌, ℕ, ◌-◌, ◌≤◌, Bool, List, [], ◌∷◌, Option, length, take, drop}
+use Rattle.std.specs.Prelude.{◌≡◌, ℕ, ◌-◌, ◌≤◌, Bool, List, [], ◌∷◌, length, take, drop}
 use Rattle.std.specs.Str.{IsUtf8}
 
 -- the bytes up to each end, from the end before it: the first piece begins at `start`

@@ -102,6 +102,7 @@ impl Texts {
         }
         let start = start_of(self.ends.as_slice(), place);
         let end = self.ends[place];
+        // Each text is UTF-8 by the invariant, so nothing is tested again.
         Some(unsafe { str::from_utf8_unchecked(&self.bytes[start..end]) })
     }
 

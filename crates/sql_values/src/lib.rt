@@ -30,7 +30,8 @@ mod types;
 mod value;
 mod value_texts;
 
-pub use fail::{EvalFault, Fail, OutOfRange};
+pub use decimals::{Decimal, OutOfRange};
+pub use fail::{EvalFault, Fail};
 pub use hash::bucket;
 pub use items::Items;
 pub use memory::Memory;

@@ -1,5 +1,4 @@
 use Rattle.std.proofs.Common.{◌<◌, length, arith}
-use Rattle.std.proofs.lemmas.Grind.{common_steps}
 use Rattle.columns.proofs.TextLemmas.{text-utf8, reads}
 use Rattle.columns.proofs.texts.Texts.get.Goals as goal
 

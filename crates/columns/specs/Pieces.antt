@@ -16,6 +16,7 @@ abbrev pub EachUtf8 : List (List ℕ) → Type 0
 EachUtf8 [] = Unit {0}
 EachUtf8 (t ∷ ts) = IsUtf8 t × EachUtf8 ts
 
+-- every text has its end and its mark, the ends cover the buffer, and each text is UTF-8
 pub record AreTexts (bytes : List ℕ) (ends : List ℕ) (nulls : List Bool) : Type 0 where
   pub rise : EndsRise 0 ends (length bytes)
   pub marked : length ends ≡ length nulls

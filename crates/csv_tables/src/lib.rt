@@ -7,6 +7,7 @@
 //! - `fault`: why a text is refused
 //! - `records`: the records of a text, one after the other
 //! - `header`, `field`, `rows`, `table`: the parts of `read_table`
+//! - `laws`: what follows from the definitions
 //! - `result_text`: `text_of`
 #![tactic(auto)]
 

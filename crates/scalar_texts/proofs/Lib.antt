@@ -2,6 +2,7 @@ pub mod AppendLemmas
 pub mod DateLemmas
 pub mod DigitLemmas
 pub mod DecimalLemmas
+pub mod Marks
 pub mod PrintedNumbers
 pub mod PrintedDecimals
 pub mod PrintedDates

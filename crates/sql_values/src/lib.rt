@@ -41,7 +41,7 @@ pub use row::Row;
 pub use row_list::RowList;
 pub use table::Table;
 pub use text::Text;
-pub use type_texts::{parse_type, print_type};
+pub use type_texts::{parse_type, print_type, type_reads_back};
 pub use types::{Column, Columns, Names, Places, SqlType, Types};
 pub use value::{Value, ValueRef};
 pub use value_texts::{LONGEST_TEXT, ParseFault, parse_value, print_value, text_reads_back};

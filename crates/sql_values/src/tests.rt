@@ -1,6 +1,6 @@
 use crate::{
-    Column, Columns, Items, KeySpec, Memory, Order, ParseFault, Row, RowList, SqlType, Table, Text,
-    Value, ValueRef, bucket, compare_rows, parse_type, parse_value, print_type, print_value,
+    Column, Columns, KeySpec, Memory, Order, ParseFault, Row, RowList, SqlType, Table, Text, Value,
+    ValueRef, bucket, compare_rows, parse_type, parse_value, print_type, print_value,
 };
 use std::alloc::Global;
 use std::cmp::Ordering;
@@ -15,6 +15,13 @@ fn row(alloc: Global, values: &[ValueRef<'_>]) -> Result<Row, Memory> {
     Ok(Row::of(owned))
 }
 
+fn reads_as(alloc: Global, kind: SqlType, text: &str, printed: &str) -> Result<bool, ParseFault> {
+    let value = parse_value(alloc, kind, text)?.copy(alloc)?;
+    let mut bytes = Vec::new(alloc);
+    print_value(kind, value.as_ref(), &mut bytes)?;
+    Ok(bytes.as_slice() == printed.as_bytes())
+}
+
 #[test]
 fn values_read_and_print(rt: HostRuntime) -> Result<(), ParseFault> {
     for (kind, text, printed) in [
@@ -25,11 +32,13 @@ fn values_read_and_print(rt: HostRuntime) -> Result<(), ParseFault> {
         (SqlType::Varchar, "", ""),
         (SqlType::Date, "1998-09-02", "1998-09-02"),
     ] {
-        let value = parse_value(rt.alloc(), kind, text)?;
-        let mut bytes = Vec::new(rt.alloc());
-        print_value(kind, value.copy(rt.alloc())?.as_ref(), &mut bytes)?;
-        assert!(rt; bytes.as_slice() == printed.as_bytes(), "at {text}");
+        assert!(rt; reads_as(rt.alloc(), kind, text, printed)?, "at {text}");
     }
+    Ok(())
+}
+
+#[test]
+fn texts_that_are_no_values(rt: HostRuntime) {
     for (kind, text) in [
         (SqlType::Boolean, "yes"),
         (SqlType::Bigint, "1x"),
@@ -40,7 +49,15 @@ fn values_read_and_print(rt: HostRuntime) -> Result<(), ParseFault> {
         let refused = parse_value(rt.alloc(), kind, text);
         assert!(rt; matches!(refused, Err(ParseFault::Malformed)), "at {text}");
     }
-    Ok(())
+}
+
+fn names_a_type(alloc: Global, text: &str) -> Result<bool, Memory> {
+    let Some(kind) = parse_type(text) else {
+        return Ok(false);
+    };
+    let mut bytes = Vec::new(alloc);
+    print_type(kind, &mut bytes)?;
+    Ok(bytes.as_slice() == text.as_bytes())
 }
 
 #[test]
@@ -54,14 +71,13 @@ fn types_read_and_print(rt: HostRuntime) -> Result<(), Memory> {
         "varchar",
         "date",
     ] {
-        let Some(kind) = parse_type(text) else {
-            assert!(rt; false, "at {text}");
-            return Ok(());
-        };
-        let mut bytes = Vec::new(rt.alloc());
-        print_type(kind, &mut bytes)?;
-        assert!(rt; bytes.as_slice() == text.as_bytes(), "at {text}");
+        assert!(rt; names_a_type(rt.alloc(), text)?, "at {text}");
     }
+    Ok(())
+}
+
+#[test]
+fn texts_that_are_no_types(rt: HostRuntime) {
     for text in [
         "",
         "Date",
@@ -79,7 +95,6 @@ fn types_read_and_print(rt: HostRuntime) -> Result<(), Memory> {
     ] {
         assert_eq!(rt; parse_type(text), None, "at {text}");
     }
-    Ok(())
 }
 
 #[test]
@@ -139,27 +154,42 @@ fn buckets(rt: HostRuntime) -> Result<(), Memory> {
     Ok(())
 }
 
-#[test]
-fn tables_hold_rows(rt: HostRuntime) -> Result<(), Memory> {
-    let mut columns = Columns::new(rt.alloc());
+fn table(alloc: Global) -> Result<Table, Memory> {
+    let mut columns = Columns::new(alloc);
     columns.push(Column {
-        name: Text::copy_of(rt.alloc(), "a")?,
+        name: Text::copy_of(alloc, "a")?,
         kind: SqlType::Bigint,
     })?;
-    let mut rows = RowList::new(rt.alloc());
-    rows.push(row(rt.alloc(), &[ValueRef::Bigint(1)])?)?;
-    rows.push(row(rt.alloc(), &[ValueRef::Null])?)?;
-    let table = Table { columns, rows };
-    assert_eq!(rt; table.columns.len(), 1);
-    assert_eq!(rt; table.rows.len(), 2);
-    assert!(rt; matches!(table.rows.cell(0, 0), ValueRef::Bigint(1)));
-    assert!(rt; matches!(table.rows.cell(1, 0), ValueRef::Null));
-    assert!(rt; matches!(table.rows.cell(1, 7), ValueRef::Null));
-    assert_eq!(rt; table.rows.row(rt.alloc(), 1)?.len(), 1);
-    let name = &table.columns.as_slice()[0].name;
-    assert!(rt; name.same(&name.copy(rt.alloc())?));
-    let one = Value::Bigint(1);
-    assert!(rt; one.same(&ValueRef::Bigint(1).to_value(rt.alloc())?));
+    let mut rows = RowList::new(alloc);
+    rows.push(row(alloc, &[ValueRef::Bigint(1)])?)?;
+    rows.push(row(alloc, &[ValueRef::Null])?)?;
+    Ok(Table { columns, rows })
+}
+
+#[test]
+fn tables_hold_rows(rt: HostRuntime) -> Result<(), Memory> {
+    let Table { columns, rows } = table(rt.alloc())?;
+    assert_eq!(rt; columns.len(), 1);
+    assert!(rt; !columns.is_empty());
+    if rows.len() != 2 {
+        assert!(rt; false, "{} rows", rows.len());
+        return Ok(());
+    }
+    assert!(rt; matches!(rows.cell(0, 0), ValueRef::Bigint(1)));
+    assert!(rt; matches!(rows.cell(1, 0), ValueRef::Null));
+    assert!(rt; matches!(rows.cell(1, 7), ValueRef::Null));
+    let last = rows.row(rt.alloc(), 1)?;
+    assert_eq!(rt; last.len(), 1);
+    Ok(())
+}
+
+#[test]
+fn copies_are_the_same(rt: HostRuntime) -> Result<(), Memory> {
+    let name = Text::copy_of(rt.alloc(), "a")?;
+    let copy = name.copy(rt.alloc())?;
+    assert!(rt; name.same(&copy));
+    let one = ValueRef::Bigint(1).to_value(rt.alloc())?;
+    assert!(rt; one.same(&Value::Bigint(1)));
     assert!(rt; !one.same(&Value::Date(1)));
     Ok(())
 }

@@ -67,7 +67,9 @@ pub fn field_reads_back(kind: SqlType, value: ValueRef<'_>)
         (_, ValueRef::Null) => {}
         (SqlType::Boolean, ValueRef::Boolean(truth)) => boolean_reads_back(truth),
         (SqlType::Bigint, ValueRef::Bigint(n)) => bigint_reads_back(n),
-        (SqlType::Decimal { p, s }, ValueRef::Decimal(unscaled)) => decimal_reads_back(p, s, unscaled),
+        (SqlType::Decimal { p, s }, ValueRef::Decimal(unscaled)) => decimal_reads_back(
+            p, s, unscaled,
+        ),
         (SqlType::Date, ValueRef::Date(day)) => date_reads_back(day),
         (SqlType::Varchar, ValueRef::Varchar(text)) => varchar_reads_back(text),
         _ => {}

@@ -1,12 +1,11 @@
 -- The printed texts of decimals, dates and booleans are ASCII.
-use Rattle.std.proofs.Common.{◌≡◌, ◌+◌, ◌-◌, ◌/◌, ◌%◌, ◌*◌, ◌^◌, ◌<◌, ◌≤◌, ℕ, zero, suc, List, [], ◌∷◌, ◌++◌, Bool, true, false, replicate, ℤ, pos, negsuc, ◌+ℤ◌, ◌≤ℤ◌, neg_ℤ, unsigned_abs, refl, arith, lit<, if◌then◌else◌, ◌==◌}
+use Rattle.std.proofs.Common.{◌≡◌, ◌+◌, ◌/◌, ◌%◌, ◌^◌, ◌<◌, ◌≤◌, ℕ, zero, suc, List, ◌∷◌, Bool, true, false, replicate, ℤ, pos, negsuc, ◌+ℤ◌, ◌≤ℤ◌, neg_ℤ, unsigned_abs, arith, lit<, if◌then◌else◌, ◌==◌}
 use Rattle.std.specs.Prelude.{codes}
 use Rattle.std.specs.Fmt.{decimal}
 use Rattle.std.specs.Str.{IsAscii, IsUtf8}
 use Rattle.std.proofs.lemmas.Fmt.{IsAscii-decimal_wide}
 use Rattle.std.proofs.lemmas.Str.{IsAscii-append, IsUtf8-from_ascii}
-use Rattle.std.proofs.lemmas.Str.Ascii.{IsAscii-nil, IsAscii-cons, IsAscii-from_all}
-use Rattle.std.proofs.lemmas.Int.{ints}
+use Rattle.std.proofs.lemmas.Str.Ascii.{IsAscii-nil, IsAscii-cons}
 use Rattle.std.proofs.Math.Nat.{pow-le-pow_right}
 use Rattle.scalar_texts.specs.Numbers.{padded}
 use Rattle.scalar_texts.specs.Decimals.{decimal_text, magnitude_text, pointed_text}
@@ -28,7 +27,7 @@ pointed_ascii s n small =
     let whole : n / 10 ^ s < 10 ^ 64 = grind arith in
     let part : n % 10 ^ s < 10 ^ 64 = grind arith in
     IsAscii-append (decimal (n / 10 ^ s)) (46 ∷ padded s (n % 10 ^ s)) (IsAscii-decimal_wide (n / 10 ^ s) whole)
-        (IsAscii-cons 46 (padded s (n % 10 ^ s)) (lit< tt) (padded_ascii s (n % 10 ^ s) part))
+    (IsAscii-cons 46 (padded s (n % 10 ^ s)) (lit< tt) (padded_ascii s (n % 10 ^ s) part))
 
 either_ascii : (b : Bool) (xs ys : List ℕ) → IsAscii xs → IsAscii ys → IsAscii (if b then xs else ys)
 either_ascii true xs ys h k = h
@@ -51,9 +50,9 @@ day_ascii : (d : CalendarDay) → d.year ≤ 9999 → d.month ≤ 12 → d.day �
 day_ascii d year month day =
     let top : 9999 < 10 ^ 64 = lit< tt in
     IsAscii-append (padded 4 d.year) _ (padded_ascii 4 d.year (omega arith))
-        (IsAscii-cons 45 _ (lit< tt)
-            (IsAscii-append (padded 2 d.month) _ (padded_ascii 2 d.month (omega arith))
-                (IsAscii-cons 45 (padded 2 d.day) (lit< tt) (padded_ascii 2 d.day (omega arith)))))
+    (IsAscii-cons 45 _ (lit< tt)
+    (IsAscii-append (padded 2 d.month) _ (padded_ascii 2 d.month (omega arith))
+    (IsAscii-cons 45 (padded 2 d.day) (lit< tt) (padded_ascii 2 d.day (omega arith)))))
 
 pub boolean_utf8 : (b : Bool) → IsUtf8 (boolean_text b)
 boolean_utf8 b = IsUtf8-from_ascii (boolean_text b) (either_ascii b (codes "true") (codes "false") (λ i. grind arith) (λ i. grind arith))

@@ -1,6 +1,5 @@
 -- A decimal that was printed reads as that decimal.
-use Rattle.std.proofs.Common.{◌≡◌, ℕ, zero, suc, ◌+◌, ◌*◌, ◌-◌, ◌/◌, ◌%◌, ◌^◌, ◌<◌, ◌≤◌, min, List, [], ◌∷◌, ◌++◌, length, length-append, append-nil, drop, Option, Some, None, option_and_then, option_map, true, false, cond, not, ◌==◌, ◌&&◌, nat_lt, nat_le, ap, sym, subst, ◌∙◌, arith, add-one, ℤ, pos, negsuc, neg_ℤ, unsigned_abs}
-use Rattle.std.specs.List.{position_or_len}
+use Rattle.std.proofs.Common.{◌≡◌, ℕ, zero, suc, ◌+◌, ◌*◌, ◌-◌, ◌/◌, ◌%◌, ◌^◌, ◌<◌, ◌≤◌, min, List, [], ◌∷◌, ◌++◌, length, drop, Option, Some, None, option_and_then, option_map, true, false, cond, ◌==◌, ◌&&◌, nat_le, ap, sym, subst, ◌∙◌, arith, add-one, ℤ, pos, negsuc, neg_ℤ, unsigned_abs}
 use Rattle.std.specs.Fmt.{decimal}
 use Rattle.std.specs.Str.Parse.{IsNumeral, AllDigits}
 use Rattle.std.proofs.Math.Seq.{take-append_seam, drop-append-add}

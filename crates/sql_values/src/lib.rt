@@ -13,6 +13,9 @@
 //! - `relational`, `fail`, `memory`: words that the crates above share
 #![tactic(auto)]
 
+mod block;
+mod block_cells;
+mod column_rows;
 mod fail;
 mod hash;
 mod items;
@@ -20,6 +23,7 @@ mod memory;
 mod order;
 mod relational;
 mod row;
+mod row_builder;
 mod row_list;
 mod table;
 #[cfg(test)]
@@ -30,6 +34,8 @@ mod types;
 mod value;
 mod value_texts;
 
+pub use block::Block;
+pub use column_rows::ColumnRows;
 pub use decimals::{Decimal, OutOfRange};
 pub use fail::{EvalFault, Fail};
 pub use hash::bucket;
@@ -38,6 +44,7 @@ pub use memory::Memory;
 pub use order::{KeySpec, Order, compare_cells, compare_rows, compare_values, rows_are_ordered};
 pub use relational::{Call, JoinKind};
 pub use row::Row;
+pub use row_builder::RowBuilder;
 pub use row_list::RowList;
 pub use table::Table;
 pub use text::Text;

@@ -1,6 +1,7 @@
 use crate::{
-    Column, Columns, KeySpec, Memory, Order, ParseFault, Row, RowList, SqlType, Table, Text, Value,
-    ValueRef, bucket, compare_rows, parse_type, parse_value, print_type, print_value,
+    Block, Column, ColumnRows, Columns, Items, KeySpec, Memory, Order, ParseFault, Row, RowBuilder,
+    RowList, SqlType, Table, Text, Value, ValueRef, bucket, compare_rows, parse_type, parse_value,
+    print_type, print_value,
 };
 use std::alloc::Global;
 use std::cmp::Ordering;
@@ -191,5 +192,96 @@ fn copies_are_the_same(rt: HostRuntime) -> Result<(), Memory> {
     let one = ValueRef::Bigint(1).to_value(rt.alloc())?;
     assert!(rt; one.same(&Value::Bigint(1)));
     assert!(rt; !one.same(&Value::Date(1)));
+    Ok(())
+}
+
+fn shown(alloc: Global, rows: &RowList, columns: u32) -> Result<String, Memory> {
+    let mut text = String::new(alloc);
+    for place in 0..rows.len() {
+        for column in 0..columns {
+            match rows.cell(place, column) {
+                ValueRef::Null => text.push_str("null ")?,
+                ValueRef::Boolean(truth) => write!(text, "{truth} ")?,
+                ValueRef::Bigint(number) => write!(text, "{number} ")?,
+                ValueRef::Decimal(unscaled) => write!(text, "{unscaled}d ")?,
+                ValueRef::Varchar(value) => write!(text, "'{value}' ")?,
+                ValueRef::Date(day) => write!(text, "day {day} ")?,
+            }
+        }
+        text.push_str("| ")?;
+    }
+    Ok(text)
+}
+
+#[test]
+fn lists_keep_columns_until_a_row_does_not_fit(rt: HostRuntime) -> Result<(), Memory> {
+    let types = [SqlType::Bigint, SqlType::Varchar];
+    for (other, want) in [
+        (ValueRef::Bigint(3), "1 'a' | null null | 3 null | "),
+        (ValueRef::Varchar("x"), "1 'a' | null null | 'x' null | "),
+    ] {
+        let mut rows = RowList::of_types(rt.alloc(), &types)?;
+        rows.push(row(
+            rt.alloc(),
+            &[ValueRef::Bigint(1), ValueRef::Varchar("a")],
+        )?)?;
+        rows.push(row(rt.alloc(), &[ValueRef::Null, ValueRef::Null])?)?;
+        rows.push(row(rt.alloc(), &[other, ValueRef::Null])?)?;
+        assert_eq!(rt; shown(rt.alloc(), &rows, 2)?.as_str(), want);
+        assert_eq!(rt; rows.row(rt.alloc(), 2)?.len(), 2);
+    }
+    Ok(())
+}
+
+#[test]
+fn builders_make_rows_of_all_types(rt: HostRuntime) -> Result<(), Memory> {
+    let types = [
+        SqlType::Boolean,
+        SqlType::Bigint,
+        PRICE,
+        SqlType::Varchar,
+        SqlType::Date,
+    ];
+    let mut builder = RowBuilder::new(rt.alloc(), &types)?;
+    for value in [
+        ValueRef::Boolean(true),
+        ValueRef::Bigint(-1),
+        ValueRef::Decimal(250),
+        ValueRef::Varchar("é"),
+        ValueRef::Date(3),
+    ] {
+        assert!(rt; !builder.end_row());
+        assert!(rt; builder.put(value)?);
+    }
+    assert!(rt; !builder.put(ValueRef::Null)?);
+    assert!(rt; builder.end_row());
+    assert!(rt; builder.put(ValueRef::Null)?);
+    assert!(rt; !builder.put(ValueRef::Boolean(true))?);
+    let rows = builder.finish();
+    assert_eq!(rt; shown(rt.alloc(), &rows, 5)?.as_str(), "true -1 250d 'é' day 3 | ");
+    Ok(())
+}
+
+#[test]
+fn blocks_join_and_are_cut(rt: HostRuntime) -> Result<(), Memory> {
+    let mut block = Block::new(rt.alloc(), SqlType::Bigint);
+    for number in 0..3 {
+        assert!(rt; block.push(ValueRef::Bigint(number))?);
+    }
+    assert!(rt; !block.push(ValueRef::Date(1))?);
+    let twin = block.copy(rt.alloc())?;
+    assert!(rt; block.append(&twin)?);
+    assert!(rt; !block.append(&Block::new(rt.alloc(), SqlType::Date))?);
+    block.truncate(5);
+    assert_eq!(rt; block.len(), 5);
+    assert_eq!(rt; block.kind(), SqlType::Bigint);
+    let mut blocks = Vec::new(rt.alloc());
+    blocks.push(block)?;
+    let mut rows = ColumnRows::of_columns(rt.alloc(), blocks)?;
+    assert!(rt; rows.push(&row(rt.alloc(), &[ValueRef::Null])?)?);
+    assert!(rt; !rows.push(&row(rt.alloc(), &[])?)?);
+    rows.truncate(7);
+    let list = RowList::of_columns(rt.alloc(), rows.cut(rt.alloc(), 0, rows.len())?);
+    assert_eq!(rt; shown(rt.alloc(), &list, 1)?.as_str(), "0 | 1 | 2 | 0 | 1 | null | ");
     Ok(())
 }

@@ -48,10 +48,16 @@ fn pages_are_cut_and_chosen(rt: HostRuntime) -> Result<(), Memory> {
         }
     }
     let twin = whole.copy(rt.alloc())?;
-    assert_eq!(rt; shown(rt.alloc(), &twin)?.as_str(), "1 'a' | 2 '' | 3 'c' | ");
+    assert_eq!(rt;
+        shown(rt.alloc(), &twin)?.as_str(),
+        "1 'a' | 2 '' | 3 'c' | "
+    );
     if whole.len() == 3 {
         let chosen = whole.select(rt.alloc(), &[2, 0, 2])?;
-        assert_eq!(rt; shown(rt.alloc(), &chosen)?.as_str(), "3 'c' | 1 'a' | 3 'c' | ");
+        assert_eq!(rt;
+            shown(rt.alloc(), &chosen)?.as_str(),
+            "3 'c' | 1 'a' | 3 'c' | "
+        );
         assert_eq!(rt; whole.row(rt.alloc(), 1)?.len(), 2);
     }
     Ok(())

@@ -253,7 +253,6 @@ in_place f (y ∷ ys) (suc i) x l h = ap (λ zs. f y ∷ zs) (in_place f ys i x 
 pub in_place-step : {A : Type 0} (f : A → A) (now xs : List A) (i : ℕ) (x : A) → now ≡ map f (take i xs) ++ drop i xs → i < length xs → x ≡ get_or now i x → set now i (f x) ≡ map f (take (i + 1) xs) ++ drop (i + 1) xs
 in_place-step f now xs i x e l h = rw (e, add-one) (in_place f xs i x l (rw e at h))
 
-
 pub length-kinds_of : (cs : List TypedCells) → length (kinds_of cs) ≡ length cs
 length-kinds_of [] = refl
 length-kinds_of (c ∷ cs) = ap suc (length-kinds_of cs)

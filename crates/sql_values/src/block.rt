@@ -225,7 +225,8 @@ impl Block {
             (
                 Held::Decimal { numbers, .. },
                 Held::Decimal {
-                    numbers: others, ..
+                    numbers: others,
+                    ..
                 },
             ) => numbers.append(others)?,
             (Held::Varchar(texts), Held::Varchar(others)) => texts.append(others)?,

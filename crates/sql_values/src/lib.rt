@@ -6,6 +6,10 @@
 //! - `text`, `types`, `value`, `items`, `row`, `row_list`, `table`: the types. `specs/Cells.antt`
 //!   says what stands in a column of a row, `specs/Types.antt` which values have a type,
 //!   `specs/Bags.antt` what it means that two lists hold the same rows
+//! - `block`, `column_rows`: cells of one type in one vector with their nulls, and columns of one
+//!   length seen as their rows, by `specs/Blocks.antt` and `specs/ColumnRows.antt`. A list of rows
+//!   of known types keeps such columns (`RowList::of_types`, `RowBuilder`), and falls back to rows
+//!   where a row does not fit; nothing above can tell the two apart, but by their time
 //! - `value_texts`, `type_texts`: values and types as texts, by `specs/Texts.antt` and
 //!   `specs/TypeTexts.antt`; what is printed reads back as the value
 //! - `order`: rows by sort keys, by `specs/Order.antt`

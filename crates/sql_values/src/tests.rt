@@ -213,75 +213,108 @@ fn shown(alloc: Global, rows: &RowList, columns: u32) -> Result<String, Memory> 
     Ok(text)
 }
 
+fn pushed(alloc: Global, last: ValueRef<'_>) -> Result<RowList, Memory> {
+    let mut rows = RowList::of_types(alloc, &[SqlType::Bigint, SqlType::Varchar])?;
+    for first in [ValueRef::Bigint(1), ValueRef::Null, last] {
+        rows.push(row(alloc, &[first, ValueRef::Varchar("a")])?)?;
+    }
+    Ok(rows)
+}
+
 #[test]
 fn lists_keep_columns_until_a_row_does_not_fit(rt: HostRuntime) -> Result<(), Memory> {
-    let types = [SqlType::Bigint, SqlType::Varchar];
-    for (other, want) in [
-        (ValueRef::Bigint(3), "1 'a' | null null | 3 null | "),
-        (ValueRef::Varchar("x"), "1 'a' | null null | 'x' null | "),
+    for (last, want) in [
+        (ValueRef::Bigint(3), "1 'a' | null 'a' | 3 'a' | "),
+        (ValueRef::Varchar("x"), "1 'a' | null 'a' | 'x' 'a' | "),
     ] {
-        let mut rows = RowList::of_types(rt.alloc(), &types)?;
-        rows.push(row(
-            rt.alloc(),
-            &[ValueRef::Bigint(1), ValueRef::Varchar("a")],
-        )?)?;
-        rows.push(row(rt.alloc(), &[ValueRef::Null, ValueRef::Null])?)?;
-        rows.push(row(rt.alloc(), &[other, ValueRef::Null])?)?;
+        let rows = pushed(rt.alloc(), last)?;
         assert_eq!(rt; shown(rt.alloc(), &rows, 2)?.as_str(), want);
-        assert_eq!(rt; rows.row(rt.alloc(), 2)?.len(), 2);
     }
     Ok(())
 }
 
+fn five_types(alloc: Global) -> Result<RowBuilder, Memory> {
+    RowBuilder::new(
+        alloc,
+        &[
+            SqlType::Boolean,
+            SqlType::Bigint,
+            PRICE,
+            SqlType::Varchar,
+            SqlType::Date,
+        ],
+    )
+}
+
+/// How many of the values were taken.
+fn put_all(builder: &mut RowBuilder, values: &[ValueRef<'_>]) -> Result<u32, Memory> {
+    let mut taken = 0u32;
+    for value in values {
+        if builder.put(*value)? {
+            taken = taken.saturating_add(1);
+        }
+    }
+    Ok(taken)
+}
+
 #[test]
 fn builders_make_rows_of_all_types(rt: HostRuntime) -> Result<(), Memory> {
-    let types = [
-        SqlType::Boolean,
-        SqlType::Bigint,
-        PRICE,
-        SqlType::Varchar,
-        SqlType::Date,
-    ];
-    let mut builder = RowBuilder::new(rt.alloc(), &types)?;
-    for value in [
+    let mut builder = five_types(rt.alloc())?;
+    let values = [
+        ValueRef::Boolean(true),
         ValueRef::Boolean(true),
         ValueRef::Bigint(-1),
         ValueRef::Decimal(250),
         ValueRef::Varchar("é"),
         ValueRef::Date(3),
-    ] {
-        assert!(rt; !builder.end_row());
-        assert!(rt; builder.put(value)?);
-    }
-    assert!(rt; !builder.put(ValueRef::Null)?);
+        ValueRef::Null,
+    ];
+    assert_eq!(rt; put_all(&mut builder, &values)?, 5);
     assert!(rt; builder.end_row());
-    assert!(rt; builder.put(ValueRef::Null)?);
-    assert!(rt; !builder.put(ValueRef::Boolean(true))?);
-    let rows = builder.finish();
-    assert_eq!(rt; shown(rt.alloc(), &rows, 5)?.as_str(), "true -1 250d 'é' day 3 | ");
+    assert!(rt; !builder.end_row());
+    assert_eq!(rt; builder.len(), 1);
+    let text = shown(rt.alloc(), &builder.finish(), 5)?;
+    assert_eq!(rt; text.as_str(), "true -1 250d 'é' day 3 | ");
     Ok(())
+}
+
+/// The numbers below three, twice.
+fn numbers(alloc: Global) -> Result<Block, Memory> {
+    let mut block = Block::new(alloc, SqlType::Bigint);
+    for number in 0..3 {
+        block.push(ValueRef::Bigint(number))?;
+    }
+    let twin = block.copy(alloc)?;
+    block.append(&twin)?;
+    Ok(block)
+}
+
+/// The rows of a column, without the first.
+fn cut_rows(alloc: Global, block: Block) -> Result<RowList, Memory> {
+    let mut blocks = Vec::new(alloc);
+    blocks.push(block)?;
+    let rows = ColumnRows::of_columns(alloc, blocks)?;
+    if rows.len() == 0 {
+        return Ok(RowList::new(alloc));
+    }
+    Ok(RowList::of_columns(alloc, rows.cut(alloc, 1, rows.len())?))
 }
 
 #[test]
 fn blocks_join_and_are_cut(rt: HostRuntime) -> Result<(), Memory> {
-    let mut block = Block::new(rt.alloc(), SqlType::Bigint);
-    for number in 0..3 {
-        assert!(rt; block.push(ValueRef::Bigint(number))?);
-    }
-    assert!(rt; !block.push(ValueRef::Date(1))?);
-    let twin = block.copy(rt.alloc())?;
-    assert!(rt; block.append(&twin)?);
-    assert!(rt; !block.append(&Block::new(rt.alloc(), SqlType::Date))?);
+    let mut block = numbers(rt.alloc())?;
     block.truncate(5);
-    assert_eq!(rt; block.len(), 5);
     assert_eq!(rt; block.kind(), SqlType::Bigint);
-    let mut blocks = Vec::new(rt.alloc());
-    blocks.push(block)?;
-    let mut rows = ColumnRows::of_columns(rt.alloc(), blocks)?;
-    assert!(rt; rows.push(&row(rt.alloc(), &[ValueRef::Null])?)?);
-    assert!(rt; !rows.push(&row(rt.alloc(), &[])?)?);
-    rows.truncate(7);
-    let list = RowList::of_columns(rt.alloc(), rows.cut(rt.alloc(), 0, rows.len())?);
-    assert_eq!(rt; shown(rt.alloc(), &list, 1)?.as_str(), "0 | 1 | 2 | 0 | 1 | null | ");
+    let text = shown(rt.alloc(), &cut_rows(rt.alloc(), block)?, 1)?;
+    assert_eq!(rt; text.as_str(), "1 | 2 | 0 | 1 | ");
+    Ok(())
+}
+
+#[test]
+fn blocks_refuse_other_types(rt: HostRuntime) -> Result<(), Memory> {
+    let mut block = numbers(rt.alloc())?;
+    assert!(rt; !block.push(ValueRef::Date(1))?);
+    assert!(rt; !block.append(&Block::new(rt.alloc(), SqlType::Date))?);
+    assert_eq!(rt; block.len(), 6);
     Ok(())
 }

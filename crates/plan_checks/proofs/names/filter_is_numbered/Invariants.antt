@@ -1,0 +1,9 @@
+use Rattle.std.proofs.Common.{◌≡◌, drop, map}
+use Rattle.std.specs.List.{list_any}
+use Rattle.plan_grammar.specs.Spots.{spot_of}
+use Rattle.plan_checks.specs.Names.{numbers_filter}
+use Rattle.plan_checks.proofs.names.filter_is_numbered.Given as goal
+
+-- no place so far does
+abbrev pub invariant-loop-place : goal.invariant-loop-place
+invariant-loop-place l = list_any (numbers_filter l.id) (map spot_of l.before) ≡ list_any (numbers_filter l.id) (map spot_of (drop l.place-index l.before))

@@ -1,0 +1,8 @@
+pub mod Shapes
+pub mod Limits
+pub mod Types
+pub mod Names
+pub mod Built
+pub mod Fragments
+pub mod Halves
+pub mod Documents

@@ -1,0 +1,5 @@
+pub mod Json
+pub mod Words
+pub mod Tables
+pub mod Grammar
+pub mod Spots

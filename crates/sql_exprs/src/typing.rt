@@ -1,0 +1,224 @@
+ghost use Rattle.std.specs.Prelude.{◌≡◌, [], slice_get, MatchResult};
+ghost use Rattle.std.specs.Option.{ok_or};
+ghost use Rattle.std.specs.List.{list_all};
+ghost use Rattle.sql_functions.specs.CallTypes.{type_at};
+ghost use Rattle.sql_exprs.specs.Forms.{form_view};
+ghost use Rattle.sql_exprs.specs.Typing.{MisfitAt, RefusedFor, StandsAt, all_branch_types, arg_types, call_row, case_row, cast_row, fits_branch, form_type};
+
+use crate::expr::{Branch, Expr};
+use crate::path::{Step, pointer_of, under};
+use sql_functions::{CallName, call_type, can_cast, same_type, takes_types};
+use sql_values::{Memory, SqlType, Text};
+use std::alloc::{AllocError, AllocFailed, Global};
+use thiserror::Error;
+
+/// Why an expression has no type.
+#[derive(Debug, Drop, Error)]
+pub enum TypeFault {
+    /// The path of the first subexpression that breaks the table of calls and casts, as a JSON
+    /// Pointer from the expression.
+    #[error("an expression does not fit the types")]
+    Refused(Text),
+    #[error("out of memory")]
+    Memory,
+}
+
+impl From<Memory> for TypeFault {
+    ghost use Rattle.sql_exprs.specs.declared.typing.TypeFault.TheVariants as fault;
+    ghost use Rattle.std.specs.Prelude.{◌≡◌};
+
+    ghost from_gives = { λ _ e. e ≡ fault.Memory };
+
+    fn from(_: Memory) -> TypeFault {
+        TypeFault::Memory
+    }
+}
+
+/// The first subexpression that does not fit, by its path.
+#[derive(Debug, Drop)]
+pub enum Misfit {
+    At(Vec<Step>),
+    Memory,
+}
+
+impl From<Memory> for Misfit {
+    ghost use Rattle.sql_exprs.specs.declared.typing.Misfit.TheVariants as misfit;
+    ghost use Rattle.std.specs.Prelude.{◌≡◌};
+
+    ghost from_gives = { λ _ e. e ≡ misfit.Memory };
+
+    fn from(_: Memory) -> Misfit {
+        Misfit::Memory
+    }
+}
+
+impl From<AllocError> for Misfit {
+    ghost use Rattle.sql_exprs.specs.declared.typing.Misfit.TheVariants as misfit;
+    ghost use Rattle.std.specs.Prelude.{◌≡◌};
+
+    ghost from_gives = { λ _ e. e ≡ misfit.Memory };
+
+    fn from(_: AllocError) -> Misfit {
+        Misfit::Memory
+    }
+}
+
+impl<T: Drop> From<AllocFailed<T>> for Misfit {
+    ghost use Rattle.sql_exprs.specs.declared.typing.Misfit.TheVariants as misfit;
+    ghost use Rattle.std.specs.Prelude.{◌≡◌};
+
+    ghost from_gives = { λ _ e. e ≡ misfit.Memory };
+
+    fn from(_: AllocFailed<T>) -> Misfit {
+        Misfit::Memory
+    }
+}
+
+/// The types of a branch.
+#[derive(Clone, Copy, Debug, PartialEq, Eq)]
+pub struct BranchType {
+    pub test: SqlType,
+    pub result: SqlType,
+}
+
+/// The type of an expression over columns of these types.
+pub fn typed(alloc: Global, expr: &Expr, columns: &[SqlType]) -> Result<SqlType, TypeFault>
+    ensures { MatchResult result (λ t. form_type columns.now [] (form_view expr.now) ≡ Ok t) (RefusedFor (form_type columns.now [] (form_view expr.now))) }
+{
+    match type_at(alloc, columns, &[], expr) {
+        Ok(kind) => Ok(kind),
+        Err(Misfit::At(path)) => Err(TypeFault::Refused(pointer_of(alloc, path.as_slice())?)),
+        Err(Misfit::Memory) => Err(TypeFault::Memory),
+    }
+}
+
+/// The type of an expression that stands at a path.
+#[cycle(typing)]
+pub fn type_at(alloc: Global, columns: &[SqlType], path: &[Step], expr: &Expr) -> Result<SqlType, Misfit>
+    ensures { MatchResult result (λ t. form_type columns.now path.now (form_view expr.now) ≡ Ok t) (MisfitAt (form_type columns.now path.now (form_view expr.now))) }
+{
+    match expr {
+        Expr::Column(column) => column_type(alloc, columns, path, *column as usize),
+        Expr::Literal { kind, .. } => Ok(*kind),
+        Expr::Null(kind) => Ok(*kind),
+        Expr::Call { name, args } => {
+            let inner = under(alloc, path, Step::Args)?;
+            let kinds = arg_types(alloc, columns, inner.as_slice(), args.as_slice())?;
+            call_row(alloc, path, *name, kinds.as_slice())
+        }
+        Expr::Cast { arg, kind } => {
+            let inner = under(alloc, path, Step::Cast)?;
+            let from = type_at(alloc, columns, inner.as_slice(), arg)?;
+            cast_row(alloc, path, from, *kind)
+        }
+        Expr::Case { branches, other } => {
+            let inner = under(alloc, path, Step::Case)?;
+            let types = branch_types(alloc, columns, inner.as_slice(), branches.as_slice())?;
+            let inner = under(alloc, path, Step::Else)?;
+            let other = type_at(alloc, columns, inner.as_slice(), other)?;
+            case_row(alloc, path, types.as_slice(), other)
+        }
+    }
+}
+
+#[cycle(typing)]
+fn arg_types(alloc: Global, columns: &[SqlType], path: &[Step], args: &[Expr]) -> Result<Vec<SqlType>, Misfit>
+    ensures { MatchResult result (λ ts. arg_types columns.now path.now 0 args.now ≡ Ok ts.items) (MisfitAt (arg_types columns.now path.now 0 args.now)) }
+{
+    let mut kinds = Vec::with_capacity(alloc, args.len())?;
+    for (at, arg) in args.iter().enumerate() {
+        let inner = under(alloc, path, Step::Place(at))?;
+        kinds.push(type_at(alloc, columns, inner.as_slice(), arg)?)?;
+    }
+    Ok(kinds)
+}
+
+#[cycle(typing)]
+fn branch_types(alloc: Global, columns: &[SqlType], path: &[Step], branches: &[Branch]) -> Result<Vec<BranchType>, Misfit>
+    ensures { MatchResult result (λ ts. all_branch_types columns.now path.now 0 branches.now ≡ Ok ts.items) (MisfitAt (all_branch_types columns.now path.now 0 branches.now)) }
+{
+    let mut types = Vec::with_capacity(alloc, branches.len())?;
+    for (at, branch) in branches.iter().enumerate() {
+        let inner = under(alloc, path, Step::Place(at))?;
+        let when = under(alloc, inner.as_slice(), Step::When)?;
+        let test = type_at(alloc, columns, when.as_slice(), &branch.test)?;
+        let then = under(alloc, inner.as_slice(), Step::Then)?;
+        let result = type_at(alloc, columns, then.as_slice(), &branch.result)?;
+        types.push(BranchType { test, result })?;
+    }
+    Ok(types)
+}
+
+/// The fault at a path.
+fn refused_at(alloc: Global, path: &[Step]) -> Misfit
+    ensures { StandsAt path.now result }
+{
+    let mut steps = Vec::new(alloc);
+    match steps.extend_from_slice(path) {
+        Ok(()) => Misfit::At(steps),
+        Err(_) => Misfit::Memory,
+    }
+}
+
+fn column_type(alloc: Global, columns: &[SqlType], path: &[Step], at: usize) -> Result<SqlType, Misfit>
+    ensures { MatchResult result (λ t. ok_or (slice_get columns.now at) path.now ≡ Ok t) (MisfitAt (ok_or (slice_get columns.now at) path.now)) }
+{
+    match columns.get(at) {
+        Some(kind) => Ok(*kind),
+        None => Err(refused_at(alloc, path)),
+    }
+}
+
+fn call_row(alloc: Global, path: &[Step], name: CallName, kinds: &[SqlType]) -> Result<SqlType, Misfit>
+    ensures { MatchResult result (λ t. call_row path.now name kinds.now ≡ Ok t) (MisfitAt (call_row path.now name kinds.now)) }
+{
+    if !takes_types(name, kinds) {
+        return Err(refused_at(alloc, path));
+    }
+    Ok(call_type(name, type_in(kinds, 0), type_in(kinds, 1)))
+}
+
+/// The type at a place of a list: boolean where there is none.
+fn type_in(kinds: &[SqlType], at: usize) -> SqlType
+    ensures { result ≡ type_at kinds.now at }
+{
+    match kinds.get(at) {
+        Some(kind) => *kind,
+        None => SqlType::Boolean,
+    }
+}
+
+fn cast_row(alloc: Global, path: &[Step], from: SqlType, to: SqlType) -> Result<SqlType, Misfit>
+    ensures { MatchResult result (λ t. cast_row path.now from to ≡ Ok t) (MisfitAt (cast_row path.now from to)) }
+{
+    if !can_cast(from, to) {
+        return Err(refused_at(alloc, path));
+    }
+    Ok(to)
+}
+
+fn fits_branch(other: SqlType, branch: BranchType) -> bool
+    ensures { result ≡ fits_branch other branch }
+{
+    branch.test == SqlType::Boolean && same_type(branch.result, other)
+}
+
+fn all_fit(other: SqlType, branches: &[BranchType]) -> bool
+    ensures { result ≡ list_all (fits_branch other) branches.now }
+{
+    for branch in branches {
+        if !fits_branch(other, *branch) {
+            return false;
+        }
+    }
+    true
+}
+
+fn case_row(alloc: Global, path: &[Step], branches: &[BranchType], other: SqlType) -> Result<SqlType, Misfit>
+    ensures { MatchResult result (λ t. case_row path.now branches.now other ≡ Ok t) (MisfitAt (case_row path.now branches.now other)) }
+{
+    if !all_fit(other, branches) {
+        return Err(refused_at(alloc, path));
+    }
+    Ok(other)
+}

@@ -1,0 +1,13 @@
+pub mod Outcomes
+pub mod Truth
+pub mod Comparison
+pub mod Bigints
+pub mod DecimalNumbers
+pub mod Arithmetic
+pub mod TextCalls
+pub mod DateCalls
+pub mod Like
+pub mod LikeRows
+pub mod Casts
+pub mod Calls
+pub mod CallTypes

@@ -1,14 +1,17 @@
+ghost use Rattle.std.specs.Prelude.{◌≡◌, [], ◌∷◌, length, IfOk};
+ghost use Rattle.sql_values.specs.declared.value.Value.TheVariants.{Null};
+
 use crate::{Block, Page, PageBuilder, PageList};
-use sql_values::{Memory, Row, RowBuilder, SqlType, ValueRef};
+use sql_values::{Memory, Row, RowBuilder, SqlType, Value, ValueRef};
 use std::alloc::Global;
 
 const TYPES: [SqlType; 2] = [SqlType::Bigint, SqlType::Varchar];
 
-fn shown(alloc: Global, page: &Page) -> Result<String, Memory> {
+fn shown(alloc: Global, page: &Page, columns: u32) -> Result<String, Memory> {
     let mut text = String::new(alloc);
     for place in 0..page.len() {
-        for column in 0..page.types().len() {
-            match page.cell(place, column as u32) {
+        for column in 0..columns {
+            match page.cell(place, column) {
                 ValueRef::Null => text.push_str("null ")?,
                 ValueRef::Bigint(number) => write!(text, "{number} ")?,
                 ValueRef::Varchar(value) => write!(text, "'{value}' ")?,
@@ -34,9 +37,8 @@ fn page(alloc: Global) -> Result<Page, Memory> {
 }
 
 #[test]
-fn pages_are_cut_and_chosen(rt: HostRuntime) -> Result<(), Memory> {
+fn pages_are_cut(rt: HostRuntime) -> Result<(), Memory> {
     let whole = page(rt.alloc())?;
-    assert_eq!(rt; whole.len(), 3);
     for (from, to, want) in [
         (0, 3, "1 'a' | 2 '' | 3 'c' | "),
         (1, 2, "2 '' | "),
@@ -44,35 +46,45 @@ fn pages_are_cut_and_chosen(rt: HostRuntime) -> Result<(), Memory> {
     ] {
         if from <= to && to <= whole.len() {
             let cut = whole.slice(rt.alloc(), from, to)?;
-            assert_eq!(rt; shown(rt.alloc(), &cut)?.as_str(), want);
+            assert_eq!(rt; shown(rt.alloc(), &cut, 2)?.as_str(), want);
         }
     }
-    let twin = whole.copy(rt.alloc())?;
-    assert_eq!(rt;
-        shown(rt.alloc(), &twin)?.as_str(),
-        "1 'a' | 2 '' | 3 'c' | "
-    );
-    if whole.len() == 3 {
-        let chosen = whole.select(rt.alloc(), &[2, 0, 2])?;
-        assert_eq!(rt;
-            shown(rt.alloc(), &chosen)?.as_str(),
-            "3 'c' | 1 'a' | 3 'c' | "
-        );
-        assert_eq!(rt; whole.row(rt.alloc(), 1)?.len(), 2);
-    }
     Ok(())
+}
+
+fn chosen(alloc: Global, page: &Page) -> Result<Page, Memory>
+    requires { length page.now.rows ≡ 3 }
+{
+    page.select(alloc, &[2, 0, 2])
+}
+
+#[test]
+fn rows_are_chosen_in_any_order(rt: HostRuntime) -> Result<(), Memory> {
+    let whole = page(rt.alloc())?.copy(rt.alloc())?;
+    assert!(rt; whole.len() == 3);
+    assert_eq!(rt; whole.types().len(), 2);
+    assert_eq!(rt; whole.row(rt.alloc(), 1)?.len(), 2);
+    let text = shown(rt.alloc(), &chosen(rt.alloc(), &whole)?, 2)?;
+    assert_eq!(rt; text.as_str(), "3 'c' | 1 'a' | 3 'c' | ");
+    Ok(())
+}
+
+fn null_row(alloc: Global) -> Result<Row, Memory>
+    ensures { IfOk result (λ r. r ≡ Null ∷ []) }
+{
+    let mut values = Vec::new(alloc);
+    values.push(Value::Null)?;
+    Ok(Row::of(values))
 }
 
 #[test]
 fn builders_take_rows(rt: HostRuntime) -> Result<(), Memory> {
     let mut builder = PageBuilder::new(rt.alloc(), &[SqlType::Bigint], 1)?;
-    let mut values = Vec::new(rt.alloc());
-    values.push(ValueRef::Null.to_value(rt.alloc())?)?;
-    builder.push_row(&Row::of(values))?;
+    builder.push_row(&null_row(rt.alloc())?)?;
     assert!(rt; builder.is_full());
     let page = builder.build()?;
     assert!(rt; builder.is_empty());
-    assert_eq!(rt; shown(rt.alloc(), &page)?.as_str(), "null | ");
+    assert_eq!(rt; shown(rt.alloc(), &page, 1)?.as_str(), "null | ");
     Ok(())
 }
 

@@ -45,6 +45,7 @@ fn texts_that_are_no_values(rt: HostRuntime) {
         (SqlType::Bigint, "1x"),
         (PRICE, "0.125"),
         (SqlType::Date, "2023-02-29"),
+        (SqlType::Date, "10000-01-01"),
         (SqlType::Date, ""),
     ] {
         let refused = parse_value(rt.alloc(), kind, text);
@@ -141,7 +142,15 @@ fn buckets(rt: HostRuntime) -> Result<(), Memory> {
     assert_eq!(rt; bucket(mixed.into_values().as_slice(), 2), 1);
     for (value, n, want) in [
         (ValueRef::Null, 7, 3),
+        (ValueRef::Null, 4, 3),
+        (ValueRef::Bigint(0), 4, 0),
+        (ValueRef::Bigint(1), 4, 1),
+        (ValueRef::Bigint(2), 4, 2),
+        (ValueRef::Bigint(3), 4, 3),
+        (ValueRef::Bigint(-1), 4, 0),
+        (ValueRef::Varchar("x"), 4, 3),
         (ValueRef::Boolean(true), 4, 3),
+        (ValueRef::Date(1), 4, 1),
         (ValueRef::Bigint(12_345), 7, 4),
         (ValueRef::Bigint(-1), 7, 6),
         (ValueRef::Decimal(-LARGE), 7, 6),

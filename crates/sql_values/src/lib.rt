@@ -10,6 +10,7 @@
 //! - `value_texts`: `parse_value` and `print_value`
 #![tactic(auto)]
 
+mod digits;
 mod items;
 mod memory;
 mod row;
@@ -18,6 +19,7 @@ mod table;
 mod text;
 mod types;
 mod value;
+mod value_texts;
 
 pub use items::Items;
 pub use memory::Memory;
@@ -27,3 +29,4 @@ pub use table::Table;
 pub use text::Text;
 pub use types::{Column, Columns, Names, Places, SqlType, Types};
 pub use value::{Value, ValueRef};
+pub use value_texts::{LONGEST_TEXT, ParseFault, parse_value, print_value};

@@ -1,0 +1,8 @@
+use Rattle.std.proofs.Common.{◌≡◌, ◌<◌, ◌^◌, drop}
+use Rattle.scalar_texts.specs.Numbers.{digits_after}
+use Rattle.scalar_texts.proofs.digits.digits_after.Given as goal
+
+-- what was read so far, then the rest
+abbrev pub invariant-loop-byte : goal.invariant-loop-byte
+invariant-loop-byte l =
+    record { whole : digits_after l.front l.digits ≡ digits_after l.number (drop l.byte-index l.digits); in_range : l.number < 2 ^ 128 }

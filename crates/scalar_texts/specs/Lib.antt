@@ -1,0 +1,4 @@
+pub mod Appends
+pub mod Numbers
+pub mod Decimals
+pub mod Dates

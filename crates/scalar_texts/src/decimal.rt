@@ -1,0 +1,82 @@
+ghost use Rattle.std.specs.Prelude.{◌≡◌, ◌*◌, ◌^◌, ◌<◌, length, IfSome, option_and_then};
+ghost use Rattle.scalar_texts.specs.Numbers.{below, only_if};
+ghost use Rattle.scalar_texts.specs.Decimals.{decimal_of, has_digits, magnitude_of, point_in, with_fraction};
+
+use crate::digits::{digits_after, wide_number};
+
+/// The greatest number of digits of a decimal.
+const MOST_DIGITS: u8 = 38;
+
+/// The first magnitude that has more digits.
+const TOO_LARGE: u128 = 100_000_000_000_000_000_000_000_000_000_000_000_000;
+
+/// The units of 10^-s that a text writes, where they have at most p digits.
+#[tactic(auto, using(crate::proofs::DecimalLemmas::judging))]
+pub fn read_decimal(p: u8, s: u8, text: &[u8]) -> Option<i128>
+    ensures { result ≡ decimal_of p s text.now }
+{
+    let (sign, rest) = text.split_first()?;
+    match *sign {
+        b'-' => with_digits(p, -(magnitude(s, rest)? as i128)),
+        b'+' => with_digits(p, magnitude(s, rest)? as i128),
+        _ => with_digits(p, magnitude(s, text)? as i128),
+    }
+}
+
+#[tactic(auto, using(crate::proofs::DecimalLemmas::powers))]
+fn with_digits(p: u8, unscaled: i128) -> Option<i128>
+    ensures { result ≡ only_if (has_digits p) unscaled }
+{
+    let limit = 10u128.pow(u32::from(p.min(MOST_DIGITS)));
+    if unscaled.unsigned_abs() < limit {
+        Some(unscaled)
+    } else {
+        None
+    }
+}
+
+#[tactic(auto, using(crate::proofs::DecimalLemmas::reading))]
+fn magnitude(s: u8, text: &[u8]) -> Option<u128>
+    ensures value { result ≡ option_and_then (below (10 ^ 38)) (magnitude_of s text.now) }
+    ensures bound { IfSome result (λ n. n < 10 ^ 38) }
+{
+    match point_in(text) {
+        None => scaled(wide_number(text)?, s),
+        Some(point) => with_fraction(s, &text[point + 1..], wide_number(&text[..point])?),
+    }
+}
+
+fn point_in(text: &[u8]) -> Option<usize>
+    ensures value { result ≡ point_in text.now }
+    ensures bound { IfSome result (λ i. i < length text.now) }
+{
+    text.iter().position(|byte| *byte == b'.')
+}
+
+#[tactic(auto, using(crate::proofs::DecimalLemmas::reading))]
+fn with_fraction(s: u8, fraction: &[u8], whole: u128) -> Option<u128>
+    ensures value { result ≡ option_and_then (below (10 ^ 38)) (with_fraction s fraction.now whole) }
+    ensures bound { IfSome result (λ n. n < 10 ^ 38) }
+{
+    if fraction.is_empty() || fraction.len() > usize::from(s) {
+        return None;
+    }
+    scaled(digits_after(whole, fraction)?, s - fraction.len() as u8)
+}
+
+/// The number with so many zeros after it, where it is no larger than a decimal can be.
+#[tactic(auto, using(crate::proofs::DecimalLemmas::scaling))]
+fn scaled(number: u128, zeros: u8) -> Option<u128>
+    ensures value { result ≡ below (10 ^ 38) (number * 10 ^ zeros) }
+    ensures bound { IfSome result (λ n. n < 10 ^ 38) }
+{
+    let mut scaled = number;
+    for _zero in 0..zeros {
+        scaled = scaled.checked_mul(10)?;
+    }
+    if scaled < TOO_LARGE {
+        Some(scaled)
+    } else {
+        None
+    }
+}

@@ -1,0 +1,17 @@
+//! The texts of whole numbers, decimals and dates: what is accepted, and what is printed.
+//!
+//! Each reader equals its definition, and each printer appends the text of its definition:
+//! `specs/Numbers.antt`, `specs/Decimals.antt`, `specs/Dates.antt`. Where memory was wanting a
+//! printer has appended a beginning of the text. What is printed reads back as the same number.
+//!
+//! - `digits`: numbers of digits without a sign
+//! - `bigint`, `decimal`, `date`: a reader and a printer each
+#![tactic(auto)]
+
+mod append;
+mod bigint;
+mod decimal;
+mod digits;
+
+pub use bigint::{print_bigint, read_bigint};
+pub use decimal::read_decimal;

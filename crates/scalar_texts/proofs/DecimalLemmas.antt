@@ -1,6 +1,6 @@
 -- Powers of ten, and what is too large for a decimal.
-use Rattle.std.proofs.Common.{◌≡◌, ℕ, zero, suc, ◌+◌, ◌*◌, ◌^◌, ◌-◌, ◌<◌, ◌≤◌, min, List, [], ◌∷◌, length, take, drop, Option, Some, None, option_and_then, option_map, refl, ap, sym, ◌∙◌, arith, ℤ, pos, negsuc, neg_ℤ, unsigned_abs, nat_le, ◌&&◌, cond, true, false}
-use Rattle.std.proofs.Math.Nat.{pow-le-pow_right, one-le-pow, mul-le-mul_left}
+use Rattle.std.proofs.Common.{◌≡◌, ℕ, zero, suc, ◌+◌, ◌*◌, ◌^◌, ◌-◌, ◌/◌, ◌%◌, ◌<◌, ◌≤◌, min, List, [], ◌∷◌, length, take, drop, Option, Some, None, option_and_then, option_map, refl, ap, sym, ◌∙◌, arith, ℤ, pos, negsuc, neg_ℤ, unsigned_abs, nat_le, ◌&&◌, cond, true, false}
+use Rattle.std.proofs.Math.Nat.{pow-le-pow_right, one-le-pow, mul-le-mul_left, div-eq_of_lt, mod-eq_of_lt}
 use Rattle.std.proofs.lemmas.Grind.{pow_more}
 use Rattle.std.proofs.lemmas.Bool.Decides.{nat_tests}
 use Rattle.scalar_texts.specs.Numbers.{digits_after, number_of, below, only_if}
@@ -14,6 +14,21 @@ pub ten_in_range : (e : ℕ) → e ≤ 38 → 10 ^ e < 2 ^ 128
 ten_in_range e h = omega (arith, ten-mono e 38 h)
 
 pub ruleset powers = (ten_in_range)
+
+pub ten_pos : (e : ℕ) → 0 < 10 ^ e
+ten_pos e = one-le-pow e 10 (omega arith)
+
+-- a number of 128 bits has no whole part where more than 38 digits stand after the point
+ten_large : (n s : ℕ) → 38 < s → n < 2 ^ 128 → n < 10 ^ s
+ten_large n s more small = omega (arith, ten-mono 39 s (omega arith))
+
+pub no_whole : (n s : ℕ) → 38 < s → n < 2 ^ 128 → 0 ≡ n / 10 ^ s
+no_whole n s more small = sym (div-eq_of_lt (ten_large n s more small))
+
+pub all_fraction : (n s : ℕ) → 38 < s → n < 2 ^ 128 → n ≡ n % 10 ^ s
+all_fraction n s more small = sym (mod-eq_of_lt (ten_large n s more small))
+
+pub ruleset parting = (ten_in_range, ten_pos, no_whole, all_fraction)
 
 scale-mono : (n i k : ℕ) → i ≤ k → n * 10 ^ i ≤ n * 10 ^ k
 scale-mono n i k h = mul-le-mul_left n (ten-mono i k h)

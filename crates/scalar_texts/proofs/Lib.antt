@@ -1,3 +1,4 @@
+pub mod AppendLemmas
 pub mod DigitLemmas
 pub mod DecimalLemmas
 pub mod PrintedNumbers

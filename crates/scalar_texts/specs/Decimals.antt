@@ -31,9 +31,13 @@ has_digits p z = nat_lt (unsigned_abs z) (10 ^ min p 38)
 abbrev pub decimal_of : ℕ → ℕ → List ℕ → Option ℤ
 decimal_of p s text = option_and_then (only_if (has_digits p)) (signed_of (magnitude_of s) text)
 
--- the digits before the point, and for s above 0 the point and s digits
+-- the digits before the point, the point and s digits
+abbrev pub pointed_text : ℕ → ℕ → List ℕ
+pointed_text s n = decimal (n / 10 ^ s) ++ 46 ∷ padded s (n % 10 ^ s)
+
+-- the text without a sign, which has a point for s above 0
 abbrev pub magnitude_text : ℕ → ℕ → List ℕ
-magnitude_text s n = if s == 0 then decimal n else decimal (n / 10 ^ s) ++ 46 ∷ padded s (n % 10 ^ s)
+magnitude_text s n = if s == 0 then decimal n else pointed_text s n
 
 -- the text of so many units
 abbrev pub decimal_text : ℕ → ℤ → List ℕ

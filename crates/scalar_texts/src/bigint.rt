@@ -3,7 +3,6 @@ ghost use Rattle.std.specs.Fmt.{signed_decimal};
 ghost use Rattle.scalar_texts.specs.Appends.{AppendsStart};
 ghost use Rattle.scalar_texts.specs.Numbers.{bigint_of};
 
-use crate::append;
 use crate::digits::number;
 use itoa::Buffer;
 use std::alloc::AllocError;
@@ -21,11 +20,12 @@ pub fn read_bigint(text: &[u8]) -> Option<i64>
 }
 
 /// Appends the number in digits, with a minus where it is negative.
+#[tactic(auto, using(crate::proofs::AppendLemmas::appending))]
 pub fn print_bigint(number: i64, to: &mut Vec<u8>) -> Result<(), AllocError>
     ensures ok { OnOk result (to.new.items ≡ to.old.items ++ signed_decimal number) }
     ensures err { OnErr result (AppendsStart (signed_decimal number) to.old.items to.new.items) }
 {
-    append::bytes(to, Buffer::new().format(number).as_bytes())
+    to.extend_from_slice(Buffer::new().format(number).as_bytes())
 }
 
 /// The law that a number which was printed reads back.

@@ -1,8 +1,11 @@
-ghost use Rattle.std.specs.Prelude.{◌≡◌, ◌*◌, ◌^◌, ◌<◌, length, IfSome, option_and_then};
+ghost use Rattle.std.specs.Prelude.{◌≡◌, ◌++◌, ◌*◌, ◌/◌, ◌%◌, ◌^◌, ◌<◌, length, IfSome, OnOk, OnErr, option_and_then};
+ghost use Rattle.scalar_texts.specs.Appends.{AppendsStart};
 ghost use Rattle.scalar_texts.specs.Numbers.{below, only_if};
-ghost use Rattle.scalar_texts.specs.Decimals.{decimal_of, has_digits, magnitude_of, point_in, with_fraction};
+ghost use Rattle.scalar_texts.specs.Decimals.{decimal_of, decimal_text, has_digits, magnitude_of, magnitude_text, point_in, pointed_text, with_fraction};
 
+use crate::append::{append_number, append_padded};
 use crate::digits::{digits_after, wide_number};
+use std::alloc::AllocError;
 
 /// The greatest number of digits of a decimal.
 const MOST_DIGITS: u8 = 38;
@@ -79,4 +82,52 @@ fn scaled(number: u128, zeros: u8) -> Option<u128>
     } else {
         None
     }
+}
+
+/// Appends so many units of 10^-s: at least one digit before the point, and for s above 0 the
+/// point and s digits after it.
+#[tactic(auto, using(crate::proofs::AppendLemmas::appending))]
+pub fn print_decimal(s: u8, unscaled: i128, to: &mut Vec<u8>) -> Result<(), AllocError>
+    ensures ok { OnOk result (to.new.items ≡ to.old.items ++ decimal_text s unscaled) }
+    ensures err { OnErr result (AppendsStart (decimal_text s unscaled) to.old.items to.new.items) }
+{
+    if unscaled < 0 {
+        to.push(b'-')?;
+    }
+    print_magnitude(s, unscaled.unsigned_abs(), to)
+}
+
+#[tactic(auto, using(crate::proofs::AppendLemmas::appending))]
+fn print_magnitude(s: u8, magnitude: u128, to: &mut Vec<u8>) -> Result<(), AllocError>
+    ensures ok { OnOk result (to.new.items ≡ to.old.items ++ magnitude_text s magnitude) }
+    ensures err { OnErr result (AppendsStart (magnitude_text s magnitude) to.old.items to.new.items) }
+{
+    if s == 0 {
+        return append_number(magnitude, to);
+    }
+    print_pointed(s, magnitude, to)
+}
+
+#[tactic(auto, using(crate::proofs::AppendLemmas::appending))]
+fn print_pointed(s: u8, magnitude: u128, to: &mut Vec<u8>) -> Result<(), AllocError>
+    ensures ok { OnOk result (to.new.items ≡ to.old.items ++ pointed_text s magnitude) }
+    ensures err { OnErr result (AppendsStart (pointed_text s magnitude) to.old.items to.new.items) }
+{
+    let (whole, fraction) = parts(s, magnitude);
+    append_number(whole, to)?;
+    to.push(b'.')?;
+    append_padded(s, fraction, to)
+}
+
+/// The whole number of ones, and the units that are left.
+#[tactic(auto, using(crate::proofs::DecimalLemmas::parting))]
+fn parts(s: u8, magnitude: u128) -> (u128, u128)
+    ensures whole { result.0 ≡ magnitude / 10 ^ s }
+    ensures fraction { result.1 ≡ magnitude % 10 ^ s }
+{
+    if s > MOST_DIGITS {
+        return (0, magnitude);
+    }
+    let one = 10u128.pow(u32::from(s));
+    (magnitude / one, magnitude % one)
 }

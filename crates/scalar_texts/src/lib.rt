@@ -14,4 +14,4 @@ mod decimal;
 mod digits;
 
 pub use bigint::{print_bigint, read_bigint};
-pub use decimal::read_decimal;
+pub use decimal::{print_decimal, read_decimal};

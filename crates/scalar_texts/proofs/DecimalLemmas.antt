@@ -7,7 +7,7 @@ use Rattle.scalar_texts.specs.Numbers.{digits_after, number_of, below, only_if}
 use Rattle.scalar_texts.specs.Decimals.{with_fraction, magnitude_of, has_digits}
 use Rattle.scalar_texts.proofs.DigitLemmas.{below-none, le-from_none, same-from_some, below-some, too_large}
 
-ten-mono : (i k : ℕ) → i ≤ k → 10 ^ i ≤ 10 ^ k
+pub ten-mono : (i k : ℕ) → i ≤ k → 10 ^ i ≤ 10 ^ k
 ten-mono i k h = pow-le-pow_right {n = 10} (omega arith) {i = i} {j = k} h
 
 pub ten_in_range : (e : ℕ) → e ≤ 38 → 10 ^ e < 2 ^ 128

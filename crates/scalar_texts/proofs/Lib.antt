@@ -1,4 +1,5 @@
 pub mod AppendLemmas
+pub mod DateLemmas
 pub mod DigitLemmas
 pub mod DecimalLemmas
 pub mod PrintedNumbers

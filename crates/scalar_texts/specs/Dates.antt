@@ -1,5 +1,6 @@
 -- Dates: days since 1970-01-01, from the year 1 to the year 9999.
 use Rattle.std.specs.Prelude.{ℕ, zero, suc, ◌+◌, List, [], ◌∷◌, ◌++◌, length, slice_index, slice_range, Option, Some, None, option_and_then, Bool, ◌&&◌, nat_le, nat_lt, ◌==◌, if◌then◌else◌, ℤ, pos, negsuc, neg_ℤ, ◌+ℤ◌, int_le, unsigned_abs}
+use Rattle.jiff_core.specs.declared.civil.date.Date.{Date}
 use Rattle.jiff_core.specs.Calendar.{days_in_month, days_from_civil}
 use Rattle.scalar_texts.specs.Numbers.{number_of, padded}
 
@@ -24,7 +25,7 @@ abbrev pub day_of : Option ℕ → Option ℕ → Option ℕ → Option Calendar
 day_of (Some year) (Some month) (Some day) = Some (record { year = year; month = month; day = day })
 day_of year month day = None
 
--- YYYY-MM-DD
+-- the day number of a text YYYY-MM-DD
 abbrev pub date_of : List ℕ → Option ℤ
 date_of text =
     if (length text == 10) && (slice_index text 4 == 45) && (slice_index text 7 == 45)
@@ -43,13 +44,22 @@ unfoldable pub nth_day : ℕ → CalendarDay
 nth_day zero = record { year = 1; month = 1; day = 1 }
 nth_day (suc n) = next_day (nth_day n)
 
--- the year in four digits, the month and the day in two
-abbrev pub day_text : CalendarDay → List ℕ
-day_text d = padded 4 d.year ++ 45 ∷ (padded 2 d.month ++ 45 ∷ padded 2 d.day)
+-- the day of a date
+abbrev pub calendar_day : Date → CalendarDay
+calendar_day d = record { year = unsigned_abs d.year; month = d.month; day = d.day }
 
--- the text of a day number, and nothing for a number outside the years 1 to 9999
+-- MM-DD
+abbrev pub month_day_text : ℕ → ℕ → List ℕ
+month_day_text month day = padded 2 month ++ 45 ∷ padded 2 day
+
+-- YYYY-MM-DD
+abbrev pub day_text : CalendarDay → List ℕ
+day_text d = padded 4 d.year ++ 45 ∷ month_day_text d.month d.day
+
+-- from 0001-01-01 to 9999-12-31
+abbrev pub has_date : ℤ → Bool
+has_date day = int_le (neg_ℤ (pos 719_162)) day && int_le day (pos 2_932_896)
+
+-- the text of a day number, and nothing for a number that has no date
 abbrev pub date_text : ℤ → List ℕ
-date_text day =
-    if int_le (neg_ℤ (pos 719_162)) day && int_le day (pos 2_932_896)
-    then day_text (nth_day (unsigned_abs (day +ℤ pos 719_162)))
-    else []
+date_text day = if has_date day then day_text (nth_day (unsigned_abs (day +ℤ pos 719_162))) else []

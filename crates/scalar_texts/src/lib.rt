@@ -10,8 +10,10 @@
 
 mod append;
 mod bigint;
+mod date;
 mod decimal;
 mod digits;
 
 pub use bigint::{print_bigint, read_bigint};
+pub use date::{FIRST_DAY, LAST_DAY, print_date, read_date};
 pub use decimal::{print_decimal, read_decimal};

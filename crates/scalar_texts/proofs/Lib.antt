@@ -3,3 +3,4 @@ pub mod DateLemmas
 pub mod DigitLemmas
 pub mod DecimalLemmas
 pub mod PrintedNumbers
+pub mod PrintedDecimals

@@ -1,4 +1,5 @@
 pub mod Appends
+pub mod Booleans
 pub mod Numbers
 pub mod Decimals
 pub mod Dates

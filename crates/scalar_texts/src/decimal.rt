@@ -1,4 +1,4 @@
-ghost use Rattle.std.specs.Prelude.{◌≡◌, ◌++◌, ◌*◌, ◌/◌, ◌%◌, ◌^◌, ◌<◌, length, IfSome, OnOk, OnErr, option_and_then};
+ghost use Rattle.std.specs.Prelude.{◌≡◌, ◌++◌, ◌*◌, ◌/◌, ◌%◌, ◌^◌, ◌<◌, ◌≤◌, Some, length, unsigned_abs, IfSome, OnOk, OnErr, option_and_then};
 ghost use Rattle.scalar_texts.specs.Appends.{AppendsStart};
 ghost use Rattle.scalar_texts.specs.Numbers.{below, only_if};
 ghost use Rattle.scalar_texts.specs.Decimals.{decimal_of, decimal_text, has_digits, magnitude_of, magnitude_text, point_in, pointed_text, with_fraction};
@@ -130,4 +130,14 @@ fn parts(s: u8, magnitude: u128) -> (u128, u128)
     }
     let one = 10u128.pow(u32::from(s));
     (magnitude / one, magnitude % one)
+}
+
+/// The law that a decimal which was printed reads back.
+#[tactic(auto, using(crate::proofs::PrintedDecimals::decimal_back))]
+pub fn decimal_reads_back(p: u8, s: u8, unscaled: i128)
+    requires precision { p ≤ 38 }
+    requires scale { s ≤ 38 }
+    requires fits { unsigned_abs unscaled < 10 ^ p }
+    ensures { decimal_of p s (decimal_text s unscaled) ≡ Some unscaled }
+{
 }

@@ -10,10 +10,12 @@
 
 mod append;
 mod bigint;
+mod boolean;
 mod date;
 mod decimal;
 mod digits;
 
-pub use bigint::{print_bigint, read_bigint};
+pub use bigint::{bigint_reads_back, print_bigint, read_bigint};
+pub use boolean::{boolean_reads_back, print_boolean, read_boolean};
 pub use date::{FIRST_DAY, LAST_DAY, print_date, read_date};
 pub use decimal::{print_decimal, read_decimal};

@@ -1,3 +1,4 @@
 pub mod Cells
 pub mod Bags
 pub mod Texts
+pub mod Types

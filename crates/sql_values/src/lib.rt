@@ -10,7 +10,6 @@
 //! - `value_texts`: `parse_value` and `print_value`
 #![tactic(auto)]
 
-mod digits;
 mod items;
 mod memory;
 mod row;

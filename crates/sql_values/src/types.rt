@@ -4,10 +4,15 @@ use crate::text::Text;
 /// The type of a column.
 #[derive(Clone, Copy, Debug, PartialEq, Eq)]
 pub enum SqlType {
+    Boolean,
     /// Whole numbers of 64 bits with a sign.
     Bigint,
+    /// Numbers of at most `p` digits, `s` of them after the point.
+    Decimal { p: u8, s: u8 },
     /// UTF-8 texts of at most 1 000 000 bytes.
     Varchar,
+    /// Days of the calendar from 0001-01-01 to 9999-12-31.
+    Date,
 }
 
 /// A column of a table: its name and its type.

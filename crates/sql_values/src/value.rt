@@ -9,16 +9,24 @@ use std::alloc::Global;
 #[derive(Debug, Drop)]
 pub enum Value {
     Null,
+    Boolean(bool),
     Bigint(i64),
+    /// The number of units of 10^-s, where the type is `decimal(p,s)`.
+    Decimal(i128),
     Varchar(Text),
+    /// Days since 1970-01-01.
+    Date(i32),
 }
 
 /// A value that is lent: `Varchar` borrows its text.
 #[derive(Clone, Copy, Debug)]
 pub enum ValueRef<'a> {
     Null,
+    Boolean(bool),
     Bigint(i64),
+    Decimal(i128),
     Varchar(&'a str),
+    Date(i32),
 }
 
 impl Value {
@@ -27,8 +35,11 @@ impl Value {
     {
         match self {
             Value::Null => ValueRef::Null,
+            Value::Boolean(truth) => ValueRef::Boolean(*truth),
             Value::Bigint(n) => ValueRef::Bigint(*n),
+            Value::Decimal(unscaled) => ValueRef::Decimal(*unscaled),
             Value::Varchar(text) => ValueRef::Varchar(text.as_str()),
+            Value::Date(day) => ValueRef::Date(*day),
         }
     }
 
@@ -37,8 +48,11 @@ impl Value {
     {
         Ok(match self {
             Value::Null => Value::Null,
+            Value::Boolean(truth) => Value::Boolean(*truth),
             Value::Bigint(n) => Value::Bigint(*n),
+            Value::Decimal(unscaled) => Value::Decimal(*unscaled),
             Value::Varchar(text) => Value::Varchar(text.copy(alloc)?),
+            Value::Date(day) => Value::Date(*day),
         })
     }
 
@@ -48,8 +62,11 @@ impl Value {
     {
         match (self, other) {
             (Value::Null, Value::Null) => true,
+            (Value::Boolean(a), Value::Boolean(b)) => a == b,
             (Value::Bigint(a), Value::Bigint(b)) => a == b,
+            (Value::Decimal(a), Value::Decimal(b)) => a == b,
             (Value::Varchar(a), Value::Varchar(b)) => a.same(b),
+            (Value::Date(a), Value::Date(b)) => a == b,
             _ => false,
         }
     }
@@ -61,8 +78,11 @@ impl ValueRef<'_> {
     {
         Ok(match self {
             ValueRef::Null => Value::Null,
+            ValueRef::Boolean(truth) => Value::Boolean(truth),
             ValueRef::Bigint(n) => Value::Bigint(n),
+            ValueRef::Decimal(unscaled) => Value::Decimal(unscaled),
             ValueRef::Varchar(text) => Value::Varchar(Text::copy_of(alloc, text)?),
+            ValueRef::Date(day) => Value::Date(day),
         })
     }
 }

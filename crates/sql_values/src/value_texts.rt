@@ -1,14 +1,17 @@
-ghost use Rattle.std.specs.Prelude.{◌≡◌, ◌≢◌, ◌++◌, MatchResult, OnOk, OnErr};
+ghost use Rattle.std.specs.Prelude.{◌≡◌, ◌≢◌, ◌++◌, MatchResult, OnOk, OnErr, Some};
+ghost use Rattle.scalar_texts.specs.Appends.{AppendsStart};
 ghost use Rattle.sql_values.specs.Cells.{value_of};
-ghost use Rattle.std.specs.Fmt.{signed_decimal};
-ghost use Rattle.sql_values.specs.Texts.{bigint_of, value_of_text, text_of_value, FailsToParse, AppendsStart, HasType};
+ghost use Rattle.sql_values.specs.Texts.{FailsToParse, scale_of, text_of_value, value_of_text};
+ghost use Rattle.sql_values.specs.Types.{HasType, IsType};
 
-use crate::digits;
 use crate::memory::Memory;
 use crate::text::Text;
 use crate::types::SqlType;
 use crate::value::{Value, ValueRef};
-use itoa::Buffer;
+use scalar_texts::{
+    bigint_reads_back, boolean_reads_back, print_bigint, print_boolean, print_date, print_decimal,
+    read_bigint, read_boolean, read_date, read_decimal,
+};
 use std::alloc::{AllocError, AllocFailed, Global};
 
 /// The longest text of a varchar, in bytes.
@@ -59,17 +62,27 @@ impl<T: Drop> From<AllocFailed<T>> for ParseFault {
 pub fn parse_value(alloc: Global, kind: SqlType, text: &str) -> Result<Value, ParseFault>
     ensures { MatchResult result (λ v. value_of_text kind text.now ≡ Some v) (FailsToParse (value_of_text kind text.now)) }
 {
+    let bytes = text.as_bytes();
     match kind {
-        SqlType::Bigint => match digits::bigint(text.as_bytes()) {
-            Some(n) => Ok(Value::Bigint(n)),
-            None => Err(ParseFault::Malformed),
-        },
+        SqlType::Boolean => found(read_boolean(bytes).map(Value::Boolean)),
+        SqlType::Bigint => found(read_bigint(bytes).map(Value::Bigint)),
+        SqlType::Decimal { p, s } => found(read_decimal(p, s, bytes).map(Value::Decimal)),
         SqlType::Varchar => {
             if text.len() > LONGEST_TEXT {
                 return Err(ParseFault::Malformed);
             }
             Ok(Value::Varchar(Text::copy_of(alloc, text)?))
         }
+        SqlType::Date => found(read_date(bytes).map(Value::Date)),
+    }
+}
+
+fn found(value: Option<Value>) -> Result<Value, ParseFault>
+    ensures { MatchResult result (λ v. value ≡ Some v) (FailsToParse value) }
+{
+    match value {
+        Some(value) => Ok(value),
+        None => Err(ParseFault::Malformed),
     }
 }
 
@@ -81,13 +94,16 @@ pub fn print_value(kind: SqlType, value: ValueRef<'_>, to: &mut Vec<u8>) -> Resu
 {
     match value {
         ValueRef::Null => {}
-        ValueRef::Bigint(n) => append(to, Buffer::new().format(n).as_bytes())?,
-        ValueRef::Varchar(text) => append(to, text.as_bytes())?,
+        ValueRef::Boolean(truth) => print_boolean(truth, to)?,
+        ValueRef::Bigint(n) => print_bigint(n, to)?,
+        ValueRef::Decimal(unscaled) => print_decimal(scale(kind), unscaled, to)?,
+        ValueRef::Varchar(text) => append(text.as_bytes(), to)?,
+        ValueRef::Date(day) => print_date(day, to)?,
     }
     Ok(())
 }
 
-fn append(to: &mut Vec<u8>, bytes: &[u8]) -> Result<(), Memory>
+fn append(bytes: &[u8], to: &mut Vec<u8>) -> Result<(), Memory>
     ensures ok { OnOk result (to.new.items ≡ to.old.items ++ bytes.now) }
     ensures err { OnErr result (to.new.items ≡ to.old.items) }
 {
@@ -95,23 +111,30 @@ fn append(to: &mut Vec<u8>, bytes: &[u8]) -> Result<(), Memory>
     Ok(())
 }
 
+fn scale(kind: SqlType) -> u8
+    ensures { result ≡ scale_of kind }
+{
+    match kind {
+        SqlType::Decimal { s, .. } => s,
+        _ => 0,
+    }
+}
+
 /// The law that what is printed reads back as the value.
 pub fn text_reads_back(kind: SqlType, value: ValueRef<'_>)
+    requires is_type { IsType kind }
     requires not_null { value_of value ≢ Value.Null }
     requires has_type { HasType kind (value_of value) }
     ensures { value_of_text kind (text_of_value kind (value_of value.entry)) ≡ Some (value_of value.entry) }
 {
     match value {
-        ValueRef::Null => {}
+        ValueRef::Null | ValueRef::Varchar(_) => {}
+        ValueRef::Boolean(truth) => boolean_reads_back(truth),
         ValueRef::Bigint(n) => bigint_reads_back(n),
-        ValueRef::Varchar(_) => {}
+        ValueRef::Decimal(unscaled) => {}
+        ValueRef::Date(day) => {}
     }
 }
-
-#[tactic(auto, using(crate::proofs::PrintedNumbers::bigint_back))]
-fn bigint_reads_back(n: i64)
-    ensures { bigint_of (signed_decimal n) ≡ Some n }
-{}
 
 #[cfg(test)]
 mod tests {

@@ -1,8 +1,0 @@
-use Rattle.std.proofs.Common.{◌≡◌, ◌<◌, ◌^◌, drop}
-use Rattle.sql_values.specs.Texts.{number_of, digits_after}
-use Rattle.sql_values.proofs.digits.number.Given as goal
-
--- what was read so far, then the rest
-abbrev pub invariant-loop-byte : goal.invariant-loop-byte
-invariant-loop-byte l =
-    record { whole : number_of l.digits ≡ digits_after l.number (drop l.byte-index l.digits); in_range : l.number < 2 ^ 64 }

@@ -1,18 +1,17 @@
 -- Days counted from 1 January of the year 1, and the calendar's day numbers.
-use Rattle.std.proofs.Common.{◌≡◌, ℕ, zero, suc, ◌+◌, ◌-◌, ◌*◌, ◌^◌, ◌<◌, ◌≤◌, List, [], ◌∷◌, length, Option, Some, None, option_and_then, option_map, Bool, true, false, cond, nat_lt, nat_le, ◌&&◌, refl, ap, sym, ◌∙◌, arith, subst, Result, OnErr, inl, inr, ℤ, pos, negsuc, neg_ℤ, ◌+ℤ◌, ◌≤ℤ◌, unsigned_abs, IsTrue}
+use Rattle.std.proofs.Common.{◌≡◌, ℕ, zero, suc, ◌+◌, ◌*◌, ◌^◌, ◌<◌, ◌≤◌, List, [], ◌∷◌, length, Option, Some, None, option_and_then, option_map, Bool, true, false, cond, nat_lt, refl, ap, sym, ◌∙◌, arith, subst, Result, OnErr, inl, inr, ℤ, pos, negsuc, neg_ℤ, ◌+ℤ◌, ◌≤ℤ◌, unsigned_abs}
 use Rattle.std.proofs.lemmas.Bool.{ltb-true, ltb-false, cases_order}
 use Rattle.std.proofs.lemmas.Grind.{pow_more}
 use Rattle.std.proofs.lemmas.Bool.Decides.{nat_tests}
-use Rattle.jiff_core.specs.Calendar.{days_in_month, days_in_year, day_of_year, day_count, days_from_civil, IsDate}
+use Rattle.jiff_core.specs.Calendar.{days_in_month, day_of_year, day_count, days_from_civil, IsDate}
 use Rattle.jiff_core.specs.Date.{epoch_day}
 use Rattle.jiff_core.specs.declared.civil.date.Date.{Date}
-use Rattle.jiff_core.proofs.SignedLemmas.{signed_arith, unsigned_abs-parts}
+use Rattle.jiff_core.proofs.SignedLemmas.{signed_arith}
 use Rattle.jiff_core.proofs.CalendarLemmas.{days_from_civil-day_count, day_count-day, day_count-next_month, day_count-next_year, day_count-last_of_year, day_count-later_year, day_count-day_of_year, day_count-end, days_in_month_bounds}
 use Rattle.jiff_core.proofs.MarchLemmas.{day_count-early}
 use Rattle.jiff_core.proofs.DateLemmas.{epoch_day_injective}
-use borrow.Author.Differences.{up, down}
 use Rattle.scalar_texts.specs.Numbers.{digit_of, digits_after, number_of, below}
-use Rattle.scalar_texts.specs.Dates.{CalendarDay, is_day, day_number, next_day, nth_day, calendar_day, day_text, has_date, date_text}
+use Rattle.scalar_texts.specs.Dates.{CalendarDay, is_day, day_number, nth_day, calendar_day, day_text, has_date, date_text}
 use Rattle.scalar_texts.specs.Appends.{AppendsStart}
 use Rattle.scalar_texts.proofs.DigitLemmas.{below-some}
 use Rattle.scalar_texts.proofs.DecimalLemmas.{ten-mono}
@@ -31,8 +30,8 @@ digits_small k n j [] m e h =
     omega arith
 digits_small k n j (b ∷ bs) m e h =
     elim (digit_of b) as (λ o. ((d : ℕ) → o ≡ Some d → d < 10) → option_and_then (λ m. digits_after m bs) (option_map (λ d. n * 10 + d) o) ≡ Some m → m < 10 ^ j) [
-    | None ↦ λ small p. cc
-    | Some d ↦ λ small p. digits_small (k + 1) (n * 10 + d) j bs m (omega arith) (omega (arith, small d refl, pow_more 10 k)) p
+      | None ↦ λ small p. cc
+      | Some d ↦ λ small p. digits_small (k + 1) (n * 10 + d) j bs m (omega arith) (omega (arith, small d refl, pow_more 10 k)) p
     ] (digit_small b)
 
 short_by : (o : Option ℕ) → ((n : ℕ) → o ≡ Some n → n < 2 ^ 64) → option_and_then (below (2 ^ 64)) o ≡ o
@@ -46,13 +45,13 @@ short_number_is (b ∷ bs) h = short_by (number_of (b ∷ bs)) (λ n e. omega (a
 pub ruleset short = (short_number_is)
 
 -- the day n days after 1 January of the year 1 is a day of the calendar, with that many days before it
-record IsNth (n : ℕ) (d : CalendarDay) : Type 0 where
-  year_in : 1 ≤ d.year
-  first_month : 1 ≤ d.month
-  last_month : d.month ≤ 12
-  first_day : 1 ≤ d.day
-  last_day : d.day ≤ days_in_month (pos d.year) d.month
-  count : day_count (pos d.year) d.month d.day ≡ n + 3_652_791
+pub record IsNth (n : ℕ) (d : CalendarDay) : Type 0 where
+  pub year_in : 1 ≤ d.year
+  pub first_month : 1 ≤ d.month
+  pub last_month : d.month ≤ 12
+  pub first_day : 1 ≤ d.day
+  pub last_day : d.day ≤ days_in_month (pos d.year) d.month
+  pub count : day_count (pos d.year) d.month d.day ≡ n + 3_652_791
 
 next_year : (n y m d : ℕ) → m ≡ 12 → 1 ≤ d → d ≤ days_in_month (pos y) m → days_in_month (pos y) m ≤ d → day_count (pos y) m d ≡ n + 3_652_791 → day_count (pos (y + 1)) 1 1 ≡ suc n + 3_652_791
 next_year n y m d e first last ge count =
@@ -98,7 +97,7 @@ next_by n d h false false p q =
       count = next_year n d.year d.month d.day december h.first_day h.last_day ge h.count;
     }
 
-nth_is : (n : ℕ) → IsNth n (nth_day n)
+pub nth_is : (n : ℕ) → IsNth n (nth_day n)
 unfolding nth_day
 nth_is zero =
     record {
@@ -115,7 +114,7 @@ day_of_year_pos : (y : ℤ) (m d : ℕ) → 1 ≤ d → 1 ≤ day_of_year y m d
 day_of_year_pos y m d h = omega arith
 
 -- within the years 1 to 9999 it is a date
-year_bound : (n : ℕ) (d : CalendarDay) → IsNth n d → n < 3_652_059 → d.year ≤ 9999
+pub year_bound : (n : ℕ) (d : CalendarDay) → IsNth n d → n < 3_652_059 → d.year ≤ 9999
 year_bound n d h small =
     elim (cases_order 9999 d.year) [
       | inl same ↦ omega arith
@@ -145,7 +144,7 @@ nth_day_by n small d e =
     let parts = epoch_day_injective (date_at n small) d e in
     same_day (nth_day n) (calendar_day d) (ap unsigned_abs parts.0) parts.1 parts.2
 
-unsigned_abs-same : (z : ℤ) → pos 0 ≤ℤ z → pos (unsigned_abs z) ≡ z
+pub unsigned_abs-same : (z : ℤ) → pos 0 ≤ℤ z → pos (unsigned_abs z) ≡ z
 unsigned_abs-same (pos n) h = refl
 unsigned_abs-same (negsuc n) h = absurd (omega (arith, signed_arith))
 

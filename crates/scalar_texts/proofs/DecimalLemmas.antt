@@ -1,11 +1,11 @@
 -- Powers of ten, and what is too large for a decimal.
-use Rattle.std.proofs.Common.{◌≡◌, ℕ, zero, suc, ◌+◌, ◌*◌, ◌^◌, ◌-◌, ◌/◌, ◌%◌, ◌<◌, ◌≤◌, min, List, [], ◌∷◌, length, take, drop, Option, Some, None, option_and_then, option_map, refl, ap, sym, ◌∙◌, arith, ℤ, pos, negsuc, neg_ℤ, unsigned_abs, nat_le, ◌&&◌, cond, true, false}
+use Rattle.std.proofs.Common.{◌≡◌, ℕ, zero, suc, ◌+◌, ◌*◌, ◌^◌, ◌-◌, ◌/◌, ◌%◌, ◌<◌, ◌≤◌, min, List, length, Option, Some, None, option_and_then, option_map, refl, ap, sym, arith, ℤ, pos, negsuc, neg_ℤ, unsigned_abs, nat_le, ◌&&◌, cond, true, false}
 use Rattle.std.proofs.Math.Nat.{pow-le-pow_right, one-le-pow, mul-le-mul_left, div-eq_of_lt, mod-eq_of_lt}
 use Rattle.std.proofs.lemmas.Grind.{pow_more}
 use Rattle.std.proofs.lemmas.Bool.Decides.{nat_tests}
-use Rattle.scalar_texts.specs.Numbers.{digits_after, number_of, below, only_if}
-use Rattle.scalar_texts.specs.Decimals.{with_fraction, magnitude_of, has_digits}
-use Rattle.scalar_texts.proofs.DigitLemmas.{below-none, le-from_none, same-from_some, below-some, too_large}
+use Rattle.scalar_texts.specs.Numbers.{digits_after, below, only_if}
+use Rattle.scalar_texts.specs.Decimals.{with_fraction, has_digits}
+use Rattle.scalar_texts.proofs.DigitLemmas.{below-none, le-from_none, same-from_some, too_large}
 
 pub ten-mono : (i k : ℕ) → i ≤ k → 10 ^ i ≤ 10 ^ k
 ten-mono i k h = pow-le-pow_right {n = 10} (omega arith) {i = i} {j = k} h
@@ -59,8 +59,8 @@ scaled_some k m (Some n) h = ap (λ x. below (10 ^ 38) (x * 10 ^ k)) (same-from_
 pub digits_none : (s n : ℕ) (fraction : List ℕ) → option_and_then (below (2 ^ 128)) (digits_after n fraction) ≡ None → option_and_then (below (10 ^ 38)) (with_fraction s fraction n) ≡ None
 digits_none s n fraction h =
     elim (nat_le 1 (length fraction) && nat_le (length fraction) s) as (λ b. option_and_then (below (10 ^ 38)) (cond b (option_map (λ m. m * 10 ^ (s - length fraction)) (digits_after n fraction)) None) ≡ None) [
-    | true ↦ scaled_none (s - length fraction) (digits_after n fraction) h
-    | false ↦ refl
+      | true ↦ scaled_none (s - length fraction) (digits_after n fraction) h
+      | false ↦ refl
     ]
 
 fraction_none : (s n : ℕ) (fraction : List ℕ) → 2 ^ 128 ≤ n → option_and_then (below (10 ^ 38)) (with_fraction s fraction n) ≡ None

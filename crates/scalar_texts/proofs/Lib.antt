@@ -4,3 +4,4 @@ pub mod DigitLemmas
 pub mod DecimalLemmas
 pub mod PrintedNumbers
 pub mod PrintedDecimals
+pub mod PrintedDates

@@ -1,9 +1,9 @@
 -- A decimal that was printed reads as that decimal.
-use Rattle.std.proofs.Common.{◌≡◌, ℕ, zero, suc, ◌+◌, ◌*◌, ◌-◌, ◌/◌, ◌%◌, ◌^◌, ◌<◌, ◌≤◌, min, List, [], ◌∷◌, ◌++◌, length, length-append, append-nil, take, drop, Option, Some, None, option_and_then, option_map, Bool, true, false, cond, not, ◌==◌, ◌&&◌, nat_lt, nat_le, nat_eq, refl, ap, sym, subst, ◌∙◌, arith, add-one, ℤ, pos, negsuc, neg_ℤ, unsigned_abs}
+use Rattle.std.proofs.Common.{◌≡◌, ℕ, zero, suc, ◌+◌, ◌*◌, ◌-◌, ◌/◌, ◌%◌, ◌^◌, ◌<◌, ◌≤◌, min, List, [], ◌∷◌, ◌++◌, length, length-append, append-nil, drop, Option, Some, None, option_and_then, option_map, true, false, cond, not, ◌==◌, ◌&&◌, nat_lt, nat_le, ap, sym, subst, ◌∙◌, arith, add-one, ℤ, pos, negsuc, neg_ℤ, unsigned_abs}
 use Rattle.std.specs.List.{position_or_len}
 use Rattle.std.specs.Fmt.{decimal}
 use Rattle.std.specs.Str.Parse.{IsNumeral, AllDigits}
-use Rattle.std.proofs.Math.Seq.{take-append_seam, drop-append_seam, drop-append-add}
+use Rattle.std.proofs.Math.Seq.{take-append_seam, drop-append-add}
 use Rattle.std.proofs.Math.Nat.{div-le_self, mod-lt}
 use Rattle.std.proofs.lemmas.Fmt.{decimal_is_IsNumeral_wide}
 use Rattle.std.proofs.lemmas.Str.Parse.{digit_from_value}
@@ -11,7 +11,7 @@ use Rattle.std.proofs.lemmas.Bool.Decides.{nat_tests}
 use Rattle.scalar_texts.specs.Numbers.{digits_after, number_of, signed_of, only_if, padded}
 use Rattle.scalar_texts.specs.Decimals.{with_fraction, point_in, magnitude_at, magnitude_of, has_digits, decimal_of, pointed_text, magnitude_text, decimal_text}
 use Rattle.scalar_texts.proofs.DecimalLemmas.{ten-mono, ten_pos}
-use Rattle.scalar_texts.proofs.PrintedNumbers.{decimal_read, no_sign, padded_digits, padded_length, padded_read}
+use Rattle.scalar_texts.proofs.PrintedNumbers.{decimal_read, no_sign, padded_length, padded_read}
 
 -- no digit is a point
 passes_digit : (c : ℕ) → 48 ≤ c → not (c == 46) ≡ true

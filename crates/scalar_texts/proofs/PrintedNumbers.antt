@@ -1,5 +1,5 @@
 -- A number that was printed reads as that number.
-use Rattle.std.proofs.Common.{◌≡◌, ℕ, ◌+◌, ◌*◌, ◌^◌, ◌<◌, List, [], ◌∷◌, Option, Some, option_and_then, option_map, refl, ap, sym, ◌∙◌, arith, zero, suc, replicate, length, length-append, ◌-◌, ◌++◌, ◌≤◌, ℤ, pos, negsuc, neg_ℤ, FitsSigned, w64}
+use Rattle.std.proofs.Common.{◌≡◌, ℕ, ◌+◌, ◌*◌, ◌^◌, ◌<◌, List, [], ◌∷◌, Option, Some, option_and_then, option_map, refl, ap, sym, ◌∙◌, arith, zero, suc, replicate, length, length-append, ◌-◌, ◌++◌, ℤ, pos, negsuc, neg_ℤ, FitsSigned, w64}
 use Rattle.std.specs.Fmt.{decimal, signed_decimal}
 use Rattle.std.specs.Str.Parse.{IsNumeral, AllDigits, digits_value_after}
 use Rattle.std.specs.Char.{digit_value}

@@ -1,5 +1,5 @@
 -- Decimals: whole numbers of units of 10^-s.
-use Rattle.std.specs.Prelude.{ℕ, ◌+◌, ◌*◌, ◌-◌, ◌/◌, ◌%◌, ◌^◌, List, [], ◌∷◌, ◌++◌, length, take, drop, position, Option, Some, None, option_map, option_and_then, Bool, ◌&&◌, nat_le, nat_lt, ◌==◌, if◌then◌else◌, min, ℤ, pos, negsuc, unsigned_abs}
+use Rattle.std.specs.Prelude.{ℕ, ◌+◌, ◌*◌, ◌-◌, ◌/◌, ◌%◌, ◌^◌, List, ◌∷◌, ◌++◌, length, take, drop, position, Option, Some, None, option_map, option_and_then, Bool, ◌&&◌, nat_le, nat_lt, ◌==◌, if◌then◌else◌, min, ℤ, pos, negsuc, unsigned_abs}
 use Rattle.std.specs.Fmt.{decimal}
 use Rattle.scalar_texts.specs.Numbers.{digits_after, number_of, signed_of, only_if, padded}
 

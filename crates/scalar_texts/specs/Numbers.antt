@@ -1,6 +1,5 @@
 -- Whole numbers as texts write them.
 use Rattle.std.specs.Prelude.{ℕ, ◌+◌, ◌*◌, ◌-◌, ◌^◌, List, [], ◌∷◌, ◌++◌, length, Option, Some, None, option_map, option_and_then, Bool, ◌&&◌, nat_le, nat_lt, ◌==◌, if◌then◌else◌, ℤ, pos, negsuc, neg_ℤ, replicate}
-
 use Rattle.std.specs.Fmt.{decimal}
 
 -- the digit that a byte writes

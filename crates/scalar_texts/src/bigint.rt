@@ -32,5 +32,4 @@ pub fn print_bigint(number: i64, to: &mut Vec<u8>) -> Result<(), AllocError>
 #[tactic(auto, using(crate::proofs::PrintedNumbers::bigint_back))]
 pub fn bigint_reads_back(number: i64)
     ensures { bigint_of (signed_decimal number) ≡ Some number }
-{
-}
+{}

@@ -32,5 +32,4 @@ pub fn print_boolean(value: bool, to: &mut Vec<u8>) -> Result<(), AllocError>
 /// The law that a boolean which was printed reads back.
 pub fn boolean_reads_back(value: bool)
     ensures { boolean_of (boolean_text value) ≡ Some value }
-{
-}
+{}

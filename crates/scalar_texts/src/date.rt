@@ -1,7 +1,7 @@
-ghost use Rattle.std.specs.Prelude.{◌≡◌, ◌++◌, ◌<◌, length, OnOk, OnErr, option_and_then, pos, neg_ℤ, ◌≤ℤ◌};
+ghost use Rattle.std.specs.Prelude.{◌≡◌, ◌++◌, ◌<◌, length, Some, IsTrue, OnOk, OnErr, option_and_then, pos, neg_ℤ, ◌≤ℤ◌};
 ghost use Rattle.scalar_texts.specs.Appends.{AppendsStart};
 ghost use Rattle.scalar_texts.specs.Numbers.{number_of};
-ghost use Rattle.scalar_texts.specs.Dates.{calendar_day, date_of, date_text, day_number, day_text, month_day_text};
+ghost use Rattle.scalar_texts.specs.Dates.{calendar_day, date_of, date_text, day_number, day_text, has_date, month_day_text};
 
 use crate::append::append_padded;
 use crate::digits::number;
@@ -82,3 +82,10 @@ fn print_month_day(month: u8, day: u8, to: &mut Vec<u8>) -> Result<(), AllocErro
     to.push(b'-')?;
     append_padded(2, u128::from(day), to)
 }
+
+/// The law that a date which was printed reads back.
+#[tactic(auto, using(crate::proofs::PrintedDates::date_back))]
+pub fn date_reads_back(day: i32)
+    requires { IsTrue (has_date day) }
+    ensures { date_of (date_text day) ≡ Some day }
+{}

@@ -139,5 +139,4 @@ pub fn decimal_reads_back(p: u8, s: u8, unscaled: i128)
     requires scale { s ≤ 38 }
     requires fits { unsigned_abs unscaled < 10 ^ p }
     ensures { decimal_of p s (decimal_text s unscaled) ≡ Some unscaled }
-{
-}
+{}

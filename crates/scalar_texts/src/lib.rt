@@ -14,8 +14,10 @@ mod boolean;
 mod date;
 mod decimal;
 mod digits;
+#[cfg(test)]
+mod tests;
 
 pub use bigint::{bigint_reads_back, print_bigint, read_bigint};
 pub use boolean::{boolean_reads_back, print_boolean, read_boolean};
-pub use date::{FIRST_DAY, LAST_DAY, print_date, read_date};
-pub use decimal::{print_decimal, read_decimal};
+pub use date::{FIRST_DAY, LAST_DAY, date_reads_back, print_date, read_date};
+pub use decimal::{decimal_reads_back, print_decimal, read_decimal};

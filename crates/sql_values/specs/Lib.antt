@@ -2,3 +2,4 @@ pub mod Cells
 pub mod Bags
 pub mod Texts
 pub mod Types
+pub mod TypeTexts

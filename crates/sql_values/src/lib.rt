@@ -7,7 +7,7 @@
 //!
 //! - `memory`: the one answer for want of memory
 //! - `text`, `types`, `value`, `items`, `row`, `row_list`, `table`: the types
-//! - `value_texts`: `parse_value` and `print_value`
+//! - `value_texts`, `type_texts`: values and types as texts
 #![tactic(auto)]
 
 mod items;
@@ -16,6 +16,7 @@ mod row;
 mod row_list;
 mod table;
 mod text;
+mod type_texts;
 mod types;
 mod value;
 mod value_texts;
@@ -26,6 +27,7 @@ pub use row::Row;
 pub use row_list::RowList;
 pub use table::Table;
 pub use text::Text;
+pub use type_texts::{parse_type, print_type};
 pub use types::{Column, Columns, Names, Places, SqlType, Types};
 pub use value::{Value, ValueRef};
 pub use value_texts::{LONGEST_TEXT, ParseFault, parse_value, print_value};

@@ -9,8 +9,8 @@ use crate::text::Text;
 use crate::types::SqlType;
 use crate::value::{Value, ValueRef};
 use scalar_texts::{
-    bigint_reads_back, boolean_reads_back, print_bigint, print_boolean, print_date, print_decimal,
-    read_bigint, read_boolean, read_date, read_decimal,
+    bigint_reads_back, boolean_reads_back, date_reads_back, decimal_reads_back, print_bigint,
+    print_boolean, print_date, print_decimal, read_bigint, read_boolean, read_date, read_decimal,
 };
 use std::alloc::{AllocError, AllocFailed, Global};
 
@@ -131,8 +131,27 @@ pub fn text_reads_back(kind: SqlType, value: ValueRef<'_>)
         ValueRef::Null | ValueRef::Varchar(_) => {}
         ValueRef::Boolean(truth) => boolean_reads_back(truth),
         ValueRef::Bigint(n) => bigint_reads_back(n),
-        ValueRef::Decimal(unscaled) => {}
-        ValueRef::Date(day) => {}
+        ValueRef::Decimal(unscaled) => decimal_text_reads_back(kind, unscaled),
+        ValueRef::Date(day) => date_text_reads_back(kind, day),
+    }
+}
+
+fn decimal_text_reads_back(kind: SqlType, unscaled: i128)
+    requires is_type { IsType kind }
+    requires has_type { HasType kind (Value.Decimal unscaled) }
+    ensures { value_of_text kind (text_of_value kind (Value.Decimal unscaled)) ≡ Some (Value.Decimal unscaled) }
+{
+    if let SqlType::Decimal { p, s } = kind {
+        decimal_reads_back(p, s, unscaled);
+    }
+}
+
+fn date_text_reads_back(kind: SqlType, day: i32)
+    requires { HasType kind (Value.Date day) }
+    ensures { value_of_text kind (text_of_value kind (Value.Date day)) ≡ Some (Value.Date day) }
+{
+    if kind == SqlType::Date {
+        date_reads_back(day);
     }
 }
 

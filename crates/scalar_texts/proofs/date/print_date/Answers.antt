@@ -1,5 +1,4 @@
-use Rattle.std.proofs.Common.{◌≡◌, arith, ◌∙◌, FitsSigned, w32, w64, to_z-of_z}
-use Rattle.jiff_core.specs.Date.{epoch_day}
+use Rattle.std.proofs.Common.{arith, ◌∙◌, FitsSigned, w32, w64, to_z-of_z}
 use Rattle.jiff_core.proofs.SignedLemmas.{signed_arith}
 use Rattle.scalar_texts.proofs.DateLemmas.{date_fails}
 use Rattle.scalar_texts.proofs.date.print_date.Goals as goal

@@ -1,0 +1,99 @@
+ghost use Rattle.std.specs.Prelude.{◌≡◌, ◌++◌, ◌^◌, ◌<◌, length, option_and_then, IfSome, OnOk, OnErr};
+ghost use Rattle.scalar_texts.specs.Appends.{AppendsStart};
+ghost use Rattle.scalar_texts.specs.Numbers.{below};
+ghost use Rattle.sql_values.specs.TypeTexts.{comma_in, decimal_type_of, decimal_type_text, parameters_of, parameters_text, plain_number_of, type_of_text, type_text};
+
+use crate::memory::Memory;
+use crate::types::SqlType;
+use scalar_texts::{print_bigint, read_number};
+use std::alloc::AllocError;
+
+/// The type that a text names, as `bigint` or `decimal(12,2)`.
+pub fn parse_type(text: &str) -> Option<SqlType>
+    ensures { result ≡ type_of_text text.now }
+{
+    match text {
+        "boolean" => Some(SqlType::Boolean),
+        "bigint" => Some(SqlType::Bigint),
+        "varchar" => Some(SqlType::Varchar),
+        "date" => Some(SqlType::Date),
+        _ => decimal_type(text.as_bytes()),
+    }
+}
+
+fn decimal_type(text: &[u8]) -> Option<SqlType>
+    ensures { result ≡ decimal_type_of text.now }
+{
+    if text.len() < 9 || &text[0..8] != b"decimal(".as_slice() || text[text.len() - 1] != b')' {
+        return None;
+    }
+    parameters(&text[8..text.len() - 1])
+}
+
+#[tactic(auto, using(crate::proofs::TypeTextLemmas::parameters))]
+fn parameters(text: &[u8]) -> Option<SqlType>
+    ensures { result ≡ parameters_of text.now }
+{
+    let comma = comma_in(text)?;
+    let p = plain_number(&text[..comma])?;
+    let s = plain_number(&text[comma + 1..])?;
+    if p < 1 || p > 38 || s > p {
+        return None;
+    }
+    Some(SqlType::Decimal {
+        p: p as u8,
+        s: s as u8,
+    })
+}
+
+fn comma_in(text: &[u8]) -> Option<usize>
+    ensures value { result ≡ comma_in text.now }
+    ensures bound { IfSome result (λ i. i < length text.now) }
+{
+    text.iter().position(|byte| *byte == b',')
+}
+
+fn plain_number(digits: &[u8]) -> Option<u64>
+    ensures { result ≡ option_and_then (below (2 ^ 64)) (plain_number_of digits.now) }
+{
+    if digits.len() > 1 && digits[0] == b'0' {
+        return None;
+    }
+    read_number(digits)
+}
+
+/// Appends the text of a type. Where memory was wanting a beginning of it may stand there.
+pub fn print_type(kind: SqlType, to: &mut Vec<u8>) -> Result<(), Memory>
+    ensures ok { OnOk result (to.new.items ≡ to.old.items ++ type_text kind) }
+    ensures err { OnErr result (AppendsStart (type_text kind) to.old.items to.new.items) }
+{
+    match kind {
+        SqlType::Boolean => to.extend_from_slice(b"boolean")?,
+        SqlType::Bigint => to.extend_from_slice(b"bigint")?,
+        SqlType::Decimal { p, s } => print_decimal_type(p, s, to)?,
+        SqlType::Varchar => to.extend_from_slice(b"varchar")?,
+        SqlType::Date => to.extend_from_slice(b"date")?,
+    }
+    Ok(())
+}
+
+#[tactic(auto, using(scalar_texts::proofs::AppendLemmas::appending))]
+fn print_decimal_type(p: u8, s: u8, to: &mut Vec<u8>) -> Result<(), AllocError>
+    ensures ok { OnOk result (to.new.items ≡ to.old.items ++ decimal_type_text p s) }
+    ensures err { OnErr result (AppendsStart (decimal_type_text p s) to.old.items to.new.items) }
+{
+    to.extend_from_slice(b"decimal(")?;
+    print_parameters(p, s, to)
+}
+
+#[tactic(auto, using(scalar_texts::proofs::AppendLemmas::appending))]
+fn print_parameters(p: u8, s: u8, to: &mut Vec<u8>) -> Result<(), AllocError>
+    ensures ok { OnOk result (to.new.items ≡ to.old.items ++ parameters_text p s) }
+    ensures err { OnErr result (AppendsStart (parameters_text p s) to.old.items to.new.items) }
+{
+    print_bigint(i64::from(p), to)?;
+    to.push(b',')?;
+    print_bigint(i64::from(s), to)?;
+    to.push(b')')?;
+    Ok(())
+}

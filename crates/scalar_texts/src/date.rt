@@ -1,10 +1,9 @@
-ghost use Rattle.std.specs.Prelude.{◌≡◌, ◌++◌, ◌<◌, length, Some, IsTrue, OnOk, OnErr, option_and_then, pos, neg_ℤ, ◌≤ℤ◌};
+ghost use Rattle.std.specs.Prelude.{◌≡◌, ◌++◌, Some, IsTrue, OnOk, OnErr, option_and_then, pos, neg_ℤ, ◌≤ℤ◌};
 ghost use Rattle.scalar_texts.specs.Appends.{AppendsStart};
-ghost use Rattle.scalar_texts.specs.Numbers.{number_of};
 ghost use Rattle.scalar_texts.specs.Dates.{calendar_day, date_of, date_text, day_number, day_text, has_date, month_day_text};
 
 use crate::append::append_padded;
-use crate::digits::number;
+use crate::digits::short_number;
 use jiff_core::civil::Date;
 use std::alloc::AllocError;
 
@@ -25,14 +24,6 @@ pub fn read_date(text: &[u8]) -> Option<i32>
     let month = short_number(&text[5..7])?;
     let day = short_number(&text[8..10])?;
     day_number(year, month, day)
-}
-
-#[tactic(auto, using(crate::proofs::DateLemmas::short))]
-fn short_number(digits: &[u8]) -> Option<u64>
-    requires { length digits.now < 19 }
-    ensures { result ≡ number_of digits.now }
-{
-    number(digits)
 }
 
 #[tactic(auto, using(crate::proofs::DateLemmas::numbering))]

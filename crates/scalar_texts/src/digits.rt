@@ -1,4 +1,4 @@
-ghost use Rattle.std.specs.Prelude.{◌≡◌, ◌^◌, option_and_then};
+ghost use Rattle.std.specs.Prelude.{◌≡◌, ◌^◌, ◌<◌, length, option_and_then};
 ghost use Rattle.scalar_texts.specs.Numbers.{below, digits_after, number_of, with_digit};
 
 /// The number of one or more digits, within 64 bits.
@@ -14,6 +14,15 @@ pub fn number(digits: &[u8]) -> Option<u64>
         number = with_digit(number, *byte)?;
     }
     Some(number)
+}
+
+/// The number of one or more digits, of which there are few enough for 64 bits.
+#[tactic(auto, using(crate::proofs::DateLemmas::short))]
+pub fn short_number(digits: &[u8]) -> Option<u64>
+    requires { length digits.now < 19 }
+    ensures { result ≡ number_of digits.now }
+{
+    number(digits)
 }
 
 fn with_digit(number: u64, byte: u8) -> Option<u64>

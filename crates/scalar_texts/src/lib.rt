@@ -21,3 +21,4 @@ pub use bigint::{bigint_reads_back, print_bigint, read_bigint};
 pub use boolean::{boolean_reads_back, print_boolean, read_boolean};
 pub use date::{FIRST_DAY, LAST_DAY, date_reads_back, print_date, read_date};
 pub use decimal::{decimal_reads_back, print_decimal, read_decimal};
+pub use digits::{number as read_number, short_number as read_short_number};

@@ -1,5 +1,5 @@
 -- The texts of types.
-use Rattle.std.specs.Prelude.{ℕ, ◌+◌, ◌-◌, List, [], ◌∷◌, ◌++◌, length, take, drop, slice_index, slice_range, position, Option, Some, None, option_and_then, Bool, ◌&&◌, nat_le, nat_lt, nat_eq, ◌==◌, if◌then◌else◌, codes}
+use Rattle.std.specs.Prelude.{ℕ, ◌+◌, ◌-◌, List, [], ◌∷◌, ◌++◌, length, take, drop, slice_index, slice_range, position, Option, Some, None, option_and_then, Bool, ◌&&◌, ◌||◌, nat_le, nat_lt, nat_eq, ◌==◌, if◌then◌else◌, codes}
 use Rattle.std.specs.Fmt.{decimal}
 use Rattle.std.specs.Cmp.Lexicographic.{pointwise}
 use Rattle.scalar_texts.specs.Numbers.{number_of}
@@ -20,9 +20,10 @@ type_text (Decimal p s) = decimal_type_text p s
 type_text Varchar = codes "varchar"
 type_text Date = codes "date"
 
--- a number without leading zeros
+-- a number of one or two digits, without leading zeros
 abbrev pub plain_number_of : List ℕ → Option ℕ
-plain_number_of digits = if (slice_index digits 0 == 48) && nat_lt 1 (length digits) then None else number_of digits
+plain_number_of digits =
+    if nat_lt 2 (length digits) || ((slice_index digits 0 == 48) && nat_lt 1 (length digits)) then None else number_of digits
 
 -- the decimal type of so many digits, so many of them after the point
 abbrev pub decimal_type : Option ℕ → Option ℕ → Option SqlType

@@ -1,11 +1,10 @@
-ghost use Rattle.std.specs.Prelude.{◌≡◌, ◌++◌, ◌^◌, ◌<◌, length, option_and_then, IfSome, OnOk, OnErr};
+ghost use Rattle.std.specs.Prelude.{◌≡◌, ◌++◌, ◌<◌, length, Some, IfSome, OnOk, OnErr};
 ghost use Rattle.scalar_texts.specs.Appends.{AppendsStart};
-ghost use Rattle.scalar_texts.specs.Numbers.{below};
-ghost use Rattle.sql_values.specs.TypeTexts.{comma_in, decimal_type_of, decimal_type_text, parameters_of, parameters_text, plain_number_of, type_of_text, type_text};
+ghost use Rattle.sql_values.specs.TypeTexts.{comma_in, decimal_type, decimal_type_of, decimal_type_text, parameters_of, parameters_text, plain_number_of, type_of_text, type_text};
 
 use crate::memory::Memory;
 use crate::types::SqlType;
-use scalar_texts::{print_bigint, read_number};
+use scalar_texts::{print_bigint, read_short_number};
 use std::alloc::AllocError;
 
 /// The type that a text names, as `bigint` or `decimal(12,2)`.
@@ -30,13 +29,16 @@ fn decimal_type(text: &[u8]) -> Option<SqlType>
     parameters(&text[8..text.len() - 1])
 }
 
-#[tactic(auto, using(crate::proofs::TypeTextLemmas::parameters))]
 fn parameters(text: &[u8]) -> Option<SqlType>
     ensures { result ≡ parameters_of text.now }
 {
     let comma = comma_in(text)?;
-    let p = plain_number(&text[..comma])?;
-    let s = plain_number(&text[comma + 1..])?;
+    with_parameters(plain_number(&text[..comma])?, plain_number(&text[comma + 1..])?)
+}
+
+fn with_parameters(p: u64, s: u64) -> Option<SqlType>
+    ensures { result ≡ decimal_type (Some p) (Some s) }
+{
     if p < 1 || p > 38 || s > p {
         return None;
     }
@@ -54,12 +56,12 @@ fn comma_in(text: &[u8]) -> Option<usize>
 }
 
 fn plain_number(digits: &[u8]) -> Option<u64>
-    ensures { result ≡ option_and_then (below (2 ^ 64)) (plain_number_of digits.now) }
+    ensures { result ≡ plain_number_of digits.now }
 {
-    if digits.len() > 1 && digits[0] == b'0' {
+    if digits.len() > 2 || (digits.len() > 1 && digits[0] == b'0') {
         return None;
     }
-    read_number(digits)
+    read_short_number(digits)
 }
 
 /// Appends the text of a type. Where memory was wanting a beginning of it may stand there.

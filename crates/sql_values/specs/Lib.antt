@@ -3,3 +3,4 @@ pub mod Bags
 pub mod Texts
 pub mod Types
 pub mod TypeTexts
+pub mod Order

@@ -12,6 +12,7 @@
 
 mod items;
 mod memory;
+mod order;
 mod row;
 mod row_list;
 mod table;
@@ -23,6 +24,7 @@ mod value_texts;
 
 pub use items::Items;
 pub use memory::Memory;
+pub use order::{KeySpec, Order, compare_cells, compare_rows, compare_values, rows_are_ordered};
 pub use row::Row;
 pub use row_list::RowList;
 pub use table::Table;

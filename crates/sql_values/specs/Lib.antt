@@ -4,3 +4,4 @@ pub mod Texts
 pub mod Types
 pub mod TypeTexts
 pub mod Order
+pub mod Buckets

@@ -10,6 +10,7 @@
 //! - `value_texts`, `type_texts`: values and types as texts
 #![tactic(auto)]
 
+mod hash;
 mod items;
 mod memory;
 mod order;
@@ -22,6 +23,7 @@ mod types;
 mod value;
 mod value_texts;
 
+pub use hash::bucket;
 pub use items::Items;
 pub use memory::Memory;
 pub use order::{KeySpec, Order, compare_cells, compare_rows, compare_values, rows_are_ordered};

@@ -1,0 +1,88 @@
+ghost use Rattle.std.specs.Prelude.{◌≡◌, ◌≤◌, ◌++◌, length, flat_map};
+ghost use Rattle.std.specs.Int.{w32, w64, w128, to_le_bytes};
+ghost use Rattle.sql_values.specs.Buckets.{bucket_of, bytes_of, hash_after, hash_byte, number_bytes};
+
+use crate::value::Value;
+
+/// The hash of no byte.
+const EMPTY: u64 = 14_695_981_039_346_656_037;
+
+const PRIME: u64 = 1_099_511_628_211;
+
+/// The bucket of some values among `n`. Equal values of one type have one bucket.
+pub fn bucket(values: &[Value], n: u32) -> u32
+    requires { 1 ≤ n }
+    ensures { result ≡ bucket_of values.now n }
+{
+    (hash_values(values) % u64::from(n)) as u32
+}
+
+#[tactic(auto, using(crate::proofs::HashLemmas::hashing))]
+fn hash_values(values: &[Value]) -> u64
+    ensures { result ≡ hash_after EMPTY (flat_map bytes_of values.now) }
+{
+    let mut hash = EMPTY;
+    for value in values {
+        hash = hash_value(hash, value);
+    }
+    hash
+}
+
+#[tactic(auto, using(crate::proofs::HashLemmas::hashing))]
+fn hash_value(hash: u64, value: &Value) -> u64
+    ensures { result ≡ hash_after hash (bytes_of value.now) }
+{
+    match value {
+        Value::Null => hash_byte(hash, 0),
+        Value::Boolean(truth) => hash_byte(hash_byte(hash, 1), u8::from(*truth)),
+        Value::Bigint(n) => hash_bytes(hash_byte(hash, 1), &bigint_bytes(*n)),
+        Value::Decimal(unscaled) => hash_bytes(hash_byte(hash, 1), &decimal_bytes(*unscaled)),
+        Value::Varchar(text) => hash_text(hash_byte(hash, 1), text.as_str().as_bytes()),
+        Value::Date(day) => hash_bytes(hash_byte(hash, 1), &date_bytes(*day)),
+    }
+}
+
+#[tactic(auto, unfolding(crate::specs::Buckets::number_bytes))]
+fn bigint_bytes(n: i64) -> [u8; 8]
+    ensures { result ≡ number_bytes w64 n }
+{
+    n.cast_unsigned().to_le_bytes()
+}
+
+#[tactic(auto, unfolding(crate::specs::Buckets::number_bytes))]
+fn decimal_bytes(unscaled: i128) -> [u8; 16]
+    ensures { result ≡ number_bytes w128 unscaled }
+{
+    unscaled.cast_unsigned().to_le_bytes()
+}
+
+#[tactic(auto, unfolding(crate::specs::Buckets::number_bytes))]
+fn date_bytes(day: i32) -> [u8; 4]
+    ensures { result ≡ number_bytes w32 day }
+{
+    day.cast_unsigned().to_le_bytes()
+}
+
+#[tactic(auto, using(crate::proofs::HashLemmas::hashing))]
+fn hash_text(hash: u64, text: &[u8]) -> u64
+    ensures { result ≡ hash_after hash (to_le_bytes w64 (length text.now) ++ text.now) }
+{
+    hash_bytes(hash_bytes(hash, &(text.len() as u64).to_le_bytes()), text)
+}
+
+#[tactic(auto, using(crate::proofs::HashLemmas::hashing))]
+fn hash_bytes(start: u64, bytes: &[u8]) -> u64
+    ensures { result ≡ hash_after start bytes.now }
+{
+    let mut hash = start;
+    for byte in bytes {
+        hash = hash_byte(hash, *byte);
+    }
+    hash
+}
+
+fn hash_byte(hash: u64, byte: u8) -> u64
+    ensures { result ≡ hash_byte hash byte }
+{
+    (hash ^ u64::from(byte)).wrapping_mul(PRIME)
+}

@@ -1,7 +1,6 @@
 -- Hashing bytes one by one and value by value.
-use Rattle.std.proofs.Common.{◌≡◌, ℕ, ◌+◌, ◌<◌, ◌≤◌, List, [], ◌∷◌, ◌++◌, length, get_or, drop, refl, ap, sym, ◌∙◌, drop-cons, add-one, arith}
+use Rattle.std.proofs.Common.{◌≡◌, ℕ, ◌+◌, ◌<◌, List, [], ◌∷◌, ◌++◌, length, get_or, drop, refl, ap, sym, ◌∙◌, drop-cons, add-one}
 use Rattle.std.specs.List.{flat_map}
-use Rattle.std.proofs.lemmas.List.Concat.{flat_map-cons}
 use Rattle.sql_values.specs.declared.value.Value.{Value}
 use Rattle.sql_values.specs.Buckets.{bytes_of, hash_byte, hash_after}
 

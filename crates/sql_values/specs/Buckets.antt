@@ -1,5 +1,5 @@
 -- The bucket of some values: FNV-1a of 64 bits over their bytes.
-use Rattle.std.specs.Prelude.{ℕ, ◌*◌, ◌%◌, ◌^◌, List, [], ◌∷◌, ◌++◌, length, fold, flat_map, bit_xor, ℤ, if◌then◌else◌}
+use Rattle.std.specs.Prelude.{ℕ, ◌*◌, ◌%◌, ◌^◌, List, [], ◌∷◌, ◌++◌, length, flat_map, bit_xor, ℤ, if◌then◌else◌}
 use Rattle.std.specs.Int.{Width, w32, w64, w128, cast_unsigned, to_le_bytes}
 use Rattle.sql_values.specs.declared.value.Value.{Value}
 use Rattle.sql_values.specs.declared.value.Value.TheVariants.{Null, Boolean, Bigint, Decimal, Varchar, Date}

@@ -1,10 +1,10 @@
 -- The texts of values: what each type accepts, and what it prints.
-use Rattle.std.specs.Prelude.{◌≡◌, ℕ, ◌^◌, ◌<◌, ◌≤◌, List, [], length, Option, Some, None, option_map, nat_le, if◌then◌else◌, unsigned_abs, IsTrue}
+use Rattle.std.specs.Prelude.{◌≡◌, ℕ, List, [], length, Option, Some, None, option_map, nat_le, if◌then◌else◌}
 use Rattle.std.specs.Fmt.{signed_decimal}
 use Rattle.scalar_texts.specs.Booleans.{boolean_of, boolean_text}
 use Rattle.scalar_texts.specs.Numbers.{bigint_of}
 use Rattle.scalar_texts.specs.Decimals.{decimal_of, decimal_text}
-use Rattle.scalar_texts.specs.Dates.{date_of, date_text, has_date}
+use Rattle.scalar_texts.specs.Dates.{date_of, date_text}
 use Rattle.sql_values.specs.declared.types.SqlType.{SqlType}
 use Rattle.sql_values.specs.declared.types.SqlType.TheVariants.{Boolean, Bigint, Decimal, Varchar, Date}
 use Rattle.sql_values.specs.declared.value.Value.{Value}

@@ -1,5 +1,5 @@
 -- Types, and the values that have them.
-use Rattle.std.specs.Prelude.{ℕ, ◌^◌, ◌<◌, ◌≤◌, length, unsigned_abs, IsTrue}
+use Rattle.std.specs.Prelude.{◌^◌, ◌<◌, ◌≤◌, length, unsigned_abs, IsTrue}
 use Rattle.scalar_texts.specs.Dates.{has_date}
 use Rattle.sql_values.specs.declared.types.SqlType.{SqlType}
 use Rattle.sql_values.specs.declared.types.SqlType.TheVariants.{Boolean, Bigint, Decimal, Varchar, Date}

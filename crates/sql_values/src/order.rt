@@ -81,5 +81,4 @@ fn kind_rank(value: ValueRef<'_>) -> u8
 #[tactic(auto, using(crate::proofs::OrderLemmas::row_cmp_total))]
 pub fn rows_are_ordered(keys: &[KeySpec])
     ensures { IsTotalOrder (row_cmp keys.now) }
-{
-}
+{}

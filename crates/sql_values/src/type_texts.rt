@@ -33,7 +33,10 @@ fn parameters(text: &[u8]) -> Option<SqlType>
     ensures { result ≡ parameters_of text.now }
 {
     let comma = comma_in(text)?;
-    with_parameters(plain_number(&text[..comma])?, plain_number(&text[comma + 1..])?)
+    with_parameters(
+        plain_number(&text[..comma])?,
+        plain_number(&text[comma + 1..])?,
+    )
 }
 
 fn with_parameters(p: u64, s: u64) -> Option<SqlType>

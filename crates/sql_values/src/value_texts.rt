@@ -13,15 +13,18 @@ use scalar_texts::{
     print_boolean, print_date, print_decimal, read_bigint, read_boolean, read_date, read_decimal,
 };
 use std::alloc::{AllocError, AllocFailed, Global};
+use thiserror::Error;
 
 /// The longest text of a varchar, in bytes.
 pub const LONGEST_TEXT: usize = 1_000_000;
 
 /// Why no value was read.
-#[derive(Clone, Copy, Debug, PartialEq, Eq)]
+#[derive(Clone, Copy, Debug, PartialEq, Eq, Error)]
 pub enum ParseFault {
     /// The text is not one that the type accepts.
+    #[error("the text is no value of the type")]
     Malformed,
+    #[error("out of memory")]
     Memory,
 }
 
@@ -152,65 +155,5 @@ fn date_text_reads_back(kind: SqlType, day: i32)
 {
     if kind == SqlType::Date {
         date_reads_back(day);
-    }
-}
-
-#[cfg(test)]
-mod tests {
-    use super::*;
-
-    fn read_back(rt: &HostRuntime, kind: SqlType, text: &str) -> Result<String, ParseFault> {
-        let value = parse_value(rt.alloc(), kind, text)?;
-        let mut printed = Vec::new(rt.alloc());
-        print_value(kind, value.as_ref(), &mut printed)?;
-        String::from_utf8(printed).map_err(|_| ParseFault::Malformed)
-    }
-
-    #[test]
-    fn reads_and_prints_values(rt: HostRuntime) -> Result<(), ParseFault> {
-        for (kind, text, printed) in [
-            (SqlType::Bigint, "0", "0"),
-            (SqlType::Bigint, "+0007", "7"),
-            (SqlType::Bigint, "-0", "0"),
-            (SqlType::Bigint, "-42", "-42"),
-            (
-                SqlType::Bigint,
-                "9223372036854775807",
-                "9223372036854775807",
-            ),
-            (
-                SqlType::Bigint,
-                "-00000000000009223372036854775808",
-                "-9223372036854775808",
-            ),
-            (SqlType::Varchar, "", ""),
-            (SqlType::Varchar, "Zürich, 8001", "Zürich, 8001"),
-        ] {
-            assert_eq!(rt; read_back(&rt, kind, text)?.as_str(), printed, "at {text}");
-        }
-        Ok(())
-    }
-
-    #[test]
-    fn refuses_what_is_no_value(rt: HostRuntime) {
-        for (kind, text) in [
-            (SqlType::Bigint, ""),
-            (SqlType::Bigint, "-"),
-            (SqlType::Bigint, "+"),
-            (SqlType::Bigint, "--1"),
-            (SqlType::Bigint, " 1"),
-            (SqlType::Bigint, "1.0"),
-            (SqlType::Bigint, "9223372036854775808"),
-            (SqlType::Bigint, "-9223372036854775809"),
-            (SqlType::Bigint, "18446744073709551616"),
-        ] {
-            assert!(rt;
-                matches!(
-                    parse_value(rt.alloc(), kind, text),
-                    Err(ParseFault::Malformed)
-                ),
-                "at {text}"
-            );
-        }
     }
 }

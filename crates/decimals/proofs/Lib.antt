@@ -1,0 +1,3 @@
+pub mod PowerLemmas
+pub mod MagnitudeLemmas
+pub mod RangeLemmas

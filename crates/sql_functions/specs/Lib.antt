@@ -1,0 +1,4 @@
+pub mod Outcomes
+pub mod Truth
+pub mod Comparison
+pub mod Bigints

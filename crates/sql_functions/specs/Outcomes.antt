@@ -1,0 +1,19 @@
+-- What an operation or an expression gives: a value, or why there is none.
+use Rattle.std.specs.Prelude.{◌≡◌, Option, Some, None, Result, Ok, Err}
+use Rattle.sql_values.specs.declared.value.Value.{Value}
+use Rattle.sql_values.specs.declared.fail.Fail.{Fail}
+use Rattle.sql_values.specs.declared.fail.EvalFault.{EvalFault}
+use Rattle.sql_values.specs.declared.fail.EvalFault.TheVariants as fault
+
+abbrev pub Outcome : Type 0
+Outcome = Result Value Fail
+
+-- the outcome of what is done with a value, and the failure where there is none
+abbrev pub and_then : Outcome → (Value → Outcome) → Outcome
+and_then (Ok v) next = next v
+and_then (Err kind) next = Err kind
+
+-- the fault tells this failure, or memory was wanting
+abbrev pub FailsBy : Outcome → EvalFault → Type 0
+FailsBy outcome (fault.Fail kind) = outcome ≡ Err kind
+FailsBy outcome fault.Memory = Unit {0}

@@ -1,0 +1,19 @@
+//! The operations of expressions on values that are known: each call and each cast gives the value
+//! or the failure of its definition.
+//!
+//! Where an argument is NULL the result is NULL, but for `is_null` and `is_distinct`. An operation
+//! that gets values of other types than it takes gives NULL too.
+//!
+//! - `name`: the names of the calls
+//! - `truth`: three-valued logic, by `specs/Truth.antt`
+//! - `compare`: comparisons, by `specs/Comparison.antt`
+//! - `bigint`, `decimal`, `arithmetic`: numbers, by `specs/Bigints.antt`, `specs/DecimalNumbers.antt`
+//!   and `specs/Arithmetic.antt`
+#![tactic(auto)]
+
+mod bigint;
+mod compare;
+mod name;
+mod truth;
+
+pub use name::CallName;

@@ -2,3 +2,5 @@ pub mod Outcomes
 pub mod Truth
 pub mod Comparison
 pub mod Bigints
+pub mod DecimalNumbers
+pub mod Arithmetic

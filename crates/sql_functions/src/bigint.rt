@@ -3,41 +3,28 @@ ghost use Rattle.sql_functions.specs.Bigints.{bigint_difference, bigint_opposite
 
 use sql_values::{Fail, Value};
 
-
 pub fn sum(a: i64, b: i64) -> Result<Value, Fail>
     ensures { result ≡ bigint_sum a b }
 {
-    match a.checked_add(b) {
-        Some(n) => Ok(Value::Bigint(n)),
-        None => Err(Fail::OutOfRange),
-    }
+    a.checked_add(b).map(Value::Bigint).ok_or(Fail::OutOfRange)
 }
 
 pub fn difference(a: i64, b: i64) -> Result<Value, Fail>
     ensures { result ≡ bigint_difference a b }
 {
-    match a.checked_sub(b) {
-        Some(n) => Ok(Value::Bigint(n)),
-        None => Err(Fail::OutOfRange),
-    }
+    a.checked_sub(b).map(Value::Bigint).ok_or(Fail::OutOfRange)
 }
 
 pub fn product(a: i64, b: i64) -> Result<Value, Fail>
     ensures { result ≡ bigint_product a b }
 {
-    match a.checked_mul(b) {
-        Some(n) => Ok(Value::Bigint(n)),
-        None => Err(Fail::OutOfRange),
-    }
+    a.checked_mul(b).map(Value::Bigint).ok_or(Fail::OutOfRange)
 }
 
 pub fn opposite(a: i64) -> Result<Value, Fail>
     ensures { result ≡ bigint_opposite a }
 {
-    match a.checked_neg() {
-        Some(n) => Ok(Value::Bigint(n)),
-        None => Err(Fail::OutOfRange),
-    }
+    a.checked_neg().map(Value::Bigint).ok_or(Fail::OutOfRange)
 }
 
 /// The quotient, rounded toward zero.
@@ -47,10 +34,7 @@ pub fn quotient(a: i64, b: i64) -> Result<Value, Fail>
     if b == 0 {
         return Err(Fail::DivisionByZero);
     }
-    match a.checked_div(b) {
-        Some(n) => Ok(Value::Bigint(n)),
-        None => Err(Fail::OutOfRange),
-    }
+    a.checked_div(b).map(Value::Bigint).ok_or(Fail::OutOfRange)
 }
 
 /// The remainder, with the sign of the dividend; of the least number by -1 it is 0.

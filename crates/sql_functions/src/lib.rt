@@ -11,8 +11,10 @@
 //!   and `specs/Arithmetic.antt`
 #![tactic(auto)]
 
+mod arithmetic;
 mod bigint;
 mod compare;
+mod decimal;
 mod name;
 mod truth;
 

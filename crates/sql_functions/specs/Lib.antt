@@ -4,3 +4,5 @@ pub mod Comparison
 pub mod Bigints
 pub mod DecimalNumbers
 pub mod Arithmetic
+pub mod TextCalls
+pub mod DateCalls

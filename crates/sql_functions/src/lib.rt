@@ -14,8 +14,10 @@
 mod arithmetic;
 mod bigint;
 mod compare;
+mod dates;
 mod decimal;
 mod name;
+mod texts;
 mod truth;
 
 pub use name::CallName;

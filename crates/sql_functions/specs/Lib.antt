@@ -6,3 +6,5 @@ pub mod DecimalNumbers
 pub mod Arithmetic
 pub mod TextCalls
 pub mod DateCalls
+pub mod Like
+pub mod LikeRows

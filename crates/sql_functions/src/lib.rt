@@ -16,6 +16,7 @@ mod bigint;
 mod compare;
 mod dates;
 mod decimal;
+mod like;
 mod name;
 mod texts;
 mod truth;

@@ -8,3 +8,4 @@ pub mod TextCalls
 pub mod DateCalls
 pub mod Like
 pub mod LikeRows
+pub mod Casts

@@ -16,7 +16,7 @@ pub fn decimal(kind: SqlType, unscaled: i128) -> Option<Decimal>
 }
 
 /// The value of a number, or the failure in its place.
-fn in_range(number: Result<Decimal, OutOfRange>) -> Result<Value, Fail>
+pub fn in_range(number: Result<Decimal, OutOfRange>) -> Result<Value, Fail>
     ensures { result ≡ from_units (units_of number) }
 {
     match number {

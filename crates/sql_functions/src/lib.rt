@@ -13,6 +13,7 @@
 
 mod arithmetic;
 mod bigint;
+mod casts;
 mod compare;
 mod dates;
 mod decimal;

@@ -1,8 +1,7 @@
 -- Whole numbers of 64 bits.
-use Rattle.std.specs.Prelude.{ℤ, pos, zero, ◌+ℤ◌, ◌*ℤ◌, ◌-ℤ◌, neg_ℤ, int_div, int_rem, Bool, true, false, if◌then◌else◌, Ok, Err}
+use Rattle.std.specs.Prelude.{ℤ, pos, ◌+ℤ◌, ◌*ℤ◌, ◌-ℤ◌, neg_ℤ, int_div, int_rem, if◌then◌else◌, Ok, Err}
 use Rattle.std.specs.Ordering.{int_eq}
 use Rattle.scalar_texts.specs.Numbers.{has_64_bits}
-use Rattle.sql_values.specs.declared.value.Value.{Value}
 use Rattle.sql_values.specs.declared.value.Value.TheVariants.{Bigint}
 use Rattle.sql_values.specs.declared.fail.Fail.TheVariants.{OutOfRange, DivisionByZero}
 use Rattle.sql_functions.specs.Outcomes.{Outcome}

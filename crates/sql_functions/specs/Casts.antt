@@ -1,5 +1,5 @@
 -- Casts, each from a type to a type.
-use Rattle.std.specs.Prelude.{ℕ, ◌-◌, ℤ, Bool, ◌&&◌, nat_le, if◌then◌else◌, List, Option, Some, None, option_and_then, Ok, Err}
+use Rattle.std.specs.Prelude.{ℕ, ◌-◌, ℤ, Bool, ◌&&◌, nat_le, if◌then◌else◌, Option, Some, None, Ok, Err}
 use Rattle.decimals.specs.Arithmetic.{of_digits, scaled, rounded}
 use Rattle.scalar_texts.specs.Numbers.{has_64_bits}
 use Rattle.sql_values.specs.declared.types.SqlType.{SqlType}

@@ -1,6 +1,6 @@
 -- Decimals by their types. Units that are no number of their type make a result NULL.
 use Rattle.std.specs.Prelude.{ℕ, ◌+◌, ◌-◌, max, nat_le, if◌then◌else◌, ℤ, ◌+ℤ◌, ◌*ℤ◌, neg_ℤ, Option, Some, None, option_and_then, Result, Ok, Err}
-use Rattle.decimals.specs.Arithmetic.{checked_parts, of_digits, scaled, rounded}
+use Rattle.decimals.specs.Arithmetic.{checked_parts, of_digits, scaled}
 use Rattle.decimals.specs.declared.decimal.Decimal.{Decimal as Number}
 use Rattle.decimals.specs.declared.decimal.OutOfRange.{OutOfRange as NoNumber}
 use Rattle.sql_values.specs.declared.types.SqlType.{SqlType}

@@ -9,3 +9,5 @@ pub mod DateCalls
 pub mod Like
 pub mod LikeRows
 pub mod Casts
+pub mod Calls
+pub mod CallTypes

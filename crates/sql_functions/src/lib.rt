@@ -13,6 +13,8 @@
 
 mod arithmetic;
 mod bigint;
+mod call_types;
+mod calls;
 mod casts;
 mod compare;
 mod dates;
@@ -22,4 +24,8 @@ mod name;
 mod texts;
 mod truth;
 
+pub use call_types::{call_type, can_cast, same_type, takes_types};
+pub use calls::{binary, unary};
+pub use casts::cast;
 pub use name::CallName;
+pub use truth::{is_false, is_null, is_true, truth_and, truth_or};

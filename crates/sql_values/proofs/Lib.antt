@@ -1,6 +1,2 @@
 pub mod OrderLemmas
-pub mod BlockLemmas
-pub mod RowListLemmas
-pub mod ColumnRowsLemmas
 pub mod HashLemmas
-pub mod TypeTextLemmas

@@ -7,5 +7,3 @@ pub mod Types
 pub mod TypeTexts
 pub mod Order
 pub mod Buckets
-pub mod ColumnRows
-pub mod RowLists

@@ -20,4 +20,4 @@ mod plans;
 pub use fault::TypeFault;
 pub use forms::{BranchTypes, type_form, type_forms};
 pub use nodes::type_node;
-pub use plans::type_plan;
+pub use plans::{type_plan, types_are_those_of_the_tree};

@@ -1,5 +1,7 @@
-ghost use Rattle.std.specs.Prelude.{◌≡◌, Ok, MatchResult};
-ghost use Rattle.plan_docs.specs.Shapes.{plan_view};
+ghost use Rattle.std.specs.Prelude.{◌≡◌, List, length, Ok, MatchResult};
+ghost use Rattle.sql_values.specs.declared.types.SqlType.{SqlType as Kind};
+ghost use Rattle.plan_docs.specs.Shapes.{PlanDoc, plan_view};
+ghost use Rattle.plan_docs.specs.Trees.{tree_of, types_of};
 ghost use Rattle.plan_types.specs.Faults.{FailsAt};
 ghost use Rattle.plan_types.specs.Nodes.{named_by, output_path, plan_types, root_path, root_types};
 
@@ -54,3 +56,9 @@ fn name_types(
         )?))
     }
 }
+
+/// A plan that is typed has the types that its tree tells, and as many names.
+pub fn types_are_those_of_the_tree()
+    ensures { (plan : PlanDoc) → (types : List Kind) → plan_types plan ≡ Ok types
+        → (types ≡ types_of (tree_of plan)) × (length plan.output ≡ length types) }
+{}

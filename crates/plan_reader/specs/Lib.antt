@@ -1,5 +1,2 @@
-pub mod Json
-pub mod Documents
 pub mod Plans
-pub mod Trees
 pub mod Allowed

@@ -1,57 +1,64 @@
--- What bytes are as a plan: the plan of a JSON document, or the cause of a refusal.
-use Rattle.std.specs.Prelude.{◌≡◌, ◌⊎◌, ◌<◌, ◌≤◌, ℕ, List, [], length, All, Some, None}
-use Rattle.std.specs.Str.{IsUtf8}
+-- What bytes are as a plan: the plan of a JSON document at whose places no check fails, or the
+-- first failing check with its place. The checks of types and of placement come after those that
+-- the document's places tell alone.
+use Rattle.std.specs.Prelude.{◌≡◌, ◌⊎◌, ℕ, List, [], ◌∷◌, Bool, true, false, if◌then◌else◌, Option, Some, None, option_map, slice_get, unwrap_or, Result, Ok, Err}
+use Rattle.std.specs.Option.{option_or}
 use Rattle.serde_json.specs.Data.{Data}
-use Rattle.serde_json.specs.Read.{read as read_text}
-use Rattle.plan_reader.specs.declared.fault.PlanFault.{PlanFault}
-use Rattle.plan_reader.specs.declared.fault.PlanFault.TheVariants.{Refused, Memory}
-use Rattle.plan_reader.specs.declared.plan.Plan.{Plan}
-use Rattle.plan_reader.specs.declared.plan.TableDoc.{TableDoc}
-use Rattle.plan_reader.specs.declared.trees.Tree.{Tree}
-use Rattle.plan_reader.specs.declared.trees.Tree.TheVariants.{Scan}
-use Rattle.plan_reader.specs.Documents.{plan_of}
-use Rattle.plan_reader.specs.Trees.{columns_of, tree_of, types_of}
+use Rattle.sql_values.specs.declared.types.SqlType.{SqlType}
+use Rattle.plan_places.specs.declared.key.Key.TheVariants as key
+use Rattle.plan_places.specs.declared.step.Step.TheVariants as step
+use Rattle.plan_places.specs.Places.{pointer_text}
+use Rattle.plan_checks.specs.declared.fault.PlanFault.{PlanFault}
+use Rattle.plan_checks.specs.declared.fault.PlanFault.TheVariants.{Refused, Memory}
+use Rattle.plan_checks.specs.Documents.{IsJson, IsNotJson, refusal_of}
+use Rattle.plan_docs.specs.declared.plan.Placement.{Placement}
+use Rattle.plan_docs.specs.declared.plan.Placement.TheVariants.{Single}
+use Rattle.plan_docs.specs.Plans.{plan_of}
+use Rattle.plan_docs.specs.Shapes.{PlanDoc}
+use Rattle.plan_types.specs.Faults.{Path}
+use Rattle.plan_types.specs.Nodes.{plan_types}
 
--- the bytes are JSON, and the document is the value that they write
-pub record IsJson (bytes : List ℕ) (document : Data) : Type 0 where
-  pub text : IsUtf8 bytes
-  pub value : read_text bytes ≡ Some document
+-- code 5: types do not fit at a path
+abbrev pub type_fault : Result (List SqlType) Path → Option (ℕ × List ℕ)
+type_fault (Ok types) = None
+type_fault (Err path) = Some (5, pointer_text path)
+
+abbrev pub is_single : Placement → Bool
+is_single Single = true
+is_single placement = false
+
+abbrev pub placement_path : Path
+placement_path = step.Key key.Fragments ∷ step.Index 0 ∷ step.Key key.Placement ∷ []
+
+-- code 8: the first fragment runs in one task
+abbrev pub placement_fault : PlanDoc → Option (ℕ × List ℕ)
+placement_fault plan =
+    if unwrap_or (option_map (λ fragment. is_single fragment.placement) (slice_get plan.fragments 0)) true
+    then None
+    else Some (8, pointer_text placement_path)
+
+-- why a plan is refused, if it is
+abbrev pub plan_refusal : PlanDoc → Option (ℕ × List ℕ)
+plan_refusal plan = option_or (type_fault (plan_types plan)) (placement_fault plan)
+
+-- the code and the path of the first check that fails, if one does
+unfoldable pub judgement_of : Data → Option (ℕ × List ℕ)
+judgement_of document = option_or (refusal_of document) (plan_refusal (plan_of document))
 
 -- the bytes are a document that means the plan
-pub record IsPlan (bytes : List ℕ) (plan : Plan) : Type 0 where
+pub record IsPlan (bytes : List ℕ) (plan : PlanDoc) : Type 0 where
   pub document : Data
   pub json : IsJson bytes document
-  pub means : plan_of document ≡ Some plan
+  pub passes : judgement_of document ≡ None
+  pub means : plan ≡ plan_of document
 
--- code 1: the bytes are no JSON
-pub record IsNotJson (bytes : List ℕ) (code : ℕ) (path : List ℕ) : Type 0 where
-  pub is_one : code ≡ 1
-  pub no_place : path ≡ []
-  pub no_document : (d : Data) → ¬ IsJson bytes d
-
--- code 10: the bytes are a document that is no plan
+-- the bytes are a document, and the first check that fails has the code and the path
 pub record IsNoPlan (bytes : List ℕ) (code : ℕ) (path : List ℕ) : Type 0 where
-  pub is_ten : code ≡ 10
-  pub no_place : path ≡ []
   pub document : Data
   pub json : IsJson bytes document
-  pub means_none : plan_of document ≡ None
+  pub refused : judgement_of document ≡ Some (code, path)
 
--- why there is no plan
+-- why bytes mean no plan
 abbrev pub RefusedFor : List ℕ → PlanFault → Type 0
 RefusedFor bytes (Refused code path) = IsNotJson bytes code path ⊎ IsNoPlan bytes code path
 RefusedFor bytes Memory = Unit {0}
-
--- the tree scans at least one column of the first table, and only columns that the table has
-abbrev pub ScansFirstTable : List TableDoc → Tree → Type 0
-ScansFirstTable tables (Scan id table columns) =
-    (table ≡ 0) × (0 < length columns) × All (λ column. column < length (columns_of tables 0)) columns
-
--- what is so of each plan that is read: it has one table and one fragment, whose root scans that table
-pub record IsFirstForm (plan : Plan) : Type 0 where
-  pub one_table : length plan.tables ≡ 1
-  pub one_fragment : length plan.fragments ≡ 1
-  pub some_column : 0 < length (columns_of plan.tables 0)
-  pub most_columns : length (columns_of plan.tables 0) ≤ 256
-  pub scans : ScansFirstTable plan.tables (tree_of plan)
-  pub as_many_names : length plan.output ≡ length (types_of plan.tables (tree_of plan))

@@ -1,30 +1,26 @@
 //! The plan document and the plan that it means.
 //!
-//! A plan is read from JSON. `specs/Documents.antt` says, object by object, which documents are
-//! plans and which plan each one is; `read_plan` gives that plan, or says whether the bytes are no
-//! JSON or a document that is no plan. `specs/Trees.antt` has the tree that a plan means, and
-//! `specs/Allowed.antt` the lists of rows that a tree allows over the tables.
+//! A plan is read from JSON. `specs/Plans.antt` says which documents are plans, which plan each one
+//! is, and of every other one which check fails first and where. A plan means one tree; its rows
+//! are told by `specs/Allowed.antt`: the lists that the tree allows over the tables, those that it
+//! allows where failing rows are left out, the rows that an operator may have given when something
+//! stopped, and the failures of its expressions.
 //!
-//! - `plan`, `trees`: the types
-//! - `meaning`: the tree of a plan
-//! - `fault`: why there is no plan
-//! - `json`: look-ups in a JSON value
-//! - `document`: the objects of the document
 //! - `read`: `read_plan`
+//! - `laws`: laws over plans and over what a tree allows
 #![tactic(auto)]
 
-mod document;
-mod fault;
-mod json;
-mod meaning;
-mod plan;
+mod laws;
 mod read;
 #[cfg(test)]
 mod tests;
-mod trees;
 
-pub use fault::PlanFault;
-pub use meaning::tree;
-pub use plan::{Fragment, Fragments, Node, Output, Placement, Plan, TableDoc, TableDocs};
-pub use read::{documents_are_one, plans_are_first_form, read_plan};
-pub use trees::Tree;
+pub use laws::{
+    allowed_where_nothing_fails, beginnings_may_be_given, documents_are_one,
+    plans_name_their_columns, some_list_is_allowed,
+};
+pub use plan_checks::PlanFault;
+pub use plan_docs::{
+    Fragment, Fragments, Node, Output, Placement, Plan, TableDoc, TableDocs, Tree, tree,
+};
+pub use read::read_plan;

@@ -1,128 +1,117 @@
+mod cases;
+
 use crate::{
-    Node, Plan, PlanFault, Tree, documents_are_one, plans_are_first_form, read_plan, tree,
+    Placement, PlanFault, Tree, allowed_where_nothing_fails, beginnings_may_be_given,
+    documents_are_one, plans_name_their_columns, read_plan, some_list_is_allowed, tree,
 };
+use cases::{CASES, WHOLE};
 use sql_values::SqlType;
 use std::alloc::Global;
 use std::test::Fail;
 
-const GOOD: &str = "{\"version\":1,\"output\":[\"x\",\"y\",\"z\"],\
-    \"tables\":[{\"name\":\"t\",\"columns\":[{\"name\":\"a\",\"type\":\"bigint\"},\
-    {\"name\":\"b\",\"type\":\"varchar\"}]}],\
-    \"fragments\":[{\"id\":0,\"placement\":\"SINGLE\",\
-    \"root\":{\"id\":4294967295,\"op\":\"scan\",\"table\":\"t\",\"columns\":[\"b\",\"a\",\"b\"]}}]}";
+/// A text of a document, what is put in its place, and what is told then.
+#[derive(Clone, Copy)]
+struct Case<'a> {
+    from: &'a str,
+    to: &'a str,
+    told: &'a str,
+}
+
+/// The case that a line writes.
+fn case_of(line: &str) -> Option<Case<'_>> {
+    let (from, rest) = line.split_once('|')?;
+    let (to, told) = rest.split_once('|')?;
+    Some(Case {
+        from: from.trim(),
+        to: to.trim(),
+        told: told.trim(),
+    })
+}
+
+/// The code and the path of a refusal, the code alone where there is no path, and 0 where the
+/// document is a plan.
+fn told(alloc: Global, quoted: &str) -> Result<String, Fail> {
+    let document = quoted.replace(alloc, "'", "\"")?;
+    match read_plan(alloc, document.as_bytes()) {
+        Ok(_plan) => Ok(String::from_str(alloc, "0")?),
+        Err(fault) => told_of(alloc, &fault),
+    }
+}
+
+fn told_of(alloc: Global, fault: &PlanFault) -> Result<String, Fail> {
+    match fault {
+        PlanFault::Refused { code, path } if path.is_empty() => Ok(format!(in alloc; "{code}")?),
+        PlanFault::Refused { code, path } => {
+            let path = path.as_str();
+            Ok(format!(in alloc; "{code} {path}")?)
+        }
+        PlanFault::Memory => Ok(String::from_str(alloc, "memory")?),
+    }
+}
+
+#[test]
+fn refuses_at_the_first_place(rt: HostRuntime) -> Result<(), Fail> {
+    let alloc = rt.alloc();
+    for line in CASES.lines() {
+        if let Some(case) = case_of(line) {
+            let document = WHOLE.replace(alloc, case.from, case.to)?;
+            let is = told(alloc, document.as_str())?;
+            assert_eq!(rt; is.as_str(), case.told, "{line}");
+        } else {
+            assert!(rt; line.starts_with('#'), "{line}");
+        }
+    }
+    Ok(())
+}
 
 #[test]
 fn reads_a_plan(rt: HostRuntime) -> Result<(), Fail> {
     let alloc = rt.alloc();
-    let plan = read_plan(alloc, GOOD.as_bytes())?;
-    documents_are_one(GOOD.as_bytes());
-    plans_are_first_form(GOOD.as_bytes());
-    assert_eq!(rt; plan.output.len(), 3);
-    for (name, want) in plan.output.as_slice().iter().zip(["x", "y", "z"]) {
-        assert_eq!(rt; name.as_str(), want);
-    }
-    for table in plan.tables.as_slice() {
-        assert_eq!(rt; table.name.as_str(), "t");
-        for (column, want) in table.columns.as_slice().iter().zip(["a", "b"]) {
-            assert_eq!(rt; column.name.as_str(), want);
-        }
+    let document = WHOLE.replace(alloc, "'", "\"")?;
+    let plan = read_plan(alloc, document.as_bytes())?;
+    documents_are_one(document.as_bytes());
+    plans_name_their_columns(document.as_bytes());
+    allowed_where_nothing_fails();
+    some_list_is_allowed();
+    beginnings_may_be_given();
+    assert_eq!(rt; plan.output.len(), 2);
+    assert_eq!(rt; plan.tables.len(), 2);
+    for fragment in plan.fragments.as_slice() {
+        assert_eq!(rt; fragment.placement, Placement::Single);
     }
     let tree = tree(alloc, &plan)?;
-    let types = tree.types(alloc, plan.tables.as_slice())?;
-    let Tree::Scan { id, table, columns } = tree;
-    assert_eq!(rt; id, u32::MAX);
-    assert_eq!(rt; table, 0);
-    assert_eq!(rt; columns.as_slice(), [1, 0, 1].as_slice());
-    assert_eq!(rt;
-        types.as_slice(),
-        [SqlType::Varchar, SqlType::Bigint, SqlType::Varchar].as_slice()
-    );
+    let types = tree.types(alloc)?;
+    assert_eq!(rt; types.as_slice(), [SqlType::Bigint, SqlType::Varchar].as_slice());
+    let name = shape_of(alloc, &tree)?;
+    assert_eq!(rt; name.as_str(), "project 3 of 2 over filter 2 over scan 1 of table 1");
     Ok(())
 }
 
-/// A text of the good document, what stands in its place, and the code of the refusal, or 0.
-const CASES: [(&str, &str, u8); 31] = [
-    ("{\"version\":1", "{ \"version\":1", 0),
-    ("\"version\":1", "\"version\":01", 1),
-    ("\"version\":1", "\"version\":1e999", 1),
-    ("SINGLE\"", "SINGLE", 1),
-    ("\"version\":1", "\"version\":2", 10),
-    ("\"version\":1", "\"version\":1.0", 10),
-    ("\"version\":1", "\"version\":1,\"extra\":1", 10),
-    ("\"version\":1", "\"versions\":1", 10),
-    ("[\"x\",\"y\",\"z\"]", "[\"x\",\"y\"]", 10),
-    ("[\"x\",\"y\",\"z\"]", "[\"x\",\"y\",\"z\",\"w\"]", 10),
-    ("[\"x\",\"y\",\"z\"]", "{}", 10),
-    ("\"x\"", "\"\"", 10),
-    ("\"x\"", "7", 10),
-    (
-        "{\"name\":\"t\",\"columns\"",
-        "{\"name\":\"u\",\"columns\"",
-        10,
-    ),
-    (
-        "{\"name\":\"t\",\"columns\"",
-        "{\"name\":\"t\",\"rows\":0,\"columns\"",
-        10,
-    ),
-    ("\"tables\":[", "\"tables\":[0,", 10),
-    ("\"tables\":[", "\"tables\":[],\"tables\":[", 0),
-    ("\"name\":\"b\"", "\"name\":\"a\"", 10),
-    ("\"name\":\"b\"", "\"name\":\"c\"", 10),
-    ("varchar", "date", 10),
-    (
-        "\"type\":\"bigint\"",
-        "\"type\":\"bigint\",\"null\":true",
-        10,
-    ),
-    ("\"id\":0", "\"id\":1", 10),
-    ("\"id\":0", "\"id\":0,\"output\":{\"kind\":\"SINGLE\"}", 10),
-    ("\"fragments\":[", "\"fragments\":[0,", 10),
-    ("SINGLE", "SOURCE", 10),
-    ("4294967295", "4294967296", 10),
-    ("\"op\":\"scan\"", "\"op\":\"values\"", 10),
-    ("\"op\":\"scan\"", "\"op\":\"scan\",\"limit\":1", 10),
-    ("\"table\":\"t\"", "\"table\":\"s\"", 10),
-    ("[\"b\",\"a\",\"b\"]", "[\"b\",\"a\",\"c\"]", 10),
-    ("[\"b\",\"a\",\"b\"]", "[]", 10),
-];
+/// The operators of a tree of a project, a filter and a scan.
+fn shape_of(alloc: Global, tree: &Tree) -> Result<String, Fail> {
+    let Tree::Project { id, columns, input } = tree else {
+        return Ok(String::from_str(alloc, "no project")?);
+    };
+    let count = columns.len();
+    let below = input_of(alloc, input)?;
+    Ok(format!(in alloc; "project {id} of {count} over {below}")?)
+}
 
-/// The code of the refusal, or 0.
-fn code_of(alloc: Global, bytes: &[u8]) -> u8 {
-    let result = read_plan(alloc, bytes);
-    match &result {
-        Ok(_) => 0,
-        Err(PlanFault::Refused { code, path }) if path.is_empty() => *code,
-        Err(_) => 255,
+fn input_of(alloc: Global, tree: &Tree) -> Result<String, Fail> {
+    match tree {
+        Tree::Filter { id, input, .. } => match scan_of(input) {
+            Some((scan, table)) => {
+                Ok(format!(in alloc; "filter {id} over scan {scan} of table {table}")?)
+            }
+            None => Ok(String::from_str(alloc, "a filter over no scan")?),
+        },
+        _ => Ok(String::from_str(alloc, "no filter")?),
     }
 }
 
-#[test]
-fn refuses_what_is_no_plan(rt: HostRuntime) -> Result<(), Fail> {
-    let alloc = rt.alloc();
-    for (from, to, want) in CASES {
-        let document = GOOD.replace(alloc, from, to)?;
-        assert_eq!(rt; code_of(alloc, document.as_bytes()), want, "{from} as {to}");
+fn scan_of(tree: &Tree) -> Option<(u32, u32)> {
+    match tree {
+        Tree::Scan { id, table, .. } => Some((*id, *table)),
+        _ => None,
     }
-    assert_eq!(rt; code_of(alloc, b"{\"version\":1"), 1);
-    assert_eq!(rt; code_of(alloc, b""), 1);
-    assert_eq!(rt; code_of(alloc, b"\"\xff\""), 1);
-    assert_eq!(rt; code_of(alloc, b"null"), 10);
-    if let Err(fault) = read_plan(alloc, b"null") {
-        let text = format!(in alloc; "{fault}")?;
-        assert_eq!(rt; text.as_str(), "plan refused with code 10 at \"\"");
-    }
-    for (bytes, want) in [(128, 0), (129, 10)] {
-        let name = "n".repeat(alloc, bytes)?;
-        for old in ["\"x\"", "\"a\"", "\"t\""] {
-            let new = format!(in alloc; "\"{name}\"")?;
-            let document = GOOD.replace(alloc, old, new.as_str())?;
-            assert_eq!(rt;
-                code_of(alloc, document.as_bytes()),
-                want,
-                "{old} of {bytes} bytes"
-            );
-        }
-    }
-    Ok(())
 }

@@ -1,4 +1,4 @@
-ghost use Rattle.std.specs.Prelude.{◌≡◌, ◌≢◌, ◌<◌, ◌+◌, ◌-◌, ◌^◌, length, MatchResult, OnOk};
+ghost use Rattle.std.specs.Prelude.{◌≡◌, ◌≢◌, [], ◌<◌, ◌+◌, ◌-◌, ◌^◌, length, IfOk, MatchResult, OnOk};
 ghost use Rattle.csv.specs.Records.{fields_of};
 ghost use Rattle.csv_tables.specs.Places.{in_place, IsFaultOf};
 ghost use Rattle.csv_tables.specs.Fields.{value_of_field};
@@ -8,7 +8,7 @@ use crate::fault::{TOO_MANY_ROWS, TableFault, WRONG_WIDTH};
 use crate::field::{FieldFault, read_field};
 use crate::records::Records;
 use csv::ByteRecord;
-use sql_values::{Column, Row, RowList, SqlType, Value};
+use sql_values::{Column, Memory, Row, RowList, SqlType, Value};
 use std::alloc::Global;
 
 fn held_count(fields: usize) -> u32
@@ -85,19 +85,31 @@ fn read_row(
     Ok(Row::of(read_cells(alloc, columns, row, line)?))
 }
 
-/// The rows of the records that are still to come, each read into `line`.
+/// No rows yet, in columns of these types.
+pub(crate) fn empty_rows(alloc: Global, columns: &[Column]) -> Result<RowList, Memory>
+    ensures { IfOk result (λ rows. rows ≡ []) }
+{
+    let mut types = Vec::with_capacity(alloc, columns.len())?;
+    for column in columns {
+        types.push(column.kind)?;
+    }
+    RowList::of_types(alloc, types.as_slice())
+}
+
+/// The rows of the records that are still to come, each read into `line`, in an empty list.
 pub(crate) fn read_rows(
     alloc: Global,
     columns: &[Column],
     limit: u32,
     mut records: Records<'_>,
     mut line: ByteRecord,
+    mut rows: RowList,
 ) -> Result<RowList, TableFault>
+    requires empty { rows ≡ [] }
     requires limit { limit < 2 ^ 32 - 1 }
     requires columns { length columns.now < 2 ^ 32 }
     ensures { MatchResult result (λ rows. rows_from columns.now limit 1 records.entry ≡ Ok rows) (IsFaultOf (rows_from columns.now limit 1 records.entry)) }
 {
-    let mut rows = RowList::new(alloc);
     let mut place = 1;
     while records.next(&mut line)? {
         rows.push(read_row(alloc, columns, limit, place, &line)?)?;

@@ -4,7 +4,7 @@ ghost use Rattle.csv_tables.specs.Tables.{IsTable, TableRefusedFor};
 use crate::fault::{TableFault, WRONG_HEADER};
 use crate::header::header_difference;
 use crate::records::Records;
-use crate::rows::read_rows;
+use crate::rows::{empty_rows, read_rows};
 use csv::ByteRecord;
 use sql_values::{Column, Columns, Memory, Table};
 use std::alloc::Global;
@@ -53,7 +53,8 @@ pub fn read_table(
             why: WRONG_HEADER,
         });
     }
-    let rows = read_rows(alloc, columns, limit, records, line)?;
+    let empty = empty_rows(alloc, columns)?;
+    let rows = read_rows(alloc, columns, limit, records, line, empty)?;
     Ok(Table {
         columns: copy_columns(alloc, columns)?,
         rows,

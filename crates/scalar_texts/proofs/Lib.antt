@@ -6,4 +6,6 @@ pub mod Marks
 pub mod PrintedNumbers
 pub mod PrintedDecimals
 pub mod PrintedDates
+pub mod ShortNumbers
+pub mod PowerTable
 pub mod AsciiTexts

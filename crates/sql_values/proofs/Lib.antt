@@ -1,3 +1,6 @@
 pub mod OrderLemmas
+pub mod BlockLemmas
+pub mod RowListLemmas
+pub mod ColumnRowsLemmas
 pub mod HashLemmas
 pub mod TypeTextLemmas

@@ -1,5 +1,5 @@
 -- The text of a type names that type.
-use Rattle.std.proofs.Common.{◌≡◌, ℕ, zero, suc, ◌+◌, ◌-◌, ◌^◌, ◌<◌, ◌≤◌, List, [], ◌∷◌, ◌++◌, length, length-append, append_assoc, take, drop, get_or, Option, Some, None, Bool, true, false, cond, ◌==◌, ◌&&◌, ◌||◌, nat_lt, nat_le, refl, ap, sym, ◌∙◌, arith, codes}
+use Rattle.std.proofs.Common.{◌≡◌, ℕ, zero, suc, ◌+◌, ◌-◌, ◌<◌, ◌≤◌, List, [], ◌∷◌, ◌++◌, length, length-append, append_assoc, take, drop, get_or, Some, None, true, cond, ◌==◌, ◌&&◌, nat_le, refl, ap, sym, ◌∙◌, arith, codes}
 use Rattle.std.specs.Fmt.{decimal}
 use Rattle.std.proofs.Math.Seq.{take-append_seam, drop-append-add}
 use Rattle.std.proofs.lemmas.Fmt.{decimal_is_IsNumeral_wide, length-decimal-le_wide, first_decimal, decimal_digit}
@@ -10,7 +10,7 @@ use Rattle.scalar_texts.proofs.PrintedNumbers.{decimal_read}
 use Rattle.sql_values.specs.declared.types.SqlType.{SqlType}
 use Rattle.sql_values.specs.declared.types.SqlType.TheVariants.{Boolean, Bigint, Decimal, Varchar, Date}
 use Rattle.sql_values.specs.Types.{IsType}
-use Rattle.sql_values.specs.TypeTexts.{plain_number_of, decimal_type, parameters_at, comma_in, parameters_of, decimal_type_text, type_of_text, type_text}
+use Rattle.sql_values.specs.TypeTexts.{plain_number_of, decimal_type, parameters_at, parameters_of, type_of_text, type_text}
 
 no_leading_zero : (n : ℕ) → 0 < n → n < 100 → plain_number_of (decimal n) ≡ number_of (decimal n)
 no_leading_zero n some few =

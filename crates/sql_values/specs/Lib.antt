@@ -1,7 +1,11 @@
 pub mod Cells
+pub mod Blocks
+pub mod Held
 pub mod Bags
 pub mod Texts
 pub mod Types
 pub mod TypeTexts
 pub mod Order
 pub mod Buckets
+pub mod ColumnRows
+pub mod RowLists

@@ -35,6 +35,12 @@ impl Row {
         self.values
     }
 
+    pub fn as_slice(&self) -> &[Value]
+        ensures { result.now ≡ self.now }
+    {
+        self.values.as_slice()
+    }
+
     /// How many values the row has.
     pub fn len(&self) -> usize
         ensures { result ≡ length self.now }

@@ -1,3 +1,5 @@
+ghost use Rattle.std.specs.Prelude.{◌≡◌, ◌↔◌, IsTrue};
+
 use crate::items::Items;
 use crate::text::Text;
 
@@ -13,6 +15,15 @@ pub enum SqlType {
     Varchar,
     /// Days of the calendar from 0001-01-01 to 9999-12-31.
     Date,
+}
+
+impl SqlType {
+    /// Whether the types are one and the same, digits and places after the point included.
+    pub fn same(self, other: SqlType) -> bool
+        ensures { IsTrue result ↔ (self ≡ other) }
+    {
+        self == other
+    }
 }
 
 /// A column of a table: its name and its type.

@@ -2,10 +2,10 @@
 use Rattle.std.proofs.Common.{◌≡◌, ◌⊎◌, inl, inr, ℕ, List, Option, Some, None, refl, sym, ◌∙◌, ap, subst}
 use Rattle.sql_values.specs.declared.value.Value.{Value}
 use Rattle.run_ports.specs.Reading.{AreBytesOf}
-use Rattle.plan_reader.specs.declared.plan.Plan.{Plan}
-use Rattle.plan_reader.specs.Plans.{IsPlan, RefusedFor}
+use Rattle.first_plans.specs.declared.plan.Plan.{Plan}
+use Rattle.first_plans.specs.Plans.{IsPlan, RefusedFor}
 use Rattle.csv_tables.specs.Tables.{IsTable}
-use Rattle.plan_reader.specs.declared.fault.PlanFault.TheVariants as plan_fault
+use Rattle.first_plans.specs.declared.fault.PlanFault.TheVariants as plan_fault
 use Rattle.trinorun.specs.Words.{Job}
 use Rattle.trinorun.specs.Answers.{Answered, IsComplete, row_limit, IsOtherTable, IsPlanAsked, IsTableAsked, JobAnswered, MetNoFault, PlanIsRefused, Seen, TableIsRefused, table_columns, table_name}
 use Rattle.trinorun.specs.declared.status.Status.{Status}

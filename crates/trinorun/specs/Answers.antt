@@ -7,11 +7,11 @@ use Rattle.sql_values.specs.declared.table.Table.{Table}
 use Rattle.run_ports.specs.Counts.{Rose}
 use Rattle.run_ports.specs.Reading.{AreBytesOf}
 use Rattle.run_ports.specs.Writing.{AppendsPrefix}
-use Rattle.plan_reader.specs.declared.fault.PlanFault.TheVariants as plan_fault
-use Rattle.plan_reader.specs.declared.plan.Plan.{Plan}
-use Rattle.plan_reader.specs.Plans.{IsPlan, RefusedFor}
-use Rattle.plan_reader.specs.Trees.{columns_of, tree_of, types_of}
-use Rattle.plan_reader.specs.Allowed.{Allows}
+use Rattle.first_plans.specs.declared.fault.PlanFault.TheVariants as plan_fault
+use Rattle.first_plans.specs.declared.plan.Plan.{Plan}
+use Rattle.first_plans.specs.Plans.{IsPlan, RefusedFor}
+use Rattle.first_plans.specs.Trees.{columns_of, tree_of, types_of}
+use Rattle.first_plans.specs.Allowed.{Allows}
 use Rattle.csv_tables.specs.Tables.{IsTable, TableRefusedFor}
 use Rattle.csv_tables.specs.ResultTexts.{result_text}
 use Rattle.csv_tables.specs.declared.fault.TableFault.TheVariants as table_fault

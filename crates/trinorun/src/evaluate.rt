@@ -1,9 +1,9 @@
 ghost use Rattle.std.specs.Prelude.{◌≡◌, ◌<◌, IfOk, [], length, map, slice_index_or};
 ghost use Rattle.sql_values.specs.Cells.{cut};
-ghost use Rattle.plan_reader.specs.Allowed.{Allows, table_rows};
+ghost use Rattle.first_plans.specs.Allowed.{Allows, table_rows};
 ghost use Rattle.trinorun.specs.Answers.{rows_of};
 
-use plan_reader::Tree;
+use first_plans::Tree;
 use sql_values::{Memory, Row, RowList, Table};
 use std::alloc::Global;
 

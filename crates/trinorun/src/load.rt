@@ -6,7 +6,7 @@ ghost use Rattle.trinorun.specs.Words.{asked};
 use crate::status::Status;
 use crate::words::Job;
 use csv_tables::{TableFault, read_table};
-use plan_reader::{Plan, PlanFault, read_plan};
+use first_plans::{Plan, PlanFault, read_plan};
 use run_ports::{FileFault, Files};
 use sql_values::{Column, Table, Text};
 use std::alloc::Global;

@@ -7,7 +7,7 @@ use crate::load::{load_plan, load_table};
 use crate::status::Status;
 use crate::words::{Job, read_words};
 use csv_tables::text_of;
-use plan_reader::{Plan, tree};
+use first_plans::{Plan, tree};
 use run_ports::{Courier, Files, Meet, Sink, write_whole};
 use sql_values::{Memory, Table, Text};
 use std::alloc::Global;

@@ -1,0 +1,166 @@
+ghost use Rattle.std.specs.Prelude.{◌≡◌, ◌-◌, ◌<◌, ◌≤◌, ◌↔◌, [], length, take, drop, map, slice_index_or, IsTrue, IfOk, All};
+ghost use Rattle.columns.specs.Present.{gather};
+ghost use Rattle.sql_values.specs.Cells.{cell, cut, value_of};
+ghost use Rattle.sql_values.specs.ColumnRows.{rows_of, kinds_of, common_length, AreFilled, fits_row};
+ghost use Rattle.col_pages.specs.Pages.{most_rows, blocks_of};
+
+use sql_values::{Block, ColumnRows, Memory, Row, RowList, SqlType, ValueRef};
+use std::alloc::Global;
+use std::marker::Model;
+
+/// The most rows that a page has.
+pub const MOST_ROWS: u32 = 8192;
+
+/// At most `MOST_ROWS` rows of some types, in columns.
+#[derive(Debug, Drop)]
+pub struct Page {
+    held: ColumnRows,
+}
+
+impl Model for Page {
+    ghost use Rattle.col_pages.specs.Pages.{TypedPage};
+
+    ghost Value = { TypedPage };
+
+    ghost use Rattle.col_pages.specs.Pages.{page_of, IsPage};
+
+    ghost view = { λ p. page_of p.held };
+
+    ghost invariant = { λ p. IsPage p.held };
+}
+
+impl Page {
+    /// The page of these rows, without a copy; a row that is only begun is forgotten.
+    pub fn of_columns(mut held: ColumnRows) -> Page
+        requires { length held.rows ≤ most_rows }
+        ensures { result ≡ record { types = held.types; rows = held.rows } }
+    {
+        held.forget_begun();
+        Page { held }
+    }
+
+    /// Joins columns of one length.
+    pub fn of_blocks(alloc: Global, blocks: Vec<Block>) -> Result<Page, Memory>
+        requires some { 0 < length blocks.items }
+        requires level { AreFilled (common_length blocks.items) 0 blocks.items }
+        requires few { common_length blocks.items ≤ most_rows }
+        ensures { IfOk result (λ p. p ≡ record { types = kinds_of blocks.items; rows = rows_of (common_length blocks.items) blocks.items }) }
+    {
+        Ok(Page::of_columns(ColumnRows::of_columns(alloc, blocks)?))
+    }
+
+    /// The columns, without taking memory.
+    pub fn into_blocks(self) -> Vec<Block>
+        ensures kinds { kinds_of result.items ≡ self.types }
+        ensures level { AreFilled (length self.rows) 0 result.items }
+        ensures rows { rows_of (length self.rows) result.items ≡ self.rows }
+    {
+        self.held.into_columns()
+    }
+
+    /// Cuts columns out of a list of rows, from one row up to, and without, another.
+    pub fn of_rows(
+        alloc: Global,
+        rows: &RowList,
+        types: &[SqlType],
+        columns: &[u32],
+        low: usize,
+        high: usize,
+    ) -> Result<Page, Memory>
+        requires some { 0 < length types.now }
+        requires beside { length types.now ≡ length columns.now }
+        requires order { low ≤ high }
+        requires within { high ≤ length rows.now }
+        requires few { high - low ≤ most_rows }
+        requires fits { All (λ row. IsTrue (fits_row types.now (cut columns.now row))) rows.now }
+        ensures { IfOk result (λ p. p ≡ record { types = types.now; rows = map (cut columns.now) (take (high - low) (drop low rows.now)) }) }
+    {
+        Page::of_blocks(alloc, blocks(alloc, rows, types, columns, low, high)?)
+    }
+
+    /// How many rows there are.
+    pub fn len(&self) -> u32
+        ensures len { result ≡ length self.now.rows }
+        ensures few { result ≤ most_rows }
+    {
+        self.held.len() as u32
+    }
+
+    pub fn is_empty(&self) -> bool
+        ensures { IsTrue result ↔ (self.now.rows ≡ []) }
+    {
+        self.len() == 0
+    }
+
+    pub fn types(&self) -> &[SqlType]
+        ensures types { result.now ≡ self.now.types }
+        ensures some { 0 < length self.now.types }
+    {
+        self.held.types()
+    }
+
+    /// The value in a column of the row at a place.
+    pub fn cell(&self, row: u32, column: u32) -> ValueRef<'_>
+        requires { row < length self.now.rows }
+        ensures { value_of result ≡ cell (slice_index_or self.now.rows row []) column }
+    {
+        self.held.cell(row as usize, column)
+    }
+
+    /// A copy of the row at a place.
+    pub fn row(&self, alloc: Global, at: u32) -> Result<Row, Memory>
+        requires { at < length self.now.rows }
+        ensures { IfOk result (λ r. r ≡ slice_index_or self.now.rows at []) }
+    {
+        self.held.row(alloc, at as usize)
+    }
+
+    pub fn copy(&self, alloc: Global) -> Result<Page, Memory>
+        ensures { IfOk result (λ p. p ≡ self.now) }
+    {
+        self.slice(alloc, 0, self.len())
+    }
+
+    /// The rows at the places, in the places' order.
+    pub fn select(&self, alloc: Global, positions: &[u32]) -> Result<Page, Memory>
+        requires within { All (λ p. p < length self.now.rows) positions.now }
+        requires few { length positions.now ≤ most_rows }
+        ensures { IfOk result (λ p. p ≡ record self.now { rows = gather self.now.rows [] positions.now }) }
+    {
+        Ok(Page {
+            held: self.held.select(alloc, positions)?,
+        })
+    }
+
+    /// The rows from one place up to, and without, another.
+    pub fn slice(&self, alloc: Global, from: u32, to: u32) -> Result<Page, Memory>
+        requires order { from ≤ to }
+        requires within { to ≤ length self.now.rows }
+        ensures { IfOk result (λ p. p ≡ record self.now { rows = take (to - from) (drop from self.now.rows) }) }
+    {
+        Ok(Page {
+            held: self.held.cut(alloc, from as usize, to as usize)?,
+        })
+    }
+}
+
+fn blocks(
+    alloc: Global,
+    rows: &RowList,
+    types: &[SqlType],
+    columns: &[u32],
+    low: usize,
+    high: usize,
+) -> Result<Vec<Block>, Memory>
+    requires beside { length types.now ≡ length columns.now }
+    requires order { low ≤ high }
+    requires within { high ≤ length rows.now }
+    requires fits { All (λ row. IsTrue (fits_row types.now (cut columns.now row))) rows.now }
+    ensures { IfOk result (λ v. v.items ≡ blocks_of types.now columns.now (take (high - low) (drop low rows.now))) }
+{
+    let mut blocks = Vec::with_capacity(alloc, columns.len())?;
+    for (place, column) in columns.iter().enumerate() {
+        blocks.push(rows.block(alloc, types[place], *column, low, high)?)?;
+    }
+    Ok(blocks)
+}

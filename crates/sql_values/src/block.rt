@@ -1,0 +1,238 @@
+ghost use Rattle.std.specs.Prelude.{◌≡◌, ◌-◌, ◌<◌, ◌≤◌, ◌↔◌, ◌++◌, [], if◌then◌else◌, length, take, drop, slice_index_or, IsTrue, IfOk, OnErr, All};
+ghost use Rattle.columns.specs.Present.{gather};
+ghost use Rattle.sql_values.specs.declared.value.Value.TheVariants as value_is;
+ghost use Rattle.sql_values.specs.Cells.{value_of};
+ghost use Rattle.sql_values.specs.Blocks.{fits, offered, with_cells};
+
+use crate::block_cells::{
+    bigint_or_null, boolean_or_null, date_or_null, decimal_or_null, push_bigint, push_boolean,
+    push_date, push_decimal, push_varchar, varchar_or_null,
+};
+use crate::memory::Memory;
+use crate::types::SqlType;
+use crate::value::{Value, ValueRef};
+use columns::{Nullable, Texts};
+use std::alloc::Global;
+use std::marker::Model;
+
+/// One column of cells of a type, any of which may be NULL.
+#[derive(Debug, Drop)]
+pub struct Block {
+    held: Held,
+}
+
+#[derive(Debug, Drop)]
+enum Held {
+    Boolean(Nullable<bool>),
+    Bigint(Nullable<i64>),
+    Decimal {
+        p: u8,
+        s: u8,
+        numbers: Nullable<i128>,
+    },
+    Varchar(Texts),
+    Date(Nullable<i32>),
+}
+
+impl Model for Block {
+    ghost use Rattle.sql_values.specs.Blocks.{TypedCells};
+
+    ghost Value = { TypedCells };
+
+    ghost use Rattle.sql_values.specs.Held.{typed};
+
+    ghost view = { λ b. typed b.held };
+}
+
+impl Block {
+    /// No cells, of a type.
+    pub fn new(alloc: Global, kind: SqlType) -> Block
+        ensures { result ≡ record { kind = kind; cells = [] } }
+    {
+        let held = match kind {
+            SqlType::Boolean => Held::Boolean(Nullable::new(alloc)),
+            SqlType::Bigint => Held::Bigint(Nullable::new(alloc)),
+            SqlType::Decimal { p, s } => Held::Decimal {
+                p,
+                s,
+                numbers: Nullable::new(alloc),
+            },
+            SqlType::Varchar => Held::Varchar(Texts::new(alloc)),
+            SqlType::Date => Held::Date(Nullable::new(alloc)),
+        };
+        Block { held }
+    }
+
+    /// The block of these values.
+    pub fn of_values(alloc: Global, kind: SqlType, values: &[Value]) -> Result<Block, Memory>
+        requires { All (λ v. IsTrue (fits kind v)) values.now }
+        ensures { IfOk result (λ b. b ≡ record { kind = kind; cells = values.now }) }
+    {
+        let mut block = Block::new(alloc, kind);
+        for value in values {
+            block.push(value.as_ref())?;
+        }
+        Ok(block)
+    }
+
+    pub fn kind(&self) -> SqlType
+        ensures { result ≡ self.now.kind }
+    {
+        match &self.held {
+            Held::Boolean(_) => SqlType::Boolean,
+            Held::Bigint(_) => SqlType::Bigint,
+            Held::Decimal { p, s, .. } => SqlType::Decimal { p: *p, s: *s },
+            Held::Varchar(_) => SqlType::Varchar,
+            Held::Date(_) => SqlType::Date,
+        }
+    }
+
+    /// How many cells there are.
+    #[tactic(auto, using(crate::proofs::BlockLemmas::blocks))]
+    pub fn len(&self) -> usize
+        ensures { result ≡ length self.now.cells }
+    {
+        match &self.held {
+            Held::Boolean(truths) => truths.len(),
+            Held::Bigint(numbers) => numbers.len(),
+            Held::Decimal { numbers, .. } => numbers.len(),
+            Held::Varchar(texts) => texts.len(),
+            Held::Date(days) => days.len(),
+        }
+    }
+
+    pub fn is_empty(&self) -> bool
+        ensures { IsTrue result ↔ (self.now.cells ≡ []) }
+    {
+        self.len() == 0
+    }
+
+    /// The cell at a place.
+    #[tactic(auto, using(crate::proofs::BlockLemmas::blocks))]
+    pub fn cell(&self, place: usize) -> ValueRef<'_>
+        requires { place < length self.now.cells }
+        ensures { value_of result ≡ slice_index_or self.now.cells place value_is.Null }
+    {
+        match &self.held {
+            Held::Boolean(truths) => boolean_or_null(truths.get(place)),
+            Held::Bigint(numbers) => bigint_or_null(numbers.get(place)),
+            Held::Decimal { numbers, .. } => decimal_or_null(numbers.get(place)),
+            Held::Varchar(texts) => varchar_or_null(texts.get(place)),
+            Held::Date(days) => date_or_null(days.get(place)),
+        }
+    }
+
+    /// Appends a value of the block's type, or answers false where it has another variant.
+    pub fn push(&mut self, value: ValueRef<'_>) -> Result<bool, Memory>
+        ensures taken { IfOk result (λ taken. taken ≡ fits self.old.kind (value_of value.entry)) }
+        ensures ok { IfOk result (λ taken. self.new ≡ with_cells self.old (offered taken self.old.cells (value_of value.entry))) }
+        ensures err { OnErr result (self.new ≡ self.old) }
+    {
+        match &mut self.held {
+            Held::Boolean(truths) => push_boolean(truths, value),
+            Held::Bigint(numbers) => push_bigint(numbers, value),
+            Held::Decimal { numbers, .. } => push_decimal(numbers, value),
+            Held::Varchar(texts) => push_varchar(texts, value),
+            Held::Date(days) => push_date(days, value),
+        }
+    }
+
+    /// Keeps the first cells, at most as many as `len`.
+    #[tactic(auto, using(crate::proofs::BlockLemmas::blocks))]
+    pub fn truncate(&mut self, len: usize)
+        ensures { self.new ≡ with_cells self.old (take len self.old.cells) }
+    {
+        match &mut self.held {
+            Held::Boolean(truths) => truths.truncate(len),
+            Held::Bigint(numbers) => numbers.truncate(len),
+            Held::Decimal { numbers, .. } => numbers.truncate(len),
+            Held::Varchar(texts) => texts.truncate(len),
+            Held::Date(days) => days.truncate(len),
+        }
+    }
+
+    /// The cells from one place up to, and without, another.
+    #[tactic(auto, using(crate::proofs::BlockLemmas::blocks))]
+    pub fn cut(&self, alloc: Global, low: usize, high: usize) -> Result<Block, Memory>
+        requires order { low ≤ high }
+        requires within { high ≤ length self.now.cells }
+        ensures { IfOk result (λ b. b ≡ with_cells self.now (take (high - low) (drop low self.now.cells))) }
+    {
+        let held = match &self.held {
+            Held::Boolean(truths) => Held::Boolean(truths.cut(alloc, low, high)?),
+            Held::Bigint(numbers) => Held::Bigint(numbers.cut(alloc, low, high)?),
+            Held::Decimal { p, s, numbers } => Held::Decimal {
+                p: *p,
+                s: *s,
+                numbers: numbers.cut(alloc, low, high)?,
+            },
+            Held::Varchar(texts) => Held::Varchar(texts.cut(alloc, low, high)?),
+            Held::Date(days) => Held::Date(days.cut(alloc, low, high)?),
+        };
+        Ok(Block { held })
+    }
+
+    /// The cells at the places, in the places' order.
+    #[tactic(auto, using(crate::proofs::BlockLemmas::blocks))]
+    pub fn select(&self, alloc: Global, places: &[u32]) -> Result<Block, Memory>
+        requires { All (λ p. p < length self.now.cells) places.now }
+        ensures { IfOk result (λ b. b ≡ with_cells self.now (gather self.now.cells value_is.Null places.now)) }
+    {
+        let held = match &self.held {
+            Held::Boolean(truths) => Held::Boolean(truths.select(alloc, places)?),
+            Held::Bigint(numbers) => Held::Bigint(numbers.select(alloc, places)?),
+            Held::Decimal { p, s, numbers } => Held::Decimal {
+                p: *p,
+                s: *s,
+                numbers: numbers.select(alloc, places)?,
+            },
+            Held::Varchar(texts) => Held::Varchar(texts.select(alloc, places)?),
+            Held::Date(days) => Held::Date(days.select(alloc, places)?),
+        };
+        Ok(Block { held })
+    }
+
+    pub fn copy(&self, alloc: Global) -> Result<Block, Memory>
+        ensures { IfOk result (λ b. b ≡ self.now) }
+    {
+        let held = match &self.held {
+            Held::Boolean(truths) => Held::Boolean(truths.copy(alloc)?),
+            Held::Bigint(numbers) => Held::Bigint(numbers.copy(alloc)?),
+            Held::Decimal { p, s, numbers } => Held::Decimal {
+                p: *p,
+                s: *s,
+                numbers: numbers.copy(alloc)?,
+            },
+            Held::Varchar(texts) => Held::Varchar(texts.copy(alloc)?),
+            Held::Date(days) => Held::Date(days.copy(alloc)?),
+        };
+        Ok(Block { held })
+    }
+
+    /// Appends the cells of another block, or answers false where it has another type.
+    #[tactic(auto, using(crate::proofs::BlockLemmas::joins))]
+    pub fn append(&mut self, other: &Block) -> Result<bool, Memory>
+        ensures same { IfOk result (λ taken. IsTrue taken ↔ (self.old.kind ≡ other.now.kind)) }
+        ensures ok { IfOk result (λ taken. self.new ≡ with_cells self.old (if taken then self.old.cells ++ other.now.cells else self.old.cells)) }
+        ensures err { OnErr result (self.new ≡ self.old) }
+    {
+        if !self.kind().same(other.kind()) {
+            return Ok(false);
+        }
+        match (&mut self.held, &other.held) {
+            (Held::Boolean(truths), Held::Boolean(others)) => truths.append(others)?,
+            (Held::Bigint(numbers), Held::Bigint(others)) => numbers.append(others)?,
+            (
+                Held::Decimal { numbers, .. },
+                Held::Decimal {
+                    numbers: others,
+                    ..
+                },
+            ) => numbers.append(others)?,
+            (Held::Varchar(texts), Held::Varchar(others)) => texts.append(others)?,
+            (Held::Date(days), Held::Date(others)) => days.append(others)?,
+            _ => return Ok(false),
+        }
+        Ok(true)
+    }
+}

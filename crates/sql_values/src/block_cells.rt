@@ -1,0 +1,120 @@
+ghost use Rattle.std.specs.Prelude.{◌≡◌, map, IfOk, OnErr};
+ghost use Rattle.std.specs.Option.{option_copied};
+ghost use Rattle.sql_values.specs.declared.types.SqlType.TheVariants as kind_is;
+ghost use Rattle.sql_values.specs.declared.value.Value.TheVariants as value_is;
+ghost use Rattle.sql_values.specs.Cells.{value_of};
+ghost use Rattle.sql_values.specs.Blocks.{fits, is_decimal, offered, or_null};
+
+use crate::memory::Memory;
+use crate::value::ValueRef;
+use columns::{Nullable, Texts};
+
+pub fn push_boolean(column: &mut Nullable<bool>, value: ValueRef<'_>) -> Result<bool, Memory>
+    ensures taken { IfOk result (λ taken. taken ≡ fits kind_is.Boolean (value_of value.entry)) }
+    ensures ok { IfOk result (λ taken. map (or_null value_is.Boolean) column.new ≡ offered taken (map (or_null value_is.Boolean) column.old) (value_of value.entry)) }
+    ensures err { OnErr result (column.new ≡ column.old) }
+{
+    match value {
+        ValueRef::Null => column.push(None)?,
+        ValueRef::Boolean(truth) => column.push(Some(truth))?,
+        _ => return Ok(false),
+    }
+    Ok(true)
+}
+
+pub fn push_bigint(column: &mut Nullable<i64>, value: ValueRef<'_>) -> Result<bool, Memory>
+    ensures taken { IfOk result (λ taken. taken ≡ fits kind_is.Bigint (value_of value.entry)) }
+    ensures ok { IfOk result (λ taken. map (or_null value_is.Bigint) column.new ≡ offered taken (map (or_null value_is.Bigint) column.old) (value_of value.entry)) }
+    ensures err { OnErr result (column.new ≡ column.old) }
+{
+    match value {
+        ValueRef::Null => column.push(None)?,
+        ValueRef::Bigint(number) => column.push(Some(number))?,
+        _ => return Ok(false),
+    }
+    Ok(true)
+}
+
+pub fn push_decimal(column: &mut Nullable<i128>, value: ValueRef<'_>) -> Result<bool, Memory>
+    ensures taken { IfOk result (λ taken. taken ≡ is_decimal (value_of value.entry)) }
+    ensures ok { IfOk result (λ taken. map (or_null value_is.Decimal) column.new ≡ offered taken (map (or_null value_is.Decimal) column.old) (value_of value.entry)) }
+    ensures err { OnErr result (column.new ≡ column.old) }
+{
+    match value {
+        ValueRef::Null => column.push(None)?,
+        ValueRef::Decimal(unscaled) => column.push(Some(unscaled))?,
+        _ => return Ok(false),
+    }
+    Ok(true)
+}
+
+pub fn push_varchar(column: &mut Texts, value: ValueRef<'_>) -> Result<bool, Memory>
+    ensures taken { IfOk result (λ taken. taken ≡ fits kind_is.Varchar (value_of value.entry)) }
+    ensures ok { IfOk result (λ taken. map (or_null value_is.Varchar) column.new ≡ offered taken (map (or_null value_is.Varchar) column.old) (value_of value.entry)) }
+    ensures err { OnErr result (column.new ≡ column.old) }
+{
+    match value {
+        ValueRef::Null => column.push(None)?,
+        ValueRef::Varchar(text) => column.push(Some(text))?,
+        _ => return Ok(false),
+    }
+    Ok(true)
+}
+
+pub fn push_date(column: &mut Nullable<i32>, value: ValueRef<'_>) -> Result<bool, Memory>
+    ensures taken { IfOk result (λ taken. taken ≡ fits kind_is.Date (value_of value.entry)) }
+    ensures ok { IfOk result (λ taken. map (or_null value_is.Date) column.new ≡ offered taken (map (or_null value_is.Date) column.old) (value_of value.entry)) }
+    ensures err { OnErr result (column.new ≡ column.old) }
+{
+    match value {
+        ValueRef::Null => column.push(None)?,
+        ValueRef::Date(day) => column.push(Some(day))?,
+        _ => return Ok(false),
+    }
+    Ok(true)
+}
+
+pub fn boolean_or_null(item: Option<bool>) -> ValueRef<'static>
+    ensures { value_of result ≡ or_null value_is.Boolean item }
+{
+    match item {
+        Some(truth) => ValueRef::Boolean(truth),
+        None => ValueRef::Null,
+    }
+}
+
+pub fn bigint_or_null(item: Option<i64>) -> ValueRef<'static>
+    ensures { value_of result ≡ or_null value_is.Bigint item }
+{
+    match item {
+        Some(number) => ValueRef::Bigint(number),
+        None => ValueRef::Null,
+    }
+}
+
+pub fn decimal_or_null(item: Option<i128>) -> ValueRef<'static>
+    ensures { value_of result ≡ or_null value_is.Decimal item }
+{
+    match item {
+        Some(unscaled) => ValueRef::Decimal(unscaled),
+        None => ValueRef::Null,
+    }
+}
+
+pub fn varchar_or_null(item: Option<&str>) -> ValueRef<'_>
+    ensures { value_of result ≡ or_null value_is.Varchar (option_copied item.entry) }
+{
+    match item {
+        Some(text) => ValueRef::Varchar(text),
+        None => ValueRef::Null,
+    }
+}
+
+pub fn date_or_null(item: Option<i32>) -> ValueRef<'static>
+    ensures { value_of result ≡ or_null value_is.Date item }
+{
+    match item {
+        Some(day) => ValueRef::Date(day),
+        None => ValueRef::Null,
+    }
+}

@@ -33,9 +33,12 @@ given_more : (verdict : Row → Verdict) (row : Row) (of : List Row) (x : Row) (
     → (v : Verdict) → verdict row ≡ v → given v (rows_given verdict of) ≡ x ∷ (a ++ b) → Begins verdict (row ∷ of) (x ∷ a)
 given_more verdict row of x a b later same (gives y) is h =
     let inner = later cc in
-    let first : y ≡ x = cc in
-    (row ∷ inner.0, inner.1, ap (λ rows. row ∷ rows) inner.2,
-    ap (λ v. given v (rows_given verdict inner.0)) is ∙ ap (λ z. z ∷ rows_given verdict inner.0) first ∙ ap (λ rows. x ∷ rows) inner.3)
+    let first : y ≡ x = cc in (
+      row ∷ inner.0,
+      inner.1,
+      ap (λ rows. row ∷ rows) inner.2,
+      ap (λ v. given v (rows_given verdict inner.0)) is ∙ ap (λ z. z ∷ rows_given verdict inner.0) first ∙ ap (λ rows. x ∷ rows) inner.3,
+    )
 given_more verdict row of x a b later same drops is h =
     let inner = same h in
     (row ∷ inner.0, inner.1, ap (λ rows. row ∷ rows) inner.2, ap (λ v. given v (rows_given verdict inner.0)) is ∙ inner.3)

@@ -81,9 +81,15 @@ fn reads_a_plan(rt: HostRuntime) -> Result<(), Fail> {
     }
     let tree = tree(alloc, &plan)?;
     let types = tree.types(alloc)?;
-    assert_eq!(rt; types.as_slice(), [SqlType::Bigint, SqlType::Varchar].as_slice());
+    assert_eq!(rt;
+        types.as_slice(),
+        [SqlType::Bigint, SqlType::Varchar].as_slice()
+    );
     let name = shape_of(alloc, &tree)?;
-    assert_eq!(rt; name.as_str(), "project 3 of 2 over filter 2 over scan 1 of table 1");
+    assert_eq!(rt;
+        name.as_str(),
+        "project 3 of 2 over filter 2 over scan 1 of table 1"
+    );
     Ok(())
 }
 

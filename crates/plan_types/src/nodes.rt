@@ -21,7 +21,9 @@ pub fn type_node(alloc: Global, path: &[Step], node: &Node) -> Result<Vec<SqlTyp
     match node {
         Node::Scan { types, .. } => Ok(Vec::from_slice(alloc, types.as_slice())?),
         Node::Filter {
-            predicate, input, ..
+            predicate,
+            input,
+            ..
         } => {
             let inner = then(alloc, path, Step::Key(Key::Input))?;
             let types = type_node(alloc, inner.as_slice(), input)?;

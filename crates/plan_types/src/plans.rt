@@ -39,21 +39,14 @@ fn type_root(alloc: Global, plan: &Plan) -> Result<Vec<SqlType>, TypeFault>
 }
 
 /// The result has as many names as columns.
-fn name_types(
-    alloc: Global,
-    names: &[Text],
-    types: Vec<SqlType>,
-) -> Result<Vec<SqlType>, TypeFault>
+fn name_types(alloc: Global, names: &[Text], types: Vec<SqlType>) -> Result<Vec<SqlType>, TypeFault>
     ensures { MatchResult result (λ found. named_by names.now types.items ≡ Ok found.items)
         (FailsAt (named_by names.now types.items)) }
 {
     if names.len() == types.len() {
         Ok(types)
     } else {
-        Err(TypeFault::At(Vec::from_slice(
-            alloc,
-            [Step::Key(Key::Output)].as_slice(),
-        )?))
+        Err(TypeFault::At(Vec::from_slice(alloc, [Step::Key(Key::Output)].as_slice())?))
     }
 }
 

@@ -1,7 +1,6 @@
 -- Days counted from 1 January of the year 1, and the calendar's day numbers.
-use Rattle.std.proofs.Common.{◌≡◌, ℕ, zero, suc, ◌+◌, ◌*◌, ◌^◌, ◌<◌, ◌≤◌, List, [], ◌∷◌, length, Option, Some, None, option_and_then, option_map, Bool, true, false, cond, nat_lt, refl, ap, sym, ◌∙◌, arith, subst, Result, OnErr, inl, inr, ℤ, pos, negsuc, neg_ℤ, ◌+ℤ◌, ◌≤ℤ◌, unsigned_abs}
+use Rattle.std.proofs.Common.{◌≡◌, ℕ, zero, suc, ◌+◌, ◌<◌, ◌≤◌, List, [], Some, None, Bool, true, false, cond, nat_lt, refl, ap, sym, ◌∙◌, arith, subst, Result, OnErr, inl, inr, ℤ, pos, negsuc, neg_ℤ, ◌+ℤ◌, ◌≤ℤ◌, unsigned_abs}
 use Rattle.std.proofs.lemmas.Bool.{ltb-true, ltb-false, cases_order}
-use Rattle.std.proofs.lemmas.Grind.{pow_more}
 use Rattle.std.proofs.lemmas.Bool.Decides.{nat_tests}
 use Rattle.jiff_core.specs.Calendar.{days_in_month, day_of_year, day_count, days_from_civil, IsDate}
 use Rattle.jiff_core.specs.Date.{epoch_day}
@@ -10,39 +9,8 @@ use Rattle.jiff_core.proofs.SignedLemmas.{signed_arith}
 use Rattle.jiff_core.proofs.CalendarLemmas.{days_from_civil-day_count, day_count-day, day_count-next_month, day_count-next_year, day_count-last_of_year, day_count-later_year, day_count-day_of_year, day_count-end, days_in_month_bounds}
 use Rattle.jiff_core.proofs.MarchLemmas.{day_count-early}
 use Rattle.jiff_core.proofs.DateLemmas.{epoch_day_injective}
-use Rattle.scalar_texts.specs.Numbers.{digit_of, digits_after, number_of, below}
 use Rattle.scalar_texts.specs.Dates.{CalendarDay, is_day, day_number, nth_day, calendar_day, day_text, has_date, date_text}
 use Rattle.scalar_texts.specs.Appends.{AppendsStart}
-use Rattle.scalar_texts.proofs.DigitLemmas.{below-some}
-use Rattle.scalar_texts.proofs.DecimalLemmas.{ten-mono}
-
--- a number of few digits is small
-
-digit_small : (b d : ℕ) → digit_of b ≡ Some d → d < 10
-digit_small b d h = grind (arith, nat_tests)
-
--- k digits and those after them write a number of as many digits
-digits_small : (k n j : ℕ) (ds : List ℕ) (m : ℕ) → j ≡ k + length ds → n < 10 ^ k → digits_after n ds ≡ Some m → m < 10 ^ j
-digits_small k n j [] m e h =
-    λ p.
-    let same : n ≡ m = cc in
-    let f : 10 ^ j ≡ 10 ^ k = ap (λ x. 10 ^ x) (omega arith) in
-    omega arith
-digits_small k n j (b ∷ bs) m e h =
-    elim (digit_of b) as (λ o. ((d : ℕ) → o ≡ Some d → d < 10) → option_and_then (λ m. digits_after m bs) (option_map (λ d. n * 10 + d) o) ≡ Some m → m < 10 ^ j) [
-      | None ↦ λ small p. cc
-      | Some d ↦ λ small p. digits_small (k + 1) (n * 10 + d) j bs m (omega arith) (omega (arith, small d refl, pow_more 10 k)) p
-    ] (digit_small b)
-
-short_by : (o : Option ℕ) → ((n : ℕ) → o ≡ Some n → n < 2 ^ 64) → option_and_then (below (2 ^ 64)) o ≡ o
-short_by None h = refl
-short_by (Some n) h = below-some (2 ^ 64) n (h n refl)
-
-pub short_number_is : (ds : List ℕ) → length ds < 19 → option_and_then (below (2 ^ 64)) (number_of ds) ≡ number_of ds
-short_number_is [] h = refl
-short_number_is (b ∷ bs) h = short_by (number_of (b ∷ bs)) (λ n e. omega (arith, digits_small 0 0 (length (b ∷ bs)) (b ∷ bs) n (omega arith) (omega arith) e, ten-mono (length (b ∷ bs)) 18 (omega arith)))
-
-pub ruleset short = (short_number_is)
 
 -- the day n days after 1 January of the year 1 is a day of the calendar, with that many days before it
 pub record IsNth (n : ℕ) (d : CalendarDay) : Type 0 where

@@ -10,11 +10,6 @@ use Rattle.scalar_texts.proofs.DigitLemmas.{below-none, le-from_none, same-from_
 pub ten-mono : (i k : ℕ) → i ≤ k → 10 ^ i ≤ 10 ^ k
 ten-mono i k h = pow-le-pow_right {n = 10} (omega arith) {i = i} {j = k} h
 
-pub ten_in_range : (e : ℕ) → e ≤ 38 → 10 ^ e < 2 ^ 128
-ten_in_range e h = omega (arith, ten-mono e 38 h)
-
-pub ruleset powers = (ten_in_range)
-
 pub ten_pos : (e : ℕ) → 0 < 10 ^ e
 ten_pos e = one-le-pow e 10 (omega arith)
 
@@ -28,7 +23,7 @@ no_whole n s more small = sym (div-eq_of_lt (ten_large n s more small))
 pub all_fraction : (n s : ℕ) → 38 < s → n < 2 ^ 128 → n ≡ n % 10 ^ s
 all_fraction n s more small = sym (mod-eq_of_lt (ten_large n s more small))
 
-pub ruleset parting = (ten_in_range, ten_pos, no_whole, all_fraction)
+pub ruleset parting = (ten_pos, no_whole, all_fraction)
 
 scale-mono : (n i k : ℕ) → i ≤ k → n * 10 ^ i ≤ n * 10 ^ k
 scale-mono n i k h = mul-le-mul_left n (ten-mono i k h)

@@ -1,6 +1,5 @@
 -- A decimal that was printed reads as that decimal.
-use Rattle.std.proofs.Common.{◌≡◌, ℕ, zero, suc, ◌+◌, ◌*◌, ◌-◌, ◌/◌, ◌%◌, ◌^◌, ◌<◌, ◌≤◌, min, List, [], ◌∷◌, ◌++◌, length, length-append, append-nil, drop, Option, Some, None, option_and_then, option_map, true, false, cond, not, ◌==◌, ◌&&◌, nat_lt, nat_le, ap, sym, subst, ◌∙◌, arith, add-one, ℤ, pos, negsuc, neg_ℤ, unsigned_abs}
-use Rattle.std.specs.List.{position_or_len}
+use Rattle.std.proofs.Common.{◌≡◌, ℕ, zero, suc, ◌+◌, ◌*◌, ◌-◌, ◌/◌, ◌%◌, ◌^◌, ◌<◌, ◌≤◌, min, List, [], ◌∷◌, ◌++◌, length, drop, Option, Some, None, option_and_then, option_map, true, false, cond, ◌==◌, ◌&&◌, nat_le, ap, sym, subst, ◌∙◌, arith, add-one, ℤ, pos, negsuc, neg_ℤ, unsigned_abs}
 use Rattle.std.specs.Fmt.{decimal}
 use Rattle.std.specs.Str.Parse.{IsNumeral, AllDigits}
 use Rattle.std.proofs.Math.Seq.{take-append_seam, drop-append-add}
@@ -11,31 +10,14 @@ use Rattle.std.proofs.lemmas.Bool.Decides.{nat_tests}
 use Rattle.scalar_texts.specs.Numbers.{digits_after, number_of, signed_of, only_if, padded}
 use Rattle.scalar_texts.specs.Decimals.{with_fraction, point_in, magnitude_at, magnitude_of, has_digits, decimal_of, pointed_text, magnitude_text, decimal_text}
 use Rattle.scalar_texts.proofs.DecimalLemmas.{ten-mono, ten_pos}
+use Rattle.scalar_texts.proofs.Marks.{no_mark, mark_at}
 use Rattle.scalar_texts.proofs.PrintedNumbers.{decimal_read, no_sign, padded_length, padded_read}
 
--- no digit is a point
-passes_digit : (c : ℕ) → 48 ≤ c → not (c == 46) ≡ true
-passes_digit c h = grind (arith, nat_tests)
-
-point_after : (ds rest : List ℕ) → AllDigits 10 ds → position_or_len (λ b. b == 46) (ds ++ rest) ≡ length ds + position_or_len (λ b. b == 46) rest
-point_after [] rest d = omega arith
-point_after (c ∷ cs) rest d =
-    let range = digit_from_value c d.0 in
-    ap (λ b. cond b (1 + position_or_len (λ x. x == 46) (cs ++ rest)) 0) (passes_digit c (omega arith)) ∙ omega (arith, point_after cs rest d.1)
-
-found_none : (n l : ℕ) → l ≤ n → cond (nat_lt n l) (Some n) None ≡ None
-found_none n l h = grind (arith, nat_tests)
-
-found_some : (n l : ℕ) → n < l → cond (nat_lt n l) (Some n) None ≡ Some n
-found_some n l h = grind (arith, nat_tests)
-
 no_point : (ds : List ℕ) → AllDigits 10 ds → point_in ds ≡ None
-no_point ds d = found_none _ _ (omega (arith, ap (position_or_len (λ x. x == 46)) (append-nil ds), point_after ds [] d))
+no_point = no_mark 46 (omega arith)
 
 point_at : (ds rest : List ℕ) → AllDigits 10 ds → point_in (ds ++ 46 ∷ rest) ≡ Some (length ds)
-point_at ds rest d =
-    let at : position_or_len (λ x. x == 46) (ds ++ 46 ∷ rest) ≡ length ds = omega (arith, point_after ds (46 ∷ rest) d) in
-    found_some _ _ (omega (arith, length-append ds (46 ∷ rest))) ∙ ap Some at
+point_at = mark_at 46 (omega arith)
 
 whole_back : (n : ℕ) → n < 10 ^ 64 → magnitude_of 0 (decimal n) ≡ Some n
 whole_back n h =

@@ -5,10 +5,8 @@ ghost use Rattle.scalar_texts.specs.Decimals.{decimal_of, decimal_text, has_digi
 
 use crate::append::{append_number, append_padded};
 use crate::digits::{digits_after, wide_number};
+use crate::powers::{MOST_DIGITS, power_of_ten};
 use std::alloc::AllocError;
-
-/// The greatest number of digits of a decimal.
-const MOST_DIGITS: u8 = 38;
 
 /// The first magnitude that has more digits.
 const TOO_LARGE: u128 = 100_000_000_000_000_000_000_000_000_000_000_000_000;
@@ -26,12 +24,10 @@ pub fn read_decimal(p: u8, s: u8, text: &[u8]) -> Option<i128>
     }
 }
 
-#[tactic(auto, using(crate::proofs::DecimalLemmas::powers))]
 fn with_digits(p: u8, unscaled: i128) -> Option<i128>
     ensures { result ≡ only_if (has_digits p) unscaled }
 {
-    let limit = 10u128.pow(u32::from(p.min(MOST_DIGITS)));
-    if unscaled.unsigned_abs() < limit {
+    if unscaled.unsigned_abs() < power_of_ten(p.min(MOST_DIGITS)) {
         Some(unscaled)
     } else {
         None
@@ -128,7 +124,7 @@ fn parts(s: u8, magnitude: u128) -> (u128, u128)
     if s > MOST_DIGITS {
         return (0, magnitude);
     }
-    let one = 10u128.pow(u32::from(s));
+    let one = power_of_ten(s);
     (magnitude / one, magnitude % one)
 }
 

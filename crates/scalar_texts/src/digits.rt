@@ -17,7 +17,7 @@ pub fn number(digits: &[u8]) -> Option<u64>
 }
 
 /// The number of one or more digits, of which there are few enough for 64 bits.
-#[tactic(auto, using(crate::proofs::DateLemmas::short))]
+#[tactic(auto, using(crate::proofs::ShortNumbers::short))]
 pub fn short_number(digits: &[u8]) -> Option<u64>
     requires { length digits.now < 19 }
     ensures { result ≡ number_of digits.now }
@@ -35,11 +35,15 @@ fn with_digit(number: u64, byte: u8) -> Option<u64>
 }
 
 /// The number of one or more digits, within 128 bits.
+#[tactic(auto, using(crate::proofs::ShortNumbers::short))]
 pub fn wide_number(digits: &[u8]) -> Option<u128>
     ensures { result ≡ option_and_then (below (2 ^ 128)) (number_of digits.now) }
 {
     if digits.is_empty() {
         return None;
+    }
+    if digits.len() < 19 {
+        return Some(u128::from(short_number(digits)?));
     }
     digits_after(0, digits)
 }

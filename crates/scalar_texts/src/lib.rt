@@ -1,11 +1,12 @@
-//! The texts of whole numbers, decimals and dates: what is accepted, and what is printed.
+//! The texts of booleans, whole numbers, decimals and dates: what is accepted, and what is
+//! printed.
 //!
 //! Each reader equals its definition, and each printer appends the text of its definition:
-//! `specs/Numbers.antt`, `specs/Decimals.antt`, `specs/Dates.antt`. Where memory was wanting a
+//! `specs/Booleans.antt`, `specs/Numbers.antt`, `specs/Decimals.antt`, `specs/Dates.antt`. Where memory was wanting a
 //! printer has appended a beginning of the text. What is printed reads back as the same number.
 //!
-//! - `digits`: numbers of digits without a sign
-//! - `bigint`, `decimal`, `date`: a reader and a printer each
+//! - `boolean`, `bigint`, `decimal`, `date`: a reader and a printer each, and the law that ties them
+//! - `digits`, `powers`, `append`: what they are made of
 #![tactic(auto)]
 
 mod append;
@@ -14,6 +15,7 @@ mod boolean;
 mod date;
 mod decimal;
 mod digits;
+mod powers;
 #[cfg(test)]
 mod tests;
 
@@ -22,3 +24,4 @@ pub use boolean::{boolean_reads_back, print_boolean, read_boolean};
 pub use date::{FIRST_DAY, LAST_DAY, date_reads_back, print_date, read_date};
 pub use decimal::{decimal_reads_back, print_decimal, read_decimal};
 pub use digits::{number as read_number, short_number as read_short_number};
+pub use powers::{MOST_DIGITS, power_of_ten};

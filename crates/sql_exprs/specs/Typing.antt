@@ -56,8 +56,8 @@ abbrev mutual
   branch_types columns path i last = Ok []
   branch_types columns path i (branch test result rest) =
       typed_then (form_type columns (under (under path (step.Place i)) step.When) test)
-        (λ t. typed_then (form_type columns (under (under path (step.Place i)) step.Then) result)
-          (λ r. typed_then (branch_types columns path (i + 1) rest) (λ bs. Ok (record { test = t; result = r } ∷ bs))))
+      (λ t. typed_then (form_type columns (under (under path (step.Place i)) step.Then) result)
+      (λ r. typed_then (branch_types columns path (i + 1) rest) (λ bs. Ok (record { test = t; result = r } ∷ bs))))
 
 -- of lists of expressions
 abbrev pub arg_types : List SqlType → Path → ℕ → List Expr → Result (List SqlType) Path

@@ -11,12 +11,19 @@ use crate::cells::Cells;
 use crate::expr::{Branch, Expr};
 use crate::held::Held;
 use crate::kinds::kind_of;
-use sql_functions::{CallName, binary, cast, is_false, is_null, is_true, truth_and, truth_or, unary};
+use sql_functions::{
+    CallName, binary, cast, is_false, is_null, is_true, truth_and, truth_or, unary,
+};
 use sql_values::{EvalFault, Row, SqlType, Value, ValueRef};
 use std::alloc::Global;
 
 /// The value of an expression on a row whose columns have the types.
-pub fn eval_row(alloc: Global, expr: &Expr, types: &[SqlType], row: &Row) -> Result<Value, EvalFault>
+pub fn eval_row(
+    alloc: Global,
+    expr: &Expr,
+    types: &[SqlType],
+    row: &Row,
+) -> Result<Value, EvalFault>
     ensures { MatchResult result (λ v. value_of types.now (form_view expr.now) row.now ≡ Ok v) (FailsBy (value_of types.now (form_view expr.now) row.now)) }
 {
     Ok(eval_cells(alloc, expr, types, row)?.into_value(alloc)?)

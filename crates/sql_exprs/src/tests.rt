@@ -4,30 +4,45 @@ use CallName::{
     Add, AddDays, And, Coalesce, Concat, Day, DaysBetween, Divide, Equal, GreaterEqual, IsDistinct,
     IsNull, Length, Less, Like, Modulo, Month, Multiply, Neg, Not, Or, Subtract, Unequal, Year,
 };
-use sql_values::{
-    EvalFault, Fail, Memory, Row, SqlType, Text, Value, parse_value, print_value,
-};
+use sql_values::{EvalFault, Fail, Memory, Row, SqlType, Text, Value, parse_value, print_value};
 use std::alloc::Global;
 
 const TRUTH: SqlType = SqlType::Boolean;
+
 const WHOLE: SqlType = SqlType::Bigint;
+
 const TEXT: SqlType = SqlType::Varchar;
+
 const DATE: SqlType = SqlType::Date;
 
 const DEC_1_0: SqlType = SqlType::Decimal { p: 1, s: 0 };
+
 const DEC_1_1: SqlType = SqlType::Decimal { p: 1, s: 1 };
+
 const DEC_2_0: SqlType = SqlType::Decimal { p: 2, s: 0 };
+
 const DEC_2_1: SqlType = SqlType::Decimal { p: 2, s: 1 };
+
 const DEC_3_1: SqlType = SqlType::Decimal { p: 3, s: 1 };
+
 const DEC_3_2: SqlType = SqlType::Decimal { p: 3, s: 2 };
+
 const DEC_4_1: SqlType = SqlType::Decimal { p: 4, s: 1 };
+
 const DEC_4_2: SqlType = SqlType::Decimal { p: 4, s: 2 };
+
 const DEC_4_3: SqlType = SqlType::Decimal { p: 4, s: 3 };
+
 const DEC_5_2: SqlType = SqlType::Decimal { p: 5, s: 2 };
+
 const DEC_12_2: SqlType = SqlType::Decimal { p: 12, s: 2 };
+
 const DEC_19_0: SqlType = SqlType::Decimal { p: 19, s: 0 };
+
 const DEC_20_1: SqlType = SqlType::Decimal { p: 20, s: 1 };
+
 const DEC_38_0: SqlType = SqlType::Decimal { p: 38, s: 0 };
+
 const DEC_38_38: SqlType = SqlType::Decimal { p: 38, s: 38 };
 
 /// NULL for the text NULL.
@@ -87,14 +102,49 @@ fn gives(alloc: Global, expr: &Expr, wanted: &str) -> Result<bool, Memory> {
 }
 
 const PAIRS: [(CallName, SqlType, &str, SqlType, &str, &str); 44] = [
-    (Add, WHOLE, "9223372036854775806", WHOLE, "1", "9223372036854775807"),
+    (
+        Add,
+        WHOLE,
+        "9223372036854775806",
+        WHOLE,
+        "1",
+        "9223372036854775807",
+    ),
     (Add, WHOLE, "9223372036854775807", WHOLE, "1", "OutOfRange"),
-    (Subtract, WHOLE, "-9223372036854775808", WHOLE, "1", "OutOfRange"),
-    (Multiply, WHOLE, "4294967296", WHOLE, "2147483648", "OutOfRange"),
-    (Multiply, WHOLE, "-4294967296", WHOLE, "2147483648", "-9223372036854775808"),
+    (
+        Subtract,
+        WHOLE,
+        "-9223372036854775808",
+        WHOLE,
+        "1",
+        "OutOfRange",
+    ),
+    (
+        Multiply,
+        WHOLE,
+        "4294967296",
+        WHOLE,
+        "2147483648",
+        "OutOfRange",
+    ),
+    (
+        Multiply,
+        WHOLE,
+        "-4294967296",
+        WHOLE,
+        "2147483648",
+        "-9223372036854775808",
+    ),
     (Divide, WHOLE, "7", WHOLE, "-2", "-3"),
     (Divide, WHOLE, "-7", WHOLE, "2", "-3"),
-    (Divide, WHOLE, "-9223372036854775808", WHOLE, "-1", "OutOfRange"),
+    (
+        Divide,
+        WHOLE,
+        "-9223372036854775808",
+        WHOLE,
+        "-1",
+        "OutOfRange",
+    ),
     (Divide, WHOLE, "1", WHOLE, "0", "DivisionByZero"),
     (Divide, WHOLE, "NULL", WHOLE, "0", "NULL"),
     (Modulo, WHOLE, "7", WHOLE, "-3", "1"),
@@ -105,9 +155,23 @@ const PAIRS: [(CallName, SqlType, &str, SqlType, &str, &str); 44] = [
     (Add, DEC_3_2, "1.25", DEC_2_0, "10", "11.25"),
     (Subtract, DEC_1_0, "1", DEC_4_2, "0.05", "0.95"),
     (Multiply, DEC_12_2, "100.00", DEC_5_2, "0.95", "95.0000"),
-    (Add, DEC_38_0, "99999999999999999999999999999999999999", DEC_1_0, "1", "OutOfRange"),
+    (
+        Add,
+        DEC_38_0,
+        "99999999999999999999999999999999999999",
+        DEC_1_0,
+        "1",
+        "OutOfRange",
+    ),
     (Add, DEC_38_0, "1", DEC_38_38, "0", "OutOfRange"),
-    (Multiply, DEC_38_0, "99999999999999999999999999999999999999", DEC_1_0, "2", "OutOfRange"),
+    (
+        Multiply,
+        DEC_38_0,
+        "99999999999999999999999999999999999999",
+        DEC_1_0,
+        "2",
+        "OutOfRange",
+    ),
     (Multiply, DEC_38_38, "0", DEC_1_1, "0", "no type"),
     (Add, WHOLE, "1", DEC_2_1, "1", "no type"),
     (Less, WHOLE, "1", WHOLE, "2", "true"),
@@ -115,7 +179,14 @@ const PAIRS: [(CallName, SqlType, &str, SqlType, &str, &str); 44] = [
     (Equal, DEC_3_1, "1.0", DEC_4_1, "1.0", "no type"),
     (Less, TEXT, "Z", TEXT, "a", "true"),
     (Less, TRUTH, "false", TRUTH, "true", "true"),
-    (GreaterEqual, DATE, "2024-02-29", DATE, "2024-03-01", "false"),
+    (
+        GreaterEqual,
+        DATE,
+        "2024-02-29",
+        DATE,
+        "2024-03-01",
+        "false",
+    ),
     (Unequal, TEXT, "a", TEXT, "A", "true"),
     (IsDistinct, WHOLE, "NULL", WHOLE, "NULL", "false"),
     (IsDistinct, WHOLE, "1", WHOLE, "NULL", "true"),
@@ -127,7 +198,14 @@ const PAIRS: [(CallName, SqlType, &str, SqlType, &str, &str); 44] = [
     (AddDays, DATE, "9999-12-31", WHOLE, "1", "OutOfRange"),
     (AddDays, DATE, "0001-01-01", WHOLE, "-1", "OutOfRange"),
     (AddDays, DATE, "2023-12-31", WHOLE, "-365", "2022-12-31"),
-    (AddDays, DATE, "1970-01-01", WHOLE, "9223372036854775807", "OutOfRange"),
+    (
+        AddDays,
+        DATE,
+        "1970-01-01",
+        WHOLE,
+        "9223372036854775807",
+        "OutOfRange",
+    ),
     (DaysBetween, DATE, "2024-01-01", DATE, "2025-01-01", "366"),
     (DaysBetween, DATE, "2025-01-01", DATE, "2024-01-01", "-366"),
     (Like, TEXT, "NULL", TEXT, "%", "NULL"),
@@ -137,7 +215,12 @@ const PAIRS: [(CallName, SqlType, &str, SqlType, &str, &str); 44] = [
 fn calls_of_two(rt: HostRuntime) -> Result<(), Memory> {
     let alloc = rt.alloc();
     for (name, left, a, right, b, wanted) in PAIRS {
-        let expr = binary(alloc, name, literal(alloc, left, a)?, literal(alloc, right, b)?)?;
+        let expr = binary(
+            alloc,
+            name,
+            literal(alloc, left, a)?,
+            literal(alloc, right, b)?,
+        )?;
         assert!(rt; gives(alloc, &expr, wanted)?, "{name:?} of {a} and {b}");
     }
     Ok(())
@@ -173,11 +256,21 @@ fn calls_of_one(rt: HostRuntime) -> Result<(), Memory> {
 const CASTS: [(SqlType, &str, SqlType, &str); 32] = [
     (WHOLE, "12", DEC_4_2, "12.00"),
     (WHOLE, "100", DEC_4_2, "OutOfRange"),
-    (WHOLE, "-9223372036854775808", DEC_19_0, "-9223372036854775808"),
+    (
+        WHOLE,
+        "-9223372036854775808",
+        DEC_19_0,
+        "-9223372036854775808",
+    ),
     (DEC_3_1, "2.5", WHOLE, "3"),
     (DEC_3_1, "-2.5", WHOLE, "-3"),
     (DEC_3_1, "2.4", WHOLE, "2"),
-    (DEC_20_1, "9223372036854775807.4", WHOLE, "9223372036854775807"),
+    (
+        DEC_20_1,
+        "9223372036854775807.4",
+        WHOLE,
+        "9223372036854775807",
+    ),
     (DEC_20_1, "9223372036854775807.5", WHOLE, "OutOfRange"),
     (DEC_38_0, "99999999999999999999", WHOLE, "OutOfRange"),
     (DEC_4_3, "0.125", DEC_3_2, "0.13"),
@@ -254,7 +347,12 @@ fn likes(rt: HostRuntime) -> Result<(), Memory> {
     let alloc = rt.alloc();
     for (text, pattern, wanted) in LIKES {
         let wanted = if wanted { "true" } else { "false" };
-        let expr = binary(alloc, Like, literal(alloc, TEXT, text)?, literal(alloc, TEXT, pattern)?)?;
+        let expr = binary(
+            alloc,
+            Like,
+            literal(alloc, TEXT, text)?,
+            literal(alloc, TEXT, pattern)?,
+        )?;
         assert!(rt; gives(alloc, &expr, wanted)?, "{text} like {pattern}");
     }
     Ok(())
@@ -271,7 +369,12 @@ fn truth(alloc: Global, letter: u8) -> Result<Expr, Memory> {
 }
 
 fn failing(alloc: Global) -> Result<Expr, Memory> {
-    binary(alloc, Divide, literal(alloc, WHOLE, "1")?, literal(alloc, WHOLE, "0")?)
+    binary(
+        alloc,
+        Divide,
+        literal(alloc, WHOLE, "1")?,
+        literal(alloc, WHOLE, "0")?,
+    )
 }
 
 #[test]

@@ -94,7 +94,12 @@ pub fn typed(alloc: Global, expr: &Expr, columns: &[SqlType]) -> Result<SqlType,
 
 /// The type of an expression that stands at a path.
 #[cycle(typing)]
-pub fn type_at(alloc: Global, columns: &[SqlType], path: &[Step], expr: &Expr) -> Result<SqlType, Misfit>
+pub fn type_at(
+    alloc: Global,
+    columns: &[SqlType],
+    path: &[Step],
+    expr: &Expr,
+) -> Result<SqlType, Misfit>
     ensures { MatchResult result (λ t. form_type columns.now path.now (form_view expr.now) ≡ Ok t) (MisfitAt (form_type columns.now path.now (form_view expr.now))) }
 {
     match expr {
@@ -122,7 +127,12 @@ pub fn type_at(alloc: Global, columns: &[SqlType], path: &[Step], expr: &Expr) -
 }
 
 #[cycle(typing)]
-fn arg_types(alloc: Global, columns: &[SqlType], path: &[Step], args: &[Expr]) -> Result<Vec<SqlType>, Misfit>
+fn arg_types(
+    alloc: Global,
+    columns: &[SqlType],
+    path: &[Step],
+    args: &[Expr],
+) -> Result<Vec<SqlType>, Misfit>
     ensures { MatchResult result (λ ts. arg_types columns.now path.now 0 args.now ≡ Ok ts.items) (MisfitAt (arg_types columns.now path.now 0 args.now)) }
 {
     let mut kinds = Vec::with_capacity(alloc, args.len())?;
@@ -134,7 +144,12 @@ fn arg_types(alloc: Global, columns: &[SqlType], path: &[Step], args: &[Expr]) -
 }
 
 #[cycle(typing)]
-fn branch_types(alloc: Global, columns: &[SqlType], path: &[Step], branches: &[Branch]) -> Result<Vec<BranchType>, Misfit>
+fn branch_types(
+    alloc: Global,
+    columns: &[SqlType],
+    path: &[Step],
+    branches: &[Branch],
+) -> Result<Vec<BranchType>, Misfit>
     ensures { MatchResult result (λ ts. all_branch_types columns.now path.now 0 branches.now ≡ Ok ts.items) (MisfitAt (all_branch_types columns.now path.now 0 branches.now)) }
 {
     let mut types = Vec::with_capacity(alloc, branches.len())?;
@@ -160,7 +175,12 @@ fn refused_at(alloc: Global, path: &[Step]) -> Misfit
     }
 }
 
-fn column_type(alloc: Global, columns: &[SqlType], path: &[Step], at: usize) -> Result<SqlType, Misfit>
+fn column_type(
+    alloc: Global,
+    columns: &[SqlType],
+    path: &[Step],
+    at: usize,
+) -> Result<SqlType, Misfit>
     ensures { MatchResult result (λ t. ok_or (slice_get columns.now at) path.now ≡ Ok t) (MisfitAt (ok_or (slice_get columns.now at) path.now)) }
 {
     match columns.get(at) {
@@ -169,7 +189,12 @@ fn column_type(alloc: Global, columns: &[SqlType], path: &[Step], at: usize) -> 
     }
 }
 
-fn call_row(alloc: Global, path: &[Step], name: CallName, kinds: &[SqlType]) -> Result<SqlType, Misfit>
+fn call_row(
+    alloc: Global,
+    path: &[Step],
+    name: CallName,
+    kinds: &[SqlType],
+) -> Result<SqlType, Misfit>
     ensures { MatchResult result (λ t. call_row path.now name kinds.now ≡ Ok t) (MisfitAt (call_row path.now name kinds.now)) }
 {
     if !takes_types(name, kinds) {
@@ -214,7 +239,12 @@ fn all_fit(other: SqlType, branches: &[BranchType]) -> bool
     true
 }
 
-fn case_row(alloc: Global, path: &[Step], branches: &[BranchType], other: SqlType) -> Result<SqlType, Misfit>
+fn case_row(
+    alloc: Global,
+    path: &[Step],
+    branches: &[BranchType],
+    other: SqlType,
+) -> Result<SqlType, Misfit>
     ensures { MatchResult result (λ t. case_row path.now branches.now other ≡ Ok t) (MisfitAt (case_row path.now branches.now other)) }
 {
     if !all_fit(other, branches) {

@@ -41,7 +41,7 @@ units_at s a = of_digits 38 (scaled (s - a.2) a.0)
 abbrev pub at_one_scale : (ℤ → ℤ → ℤ) → Parts → Parts → Outcome
 at_one_scale operation a b =
     from_units
-      (option_and_then (λ x. option_and_then (λ y. of_digits 38 (operation x y)) (units_at (max a.2 b.2) b)) (units_at (max a.2 b.2) a))
+    (option_and_then (λ x. option_and_then (λ y. of_digits 38 (operation x y)) (units_at (max a.2 b.2) b)) (units_at (max a.2 b.2) a))
 
 -- the exact sum
 abbrev pub decimal_sum : SqlType → SqlType → ℤ → ℤ → Outcome

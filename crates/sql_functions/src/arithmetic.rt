@@ -15,7 +15,12 @@ pub fn add(left: SqlType, a: ValueRef<'_>, right: SqlType, b: ValueRef<'_>) -> R
     }
 }
 
-pub fn subtract(left: SqlType, a: ValueRef<'_>, right: SqlType, b: ValueRef<'_>) -> Result<Value, Fail>
+pub fn subtract(
+    left: SqlType,
+    a: ValueRef<'_>,
+    right: SqlType,
+    b: ValueRef<'_>,
+) -> Result<Value, Fail>
     ensures { result ≡ difference_of left right (value_of a.entry) (value_of b.entry) }
 {
     match (a, b) {
@@ -25,7 +30,12 @@ pub fn subtract(left: SqlType, a: ValueRef<'_>, right: SqlType, b: ValueRef<'_>)
     }
 }
 
-pub fn multiply(left: SqlType, a: ValueRef<'_>, right: SqlType, b: ValueRef<'_>) -> Result<Value, Fail>
+pub fn multiply(
+    left: SqlType,
+    a: ValueRef<'_>,
+    right: SqlType,
+    b: ValueRef<'_>,
+) -> Result<Value, Fail>
     ensures { result ≡ product_of left right (value_of a.entry) (value_of b.entry) }
 {
     match (a, b) {

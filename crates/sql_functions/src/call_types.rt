@@ -52,10 +52,7 @@ fn is_number(kind: SqlType) -> bool
 pub fn can_cast(from: SqlType, to: SqlType) -> bool
     ensures { result ≡ can_cast from to }
 {
-    same_type(from, to)
-        || is_varchar(from)
-        || is_varchar(to)
-        || (is_number(from) && is_number(to))
+    same_type(from, to) || is_varchar(from) || is_varchar(to) || (is_number(from) && is_number(to))
 }
 
 fn sum_type(left: SqlType, right: SqlType) -> SqlType

@@ -104,7 +104,12 @@ fn to_decimal_type(p: u8, s: u8, from: SqlType, value: ValueRef<'_>) -> Result<V
 }
 
 /// The value of the first type as one of the second.
-pub fn cast(alloc: Global, from: SqlType, to: SqlType, value: ValueRef<'_>) -> Result<Value, EvalFault>
+pub fn cast(
+    alloc: Global,
+    from: SqlType,
+    to: SqlType,
+    value: ValueRef<'_>,
+) -> Result<Value, EvalFault>
     ensures { MatchResult result (λ v. cast_of from to (value_of value.entry) ≡ Ok v) (FailsBy (cast_of from to (value_of value.entry))) }
 {
     match (to, value) {

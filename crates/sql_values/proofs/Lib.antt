@@ -1,2 +1,6 @@
 pub mod OrderLemmas
+pub mod BlockLemmas
+pub mod RowListLemmas
+pub mod ColumnRowsLemmas
 pub mod HashLemmas
+pub mod TypeTextLemmas

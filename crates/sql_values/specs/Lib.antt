@@ -7,3 +7,5 @@ pub mod Types
 pub mod TypeTexts
 pub mod Order
 pub mod Buckets
+pub mod ColumnRows
+pub mod RowLists

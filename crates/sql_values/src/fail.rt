@@ -15,11 +15,6 @@ pub enum Fail {
     TextTooLong,
 }
 
-/// A decimal with more digits than its type has.
-#[derive(Clone, Copy, Debug, PartialEq, Eq, Error)]
-#[error("out of range")]
-pub struct OutOfRange;
-
 /// Why no value was found.
 #[derive(Clone, Copy, Debug, PartialEq, Eq, Error)]
 pub enum EvalFault {

@@ -6,6 +6,10 @@
 //! - `text`, `types`, `value`, `items`, `row`, `row_list`, `table`: the types. `specs/Cells.antt`
 //!   says what stands in a column of a row, `specs/Types.antt` which values have a type,
 //!   `specs/Bags.antt` what it means that two lists hold the same rows
+//! - `block`, `column_rows`: cells of one type in one vector with their nulls, and columns of one
+//!   length seen as their rows, by `specs/Blocks.antt` and `specs/ColumnRows.antt`. A list of rows
+//!   of known types keeps such columns (`RowList::of_types`, `RowBuilder`), and falls back to rows
+//!   where a row does not fit; nothing above can tell the two apart, but by their time
 //! - `value_texts`, `type_texts`: values and types as texts, by `specs/Texts.antt` and
 //!   `specs/TypeTexts.antt`; what is printed reads back as the value
 //! - `order`: rows by sort keys, by `specs/Order.antt`
@@ -13,6 +17,9 @@
 //! - `relational`, `fail`, `memory`: words that the crates above share
 #![tactic(auto)]
 
+mod block;
+mod block_cells;
+mod column_rows;
 mod fail;
 mod hash;
 mod items;
@@ -31,7 +38,10 @@ mod types;
 mod value;
 mod value_texts;
 
-pub use fail::{EvalFault, Fail, OutOfRange};
+pub use block::Block;
+pub use column_rows::ColumnRows;
+pub use decimals::{Decimal, OutOfRange};
+pub use fail::{EvalFault, Fail};
 pub use hash::bucket;
 pub use items::Items;
 pub use memory::Memory;
@@ -42,7 +52,7 @@ pub use row_builder::RowBuilder;
 pub use row_list::RowList;
 pub use table::Table;
 pub use text::Text;
-pub use type_texts::{parse_type, print_type};
+pub use type_texts::{parse_type, print_type, type_reads_back};
 pub use types::{Column, Columns, Names, Places, SqlType, Types};
 pub use value::{Value, ValueRef};
 pub use value_texts::{LONGEST_TEXT, ParseFault, parse_value, print_value, text_reads_back};

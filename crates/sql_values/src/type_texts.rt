@@ -1,5 +1,6 @@
 ghost use Rattle.std.specs.Prelude.{◌≡◌, ◌++◌, ◌<◌, length, Some, IfSome, OnOk, OnErr};
 ghost use Rattle.scalar_texts.specs.Appends.{AppendsStart};
+ghost use Rattle.sql_values.specs.Types.{IsType};
 ghost use Rattle.sql_values.specs.TypeTexts.{comma_in, decimal_type, decimal_type_of, decimal_type_text, parameters_of, parameters_text, plain_number_of, type_of_text, type_text};
 
 use crate::memory::Memory;
@@ -102,3 +103,10 @@ fn print_parameters(p: u8, s: u8, to: &mut Vec<u8>) -> Result<(), AllocError>
     to.push(b')')?;
     Ok(())
 }
+
+/// The law that a type which was printed reads back.
+#[tactic(auto, using(crate::proofs::TypeTextLemmas::type_back))]
+pub fn type_reads_back(kind: SqlType)
+    requires { IsType kind }
+    ensures { type_of_text (type_text kind) ≡ Some kind }
+{}

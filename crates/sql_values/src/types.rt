@@ -17,6 +17,15 @@ pub enum SqlType {
     Date,
 }
 
+impl SqlType {
+    /// Whether the types are one and the same, digits and places after the point included.
+    pub fn same(self, other: SqlType) -> bool
+        ensures { IsTrue result ↔ (self ≡ other) }
+    {
+        self == other
+    }
+}
+
 /// A column of a table: its name and its type.
 #[derive(Debug, Drop)]
 pub struct Column {

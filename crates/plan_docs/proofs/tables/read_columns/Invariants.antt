@@ -1,7 +1,0 @@
-use Rattle.std.proofs.Common.{◌≡◌, map, take}
-use Rattle.serde_json.specs.View.{view}
-use Rattle.plan_docs.specs.Tables.{column_of}
-use Rattle.plan_docs.proofs.tables.read_columns.Given as goal
-
-abbrev pub invariant-loop-entry : goal.invariant-loop-entry
-invariant-loop-entry l = l.columns ≡ map column_of (map view (take l.entry-index l.entries))

@@ -1,8 +1,10 @@
 //! `run` over the objects in memory: each row is a command line with its files, the status, and
 //! what was written.
+use crate::status::Status;
 use crate::top::run;
 use run_ports::{MemFiles, MemSink, NamedBytes, NoMeet, ReplayCourier};
 use sql_values::Text;
+use std::alloc::Global;
 use std::test::Fail;
 
 const TWO_COLUMNS: &str = "{\"version\":1,\"output\":[\"a\",\"c\"],\
@@ -140,30 +142,42 @@ const CASES: [Case; 21] = [
     (WORDS, ONE_COLUMN, "a\n", 0, 2, 1, "WriteFault", "a"),
 ];
 
+fn words_in(alloc: Global, line: &str) -> Result<Vec<Text>, Fail> {
+    let mut words = Vec::new(alloc);
+    for word in line.split_whitespace() {
+        words.push(Text::copy_of(alloc, word)?)?;
+    }
+    Ok(words)
+}
+
+fn named(alloc: Global, name: &str, text: &str) -> Result<NamedBytes, Fail> {
+    Ok(NamedBytes {
+        name: Text::copy_of(alloc, name)?,
+        bytes: Vec::from_slice(alloc, text.as_bytes())?,
+    })
+}
+
+fn files_of(alloc: Global, plan: &str, table: &str, failing: u32) -> Result<MemFiles, Fail> {
+    let mut held = Vec::new(alloc);
+    held.push(named(alloc, "p", plan)?)?;
+    held.push(named(alloc, "t", table)?)?;
+    Ok(MemFiles::new(held, Vec::from_slice(alloc, &[failing])?))
+}
+
+fn told(alloc: Global, status: &Status, answer: &str) -> Result<bool, Fail> {
+    let text = format!(in alloc; "{status:?}")?;
+    Ok(text.as_str() == answer)
+}
+
 #[test]
 fn answers_by_the_table(rt: HostRuntime) -> Result<(), Fail> {
     let alloc = rt.alloc();
     for (words, plan, table, failing_read, failing_write, most, answer, written) in CASES {
-        let mut line = Vec::new(alloc);
-        for word in words.split_whitespace() {
-            line.push(Text::copy_of(alloc, word)?)?;
-        }
-        let mut held = Vec::new(alloc);
-        for (name, text) in [("p", plan), ("t", table)] {
-            held.push(NamedBytes {
-                name: Text::copy_of(alloc, name)?,
-                bytes: Vec::from_slice(alloc, text.as_bytes())?,
-            })?;
-        }
-        let mut files = MemFiles::new(held, Vec::from_slice(alloc, &[failing_read])?);
-        let mut out = MemSink::new(
-            alloc,
-            1000,
-            most.max(1),
-            Vec::from_slice(alloc, &[failing_write])?,
-        )?;
+        let line = words_in(alloc, words)?;
+        let mut files = files_of(alloc, plan, table, failing_read)?;
+        let failing = Vec::from_slice(alloc, &[failing_write])?;
+        let mut out = MemSink::new(alloc, 1000, most.max(1), failing)?;
         let mut err = MemSink::new(alloc, 0, 1, Vec::new(alloc))?;
-        let courier = ReplayCourier::new();
         let status = run(
             &rt,
             alloc,
@@ -171,11 +185,10 @@ fn answers_by_the_table(rt: HostRuntime) -> Result<(), Fail> {
             &mut files,
             &mut out,
             &mut err,
-            &courier,
+            &ReplayCourier::new(),
             &NoMeet,
         );
-        let found = format!(in alloc; "{status:?}")?;
-        assert!(rt; found.as_str() == answer, "{words}: {found}");
+        assert!(rt; told(alloc, &status, answer)?, "{words}: {status:?}");
         assert!(rt; out.written() == written.as_bytes(), "{words}: {written}");
     }
     Ok(())

@@ -1,8 +1,9 @@
 //! The program: `run`, the top call, and `main`, which gives it the real world.
 //!
 //! What `run` promises is its contract, in the words of `specs/Answers.antt`: for every command line
-//! and all contents of files, status 0 means that what was written is the text of a list of rows
-//! that the plan's tree allows over its tables, and each other status has its cause.
+//! and all that the files tell, status 0 means that what was written is the text of a list of rows
+//! that the plan's tree allows over its tables, and each other status but want of memory has its
+//! cause.
 //!
 //! - `words`: the command line
 //! - `load`: the plan and its tables, from files

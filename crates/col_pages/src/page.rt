@@ -1,6 +1,6 @@
 ghost use Rattle.std.specs.Prelude.{◌≡◌, ◌-◌, ◌<◌, ◌≤◌, ◌↔◌, [], length, take, drop, map, slice_index_or, IsTrue, IfOk, All};
 ghost use Rattle.columns.specs.Present.{gather};
-ghost use Rattle.sql_values.specs.Cells.{cell, cut, value_of};
+ghost use Rattle.sql_values.specs.Cells.{cell, cut, lent_value};
 ghost use Rattle.sql_values.specs.ColumnRows.{rows_of, kinds_of, common_length, AreFilled, fits_row};
 ghost use Rattle.col_pages.specs.Pages.{most_rows, blocks_of};
 
@@ -102,7 +102,7 @@ impl Page {
     /// The value in a column of the row at a place.
     pub fn cell(&self, row: u32, column: u32) -> ValueRef<'_>
         requires { row < length self.now.rows }
-        ensures { value_of result ≡ cell (slice_index_or self.now.rows row []) column }
+        ensures { lent_value result ≡ cell (slice_index_or self.now.rows row []) column }
     {
         self.held.cell(row as usize, column)
     }

@@ -5,3 +5,4 @@ pub mod RowLemmas
 pub mod WriterLemmas
 pub mod CellLemmas
 pub mod ReadBackLemmas
+pub mod FitLemmas

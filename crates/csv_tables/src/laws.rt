@@ -1,20 +1,27 @@
-ghost use Rattle.std.specs.Prelude.{◌≡◌, ◌<◌, ◌≤◌, ◌^◌, List, ℕ, Ok, true, length, unsigned_abs};
+ghost use Rattle.std.specs.Prelude.{All, IsTrue, map, ◌≡◌, ◌<◌, ◌≤◌, ◌^◌, List, ℕ, Ok, true, length, unsigned_abs};
 ghost use Rattle.csv.specs.Reading.{AreRecords, default_config, strip_bom};
 ghost use Rattle.csv.specs.declared.parser.State.TheVariants as st;
 ghost use Rattle.csv_tables.specs.Fields.{field_text, value_of_field};
-ghost use Rattle.csv_tables.specs.Tables.{records_of};
-ghost use Rattle.sql_values.specs.Cells.{value_of};
+ghost use Rattle.csv_tables.specs.Tables.{IsTable, records_of};
+ghost use Rattle.sql_values.specs.ColumnRows.{fits_row};
+ghost use Rattle.sql_values.specs.Cells.{lent_value};
 ghost use Rattle.scalar_texts.specs.Dates.{has_date};
 ghost use Rattle.sql_values.specs.Texts.{longest_text};
 ghost use Rattle.sql_values.specs.Types.{HasType, IsType};
 ghost use Rattle.sql_values.specs.declared.types.SqlType.TheVariants as type;
 ghost use Rattle.sql_values.specs.declared.value.Value.TheVariants as value;
 
-use sql_values::{SqlType, ValueRef, text_reads_back};
+use sql_values::{Column, RowList, SqlType, ValueRef, text_reads_back};
 
 /// The law that a text has one list of records: those that `csv` reads from it.
 pub fn records_are_one(text: &[u8])
     ensures { (found : List (List (List ℕ))) → AreRecords default_config st.StartRecord (strip_bom text.now) found → records_of text.now ≡ found }
+{}
+
+/// The law that each row of a table has a value of the type of each column.
+pub fn rows_of_a_table_fit(columns: &[Column], limit: u32, bytes: &[u8], rows: &RowList)
+    requires { IsTable columns.now limit bytes.now rows.now }
+    ensures { All (λ row. IsTrue (fits_row (map (λ column. column.kind) columns.now) row)) rows.now }
 {}
 
 #[tactic(auto, using(crate::proofs::ReadBackLemmas::bigint_back))]
@@ -60,8 +67,8 @@ fn date_reads_back(day: i32)
 #[tactic(auto, using(crate::proofs::ReadBackLemmas::null_back))]
 pub fn field_reads_back(kind: SqlType, value: ValueRef<'_>)
     requires is_type { IsType kind }
-    requires has_type { HasType kind (value_of value) }
-    ensures { value_of_field kind (field_text kind (value_of value.entry)) ≡ Ok (value_of value.entry) }
+    requires has_type { HasType kind (lent_value value) }
+    ensures { value_of_field kind (field_text kind (lent_value value.entry)) ≡ Ok (lent_value value.entry) }
 {
     match (kind, value) {
         (_, ValueRef::Null) => {}

@@ -2,7 +2,7 @@ ghost use Rattle.std.specs.Prelude.{◌≡◌, ◌<◌, ◌-◌, ◌^◌, ◌∷
 ghost use Rattle.csv_tables.specs.Fields.{field_text};
 ghost use Rattle.csv_tables.specs.ResultTexts.{fields_from, record_text, result_text};
 ghost use Rattle.csv_tables.specs.Writers.{HasWritten};
-ghost use Rattle.sql_values.specs.Cells.{value_of};
+ghost use Rattle.sql_values.specs.Cells.{lent_value};
 
 use crate::field::NULL_FIELD;
 use csv::{Writer, WriterBuilder};
@@ -11,7 +11,7 @@ use std::alloc::Global;
 
 // Puts the field that stands for a cell in place of what `field` held.
 fn print_field(kind: SqlType, value: ValueRef<'_>, field: &mut Vec<u8>) -> Result<(), Memory>
-    ensures { OnOk result (field.new.items ≡ field_text kind (value_of value.entry)) }
+    ensures { OnOk result (field.new.items ≡ field_text kind (lent_value value.entry)) }
 {
     field.clear();
     match value {

@@ -1,5 +1,5 @@
 -- Powers of ten, as far as decimals use them, stay within 128 bits.
-use Rattle.std.proofs.Common.{ℕ, ◌≤◌, ◌<◌, ◌^◌, arith, lit<, lit≤}
+use Rattle.std.proofs.Common.{ℕ, ◌≤◌, ◌<◌, ◌^◌, arith, lit<}
 use Rattle.std.proofs.Math.Nat.{pow-le-pow_right}
 
 pub power_fits : (k : ℕ) → k ≤ 38 → 10 ^ k < 2 ^ 127

@@ -10,14 +10,20 @@ has_digits p z = nat_lt (nat_abs z) (10 ^ p)
 abbrev pub of_digits : ℕ → ℤ → Option ℤ
 of_digits p z = if has_digits p z then Some z else None
 
--- a decimal as its number, its precision and its scale
-abbrev pub parts_of : Decimal → ℤ × ℕ × ℕ
+-- a decimal as its unscaled number, its precision and its scale
+abbrev pub Parts : Type 0
+Parts = ℤ × ℕ × ℕ
+
+abbrev pub parts_of : Decimal → Parts
 parts_of d = (d.unscaled, d.p, d.s)
 
--- the parts of a decimal: a precision of 1 to 38, a scale within it, and no more digits
-abbrev pub checked_parts : ℤ → ℕ → ℕ → Option (ℤ × ℕ × ℕ)
-checked_parts z p s =
-    if nat_le 1 p && nat_le p 38 && nat_le s p && has_digits p z then Some (z, p, s) else None
+-- a precision of 1 to 38, and a scale within it
+abbrev pub is_decimal_type : ℕ → ℕ → Bool
+is_decimal_type p s = nat_le 1 p && nat_le p 38 && nat_le s p
+
+-- the parts of a decimal, where there is one of the number and the type
+abbrev pub checked_parts : ℤ → ℕ → ℕ → Option Parts
+checked_parts z p s = if is_decimal_type p s && has_digits p z then Some (z, p, s) else None
 
 -- the number with k more digits after the point
 abbrev pub scaled : ℕ → ℤ → ℤ
@@ -32,31 +38,35 @@ abbrev pub rounded : ℕ → ℤ → ℤ
 rounded k (pos n) = pos (rounded_quotient (10 ^ k) n)
 rounded k (negsuc n) = neg_ℤ (pos (rounded_quotient (10 ^ k) (n + 1)))
 
--- the type of a sum and of a difference
-abbrev pub sum_scale : Decimal → Decimal → ℕ
-sum_scale a b = max a.s b.s
+-- the type of a sum and of a difference, by those of both sides
+abbrev pub sum_scale : ℕ → ℕ → ℕ
+sum_scale s t = max s t
 
-abbrev pub sum_precision : Decimal → Decimal → ℕ
-sum_precision a b = min 38 (1 + sum_scale a b + max (a.p - a.s) (b.p - b.s))
+abbrev pub sum_precision : ℕ → ℕ → ℕ → ℕ → ℕ
+sum_precision p s q t = min 38 (1 + sum_scale s t + max (p - s) (q - t))
+
+-- the precision of a product, whose scale is the sum of the scales
+abbrev pub product_precision : ℕ → ℕ → ℕ
+product_precision p q = min 38 (p + q)
 
 -- the unscaled number at a scale that is at least its own, where it has at most 38 digits
-abbrev pub operand : ℕ → Decimal → Option ℤ
-operand s d = of_digits 38 (scaled (s - d.s) d.unscaled)
+abbrev pub operand : ℕ → Parts → Option ℤ
+operand s d = of_digits 38 (scaled (s - d.2) d.0)
 
 -- the unscaled sum: both operands at the scale of the result, and the result, have at most 38 digits
-abbrev pub sum_of : Decimal → Decimal → Option ℤ
+abbrev pub sum_of : Parts → Parts → Option ℤ
 sum_of a b =
-    option_and_then (λ x. option_and_then (λ y. of_digits 38 (x +ℤ y)) (operand (sum_scale a b) b)) (operand (sum_scale a b) a)
+    option_and_then (λ x. option_and_then (λ y. of_digits 38 (x +ℤ y)) (operand (sum_scale a.2 b.2) b)) (operand (sum_scale a.2 b.2) a)
 
-abbrev pub difference_of : Decimal → Decimal → Option ℤ
+abbrev pub difference_of : Parts → Parts → Option ℤ
 difference_of a b =
-    option_and_then (λ x. option_and_then (λ y. of_digits 38 (x +ℤ neg_ℤ y)) (operand (sum_scale a b) b)) (operand (sum_scale a b) a)
+    option_and_then (λ x. option_and_then (λ y. of_digits 38 (x +ℤ neg_ℤ y)) (operand (sum_scale a.2 b.2) b)) (operand (sum_scale a.2 b.2) a)
 
 -- the unscaled product, where it has at most 38 digits
-abbrev pub product_of : Decimal → Decimal → Option ℤ
-product_of a b = of_digits 38 (a.unscaled *ℤ b.unscaled)
+abbrev pub product_of : Parts → Parts → Option ℤ
+product_of a b = of_digits 38 (a.0 *ℤ b.0)
 
 -- the unscaled number at another scale, where it has at most p digits after rounding
-abbrev pub rescaled : Decimal → ℕ → ℕ → Option ℤ
+abbrev pub rescaled : Parts → ℕ → ℕ → Option ℤ
 rescaled d p s =
-    if nat_le d.s s then of_digits p (scaled (s - d.s) d.unscaled) else of_digits p (rounded (d.s - s) d.unscaled)
+    if nat_le d.2 s then of_digits p (scaled (s - d.2) d.0) else of_digits p (rounded (d.2 - s) d.0)

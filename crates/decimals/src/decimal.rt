@@ -29,7 +29,7 @@ pub struct Decimal {
 }
 
 impl Decimal {
-    ghost use Rattle.decimals.specs.Arithmetic.{checked_parts, parts_of, sum_of, sum_scale, sum_precision, difference_of, product_of, rescaled};
+    ghost use Rattle.decimals.specs.Arithmetic.{checked_parts, parts_of, sum_of, sum_scale, sum_precision, difference_of, product_of, product_precision, rescaled};
 
     /// The decimal of this number and type, if there is one.
     pub fn checked(unscaled: i128, p: u8, s: u8) -> Option<Decimal>
@@ -43,9 +43,9 @@ impl Decimal {
 
     /// The sum, with all the digits after the point that either side has.
     pub fn add(self, other: Decimal) -> Result<Decimal, OutOfRange>
-        ensures number { MatchResult result (λ d. sum_of self other ≡ Some d.unscaled) (λ _. sum_of self other ≡ None) }
-        ensures precision { IfOk result (λ d. d.p ≡ sum_precision self other) }
-        ensures scale { IfOk result (λ d. d.s ≡ sum_scale self other) }
+        ensures number { MatchResult result (λ d. sum_of (parts_of self) (parts_of other) ≡ Some d.unscaled) (λ _. sum_of (parts_of self) (parts_of other) ≡ None) }
+        ensures precision { IfOk result (λ d. d.p ≡ sum_precision self.p self.s other.p other.s) }
+        ensures scale { IfOk result (λ d. d.s ≡ sum_scale self.s other.s) }
     {
         match sum(self, other) {
             Some(unscaled) => Ok(Decimal {
@@ -59,9 +59,9 @@ impl Decimal {
 
     /// The difference, of the type that the sum has.
     pub fn sub(self, other: Decimal) -> Result<Decimal, OutOfRange>
-        ensures number { MatchResult result (λ d. difference_of self other ≡ Some d.unscaled) (λ _. difference_of self other ≡ None) }
-        ensures precision { IfOk result (λ d. d.p ≡ sum_precision self other) }
-        ensures scale { IfOk result (λ d. d.s ≡ sum_scale self other) }
+        ensures number { MatchResult result (λ d. difference_of (parts_of self) (parts_of other) ≡ Some d.unscaled) (λ _. difference_of (parts_of self) (parts_of other) ≡ None) }
+        ensures precision { IfOk result (λ d. d.p ≡ sum_precision self.p self.s other.p other.s) }
+        ensures scale { IfOk result (λ d. d.s ≡ sum_scale self.s other.s) }
     {
         match difference(self, other) {
             Some(unscaled) => Ok(Decimal {
@@ -76,8 +76,8 @@ impl Decimal {
     /// The product, with the digits after the point of both sides together.
     pub fn mul(self, other: Decimal) -> Result<Decimal, OutOfRange>
         requires { self.s + other.s ≤ 38 }
-        ensures number { MatchResult result (λ d. product_of self other ≡ Some d.unscaled) (λ _. product_of self other ≡ None) }
-        ensures precision { IfOk result (λ d. d.p ≡ min 38 (self.p + other.p)) }
+        ensures number { MatchResult result (λ d. product_of (parts_of self) (parts_of other) ≡ Some d.unscaled) (λ _. product_of (parts_of self) (parts_of other) ≡ None) }
+        ensures precision { IfOk result (λ d. d.p ≡ product_precision self.p other.p) }
         ensures scale { IfOk result (λ d. d.s ≡ self.s + other.s) }
     {
         match product(self, other) {
@@ -107,7 +107,7 @@ impl Decimal {
     pub fn rescale(self, p: u8, s: u8) -> Result<Decimal, OutOfRange>
         requires precision { (1 ≤ p) × (p ≤ 38) }
         requires scale { s ≤ p }
-        ensures number { MatchResult result (λ d. rescaled self p s ≡ Some d.unscaled) (λ _. rescaled self p s ≡ None) }
+        ensures number { MatchResult result (λ d. rescaled (parts_of self) p s ≡ Some d.unscaled) (λ _. rescaled (parts_of self) p s ≡ None) }
         ensures kind { IfOk result (λ d. (d.p ≡ p) × (d.s ≡ s)) }
     {
         match at_scale(self, p, s) {

@@ -1,12 +1,12 @@
 ghost use Rattle.std.specs.Prelude.{◌≡◌, ℤ, ◌+◌, ◌≤◌, Some, min, nat_abs, ◌<◌, ◌^◌};
-ghost use Rattle.decimals.specs.Arithmetic.{difference_of, operand, product_of, rescaled, sum_of, sum_precision, sum_scale};
+ghost use Rattle.decimals.specs.Arithmetic.{difference_of, operand, parts_of, product_of, product_precision, rescaled, sum_of, sum_precision, sum_scale};
 
 use crate::decimal::Decimal;
 use crate::digits::{fitting, rounded, scaled};
 
 /// The precision of a sum and of a difference.
 pub fn sum_digits(a: Decimal, b: Decimal) -> u8
-    ensures { result ≡ sum_precision a b }
+    ensures { result ≡ sum_precision a.p a.s b.p b.s }
 {
     let whole = (a.p - a.s).max(b.p - b.s);
     (1 + a.s.max(b.s) + whole).min(38)
@@ -15,15 +15,15 @@ pub fn sum_digits(a: Decimal, b: Decimal) -> u8
 /// The unscaled number at a scale that is at least its own.
 fn at_sum_scale(d: Decimal, s: u8) -> Option<i128>
     requires { (d.s ≤ s) × (s ≤ 38) }
-    ensures { result ≡ operand s d }
+    ensures { result ≡ operand s (parts_of d) }
 {
     scaled(d.unscaled, s - d.s, 38)
 }
 
 #[tactic(auto, using(crate::proofs::RangeLemmas::sum_in_range))]
 pub fn sum(a: Decimal, b: Decimal) -> Option<i128>
-    ensures number { result ≡ sum_of a b }
-    ensures digits { (z : ℤ) → result ≡ Some z → nat_abs z < 10 ^ sum_precision a b }
+    ensures number { result ≡ sum_of (parts_of a) (parts_of b) }
+    ensures digits { (z : ℤ) → result ≡ Some z → nat_abs z < 10 ^ sum_precision a.p a.s b.p b.s }
 {
     let s = a.s.max(b.s);
     let x = at_sum_scale(a, s)?;
@@ -33,14 +33,14 @@ pub fn sum(a: Decimal, b: Decimal) -> Option<i128>
 
 #[tactic(auto, using(crate::proofs::RangeLemmas::difference_in_range))]
 pub fn difference(a: Decimal, b: Decimal) -> Option<i128>
-    ensures number { result ≡ difference_of a b }
-    ensures digits { (z : ℤ) → result ≡ Some z → nat_abs z < 10 ^ sum_precision a b }
+    ensures number { result ≡ difference_of (parts_of a) (parts_of b) }
+    ensures digits { (z : ℤ) → result ≡ Some z → nat_abs z < 10 ^ sum_precision a.p a.s b.p b.s }
 {
     exact_difference(a, b)
 }
 
 fn exact_difference(a: Decimal, b: Decimal) -> Option<i128>
-    ensures { result ≡ difference_of a b }
+    ensures { result ≡ difference_of (parts_of a) (parts_of b) }
 {
     let s = a.s.max(b.s);
     let x = at_sum_scale(a, s)?;
@@ -50,8 +50,8 @@ fn exact_difference(a: Decimal, b: Decimal) -> Option<i128>
 
 #[tactic(auto, using(crate::proofs::RangeLemmas::product_in_range))]
 pub fn product(a: Decimal, b: Decimal) -> Option<i128>
-    ensures number { result ≡ product_of a b }
-    ensures digits { (z : ℤ) → result ≡ Some z → nat_abs z < 10 ^ min 38 (a.p + b.p) }
+    ensures number { result ≡ product_of (parts_of a) (parts_of b) }
+    ensures digits { (z : ℤ) → result ≡ Some z → nat_abs z < 10 ^ product_precision a.p b.p }
 {
     fitting(a.unscaled.checked_mul(b.unscaled)?, 38)
 }
@@ -59,7 +59,7 @@ pub fn product(a: Decimal, b: Decimal) -> Option<i128>
 #[tactic(auto, using(crate::proofs::RangeLemmas::rescaled_in_range, crate::proofs::RangeLemmas::digits_at_most_38))]
 pub fn at_scale(d: Decimal, p: u8, s: u8) -> Option<i128>
     requires { (p ≤ 38) × (s ≤ 38) }
-    ensures number { result ≡ rescaled d p s }
+    ensures number { result ≡ rescaled (parts_of d) p s }
     ensures digits { (z : ℤ) → result ≡ Some z → nat_abs z < 10 ^ p }
 {
     if d.s <= s {

@@ -1,6 +1,6 @@
 -- The printed texts of decimals, dates and booleans are ASCII.
 use Rattle.std.proofs.Common.{◌≡◌, ◌+◌, ◌/◌, ◌%◌, ◌^◌, ◌<◌, ◌≤◌, ℕ, zero, suc, List, ◌∷◌, Bool, true, false, replicate, ℤ, pos, negsuc, ◌+ℤ◌, ◌≤ℤ◌, neg_ℤ, unsigned_abs, arith, lit<, if◌then◌else◌, ◌==◌}
-use Rattle.std.specs.Prelude.{codes}
+use Rattle.std.specs.Prelude.{codes, refl}
 use Rattle.std.specs.Fmt.{decimal}
 use Rattle.std.specs.Str.{IsAscii, IsUtf8}
 use Rattle.std.proofs.lemmas.Fmt.{IsAscii-decimal_wide}
@@ -40,11 +40,15 @@ decimal_ascii : (s : ℕ) (z : ℤ) → unsigned_abs z < 10 ^ 64 → IsAscii (de
 decimal_ascii s (pos n) small = magnitude_ascii s n small
 decimal_ascii s (negsuc n) small = IsAscii-cons 45 (magnitude_text s (n + 1)) (lit< tt) (magnitude_ascii s (n + 1) (omega arith))
 
+-- whatever its type, the number is of 128 bits
+pub wide_decimal_utf8 : (s : ℕ) (z : ℤ) → unsigned_abs z < 10 ^ 64 → IsUtf8 (decimal_text s z)
+wide_decimal_utf8 s z small = IsUtf8-from_ascii (decimal_text s z) (decimal_ascii s z small)
+
 pub decimal_utf8 : (p s : ℕ) (z : ℤ) → p ≤ 38 → unsigned_abs z < 10 ^ p → IsUtf8 (decimal_text s z)
 decimal_utf8 p s z most small =
     let below : 10 ^ p ≤ 10 ^ 38 = pow-le-pow_right (lit< tt) most in
     let top : 10 ^ 38 < 10 ^ 64 = lit< tt in
-    IsUtf8-from_ascii (decimal_text s z) (decimal_ascii s z (omega arith))
+    wide_decimal_utf8 s z (omega arith)
 
 day_ascii : (d : CalendarDay) → d.year ≤ 9999 → d.month ≤ 12 → d.day ≤ 31 → IsAscii (day_text d)
 day_ascii d year month day =
@@ -75,3 +79,10 @@ date_utf8 z h =
     let n = unsigned_abs (z +ℤ pos 719_162) in
     let whole : pos n ≡ z +ℤ pos 719_162 = unsigned_abs-same (z +ℤ pos 719_162) (omega (arith, signed_arith, range.0)) in
     IsUtf8-from_ascii (date_text z) (rw h (nth_ascii n (omega (arith, signed_arith, range.1))))
+
+day_or_nothing : (z : ℤ) (b : Bool) → has_date z ≡ b → IsUtf8 (date_text z)
+day_or_nothing z true h = date_utf8 z h
+day_or_nothing z false h = IsUtf8-from_ascii (date_text z) (rw h IsAscii-nil)
+
+pub any_date_utf8 : (z : ℤ) → IsUtf8 (date_text z)
+any_date_utf8 z = day_or_nothing z (has_date z) refl

@@ -6,13 +6,13 @@ use Rattle.sql_values.specs.declared.value.ValueRef.{ValueRef}
 use Rattle.sql_values.specs.declared.value.ValueRef.TheVariants.{Null, Boolean, Bigint, Decimal, Varchar, Date}
 
 -- the value that is lent
-abbrev pub value_of : ValueRef → Value
-value_of Null = value.Null
-value_of (Boolean truth) = value.Boolean truth
-value_of (Bigint n) = value.Bigint n
-value_of (Decimal unscaled) = value.Decimal unscaled
-value_of (Varchar text) = value.Varchar text.now
-value_of (Date day) = value.Date day
+abbrev pub lent_value : ValueRef → Value
+lent_value Null = value.Null
+lent_value (Boolean truth) = value.Boolean truth
+lent_value (Bigint n) = value.Bigint n
+lent_value (Decimal unscaled) = value.Decimal unscaled
+lent_value (Varchar text) = value.Varchar text.now
+lent_value (Date day) = value.Date day
 
 -- the value in a column of a row: NULL past its last column
 abbrev pub cell : List Value → ℕ → Value

@@ -1,7 +1,7 @@
 ghost use Rattle.std.specs.Prelude.{◌≡◌, ◌-◌, ◌<◌, ◌≤◌, ◌↔◌, ◌++◌, [], if◌then◌else◌, length, take, drop, slice_index_or, IsTrue, IfOk, OnErr, All};
 ghost use Rattle.columns.specs.Present.{gather};
 ghost use Rattle.sql_values.specs.declared.value.Value.TheVariants as value_is;
-ghost use Rattle.sql_values.specs.Cells.{value_of};
+ghost use Rattle.sql_values.specs.Cells.{lent_value};
 ghost use Rattle.sql_values.specs.Blocks.{fits, offered, with_cells};
 
 use crate::block_cells::{
@@ -111,7 +111,7 @@ impl Block {
     #[tactic(auto, using(crate::proofs::BlockLemmas::blocks))]
     pub fn cell(&self, place: usize) -> ValueRef<'_>
         requires { place < length self.now.cells }
-        ensures { value_of result ≡ slice_index_or self.now.cells place value_is.Null }
+        ensures { lent_value result ≡ slice_index_or self.now.cells place value_is.Null }
     {
         match &self.held {
             Held::Boolean(truths) => boolean_or_null(truths.get(place)),
@@ -124,8 +124,8 @@ impl Block {
 
     /// Appends a value of the block's type, or answers false where it has another variant.
     pub fn push(&mut self, value: ValueRef<'_>) -> Result<bool, Memory>
-        ensures taken { IfOk result (λ taken. taken ≡ fits self.old.kind (value_of value.entry)) }
-        ensures ok { IfOk result (λ taken. self.new ≡ with_cells self.old (offered taken self.old.cells (value_of value.entry))) }
+        ensures taken { IfOk result (λ taken. taken ≡ fits self.old.kind (lent_value value.entry)) }
+        ensures ok { IfOk result (λ taken. self.new ≡ with_cells self.old (offered taken self.old.cells (lent_value value.entry))) }
         ensures err { OnErr result (self.new ≡ self.old) }
     {
         match &mut self.held {

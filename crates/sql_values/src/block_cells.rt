@@ -2,7 +2,7 @@ ghost use Rattle.std.specs.Prelude.{◌≡◌, map, IfOk, OnErr};
 ghost use Rattle.std.specs.Option.{option_copied};
 ghost use Rattle.sql_values.specs.declared.types.SqlType.TheVariants as kind_is;
 ghost use Rattle.sql_values.specs.declared.value.Value.TheVariants as value_is;
-ghost use Rattle.sql_values.specs.Cells.{value_of};
+ghost use Rattle.sql_values.specs.Cells.{lent_value};
 ghost use Rattle.sql_values.specs.Blocks.{fits, is_decimal, offered, or_null};
 
 use crate::memory::Memory;
@@ -10,8 +10,8 @@ use crate::value::ValueRef;
 use columns::{Nullable, Texts};
 
 pub fn push_boolean(column: &mut Nullable<bool>, value: ValueRef<'_>) -> Result<bool, Memory>
-    ensures taken { IfOk result (λ taken. taken ≡ fits kind_is.Boolean (value_of value.entry)) }
-    ensures ok { IfOk result (λ taken. map (or_null value_is.Boolean) column.new ≡ offered taken (map (or_null value_is.Boolean) column.old) (value_of value.entry)) }
+    ensures taken { IfOk result (λ taken. taken ≡ fits kind_is.Boolean (lent_value value.entry)) }
+    ensures ok { IfOk result (λ taken. map (or_null value_is.Boolean) column.new ≡ offered taken (map (or_null value_is.Boolean) column.old) (lent_value value.entry)) }
     ensures err { OnErr result (column.new ≡ column.old) }
 {
     match value {
@@ -23,8 +23,8 @@ pub fn push_boolean(column: &mut Nullable<bool>, value: ValueRef<'_>) -> Result<
 }
 
 pub fn push_bigint(column: &mut Nullable<i64>, value: ValueRef<'_>) -> Result<bool, Memory>
-    ensures taken { IfOk result (λ taken. taken ≡ fits kind_is.Bigint (value_of value.entry)) }
-    ensures ok { IfOk result (λ taken. map (or_null value_is.Bigint) column.new ≡ offered taken (map (or_null value_is.Bigint) column.old) (value_of value.entry)) }
+    ensures taken { IfOk result (λ taken. taken ≡ fits kind_is.Bigint (lent_value value.entry)) }
+    ensures ok { IfOk result (λ taken. map (or_null value_is.Bigint) column.new ≡ offered taken (map (or_null value_is.Bigint) column.old) (lent_value value.entry)) }
     ensures err { OnErr result (column.new ≡ column.old) }
 {
     match value {
@@ -36,8 +36,8 @@ pub fn push_bigint(column: &mut Nullable<i64>, value: ValueRef<'_>) -> Result<bo
 }
 
 pub fn push_decimal(column: &mut Nullable<i128>, value: ValueRef<'_>) -> Result<bool, Memory>
-    ensures taken { IfOk result (λ taken. taken ≡ is_decimal (value_of value.entry)) }
-    ensures ok { IfOk result (λ taken. map (or_null value_is.Decimal) column.new ≡ offered taken (map (or_null value_is.Decimal) column.old) (value_of value.entry)) }
+    ensures taken { IfOk result (λ taken. taken ≡ is_decimal (lent_value value.entry)) }
+    ensures ok { IfOk result (λ taken. map (or_null value_is.Decimal) column.new ≡ offered taken (map (or_null value_is.Decimal) column.old) (lent_value value.entry)) }
     ensures err { OnErr result (column.new ≡ column.old) }
 {
     match value {
@@ -49,8 +49,8 @@ pub fn push_decimal(column: &mut Nullable<i128>, value: ValueRef<'_>) -> Result<
 }
 
 pub fn push_varchar(column: &mut Texts, value: ValueRef<'_>) -> Result<bool, Memory>
-    ensures taken { IfOk result (λ taken. taken ≡ fits kind_is.Varchar (value_of value.entry)) }
-    ensures ok { IfOk result (λ taken. map (or_null value_is.Varchar) column.new ≡ offered taken (map (or_null value_is.Varchar) column.old) (value_of value.entry)) }
+    ensures taken { IfOk result (λ taken. taken ≡ fits kind_is.Varchar (lent_value value.entry)) }
+    ensures ok { IfOk result (λ taken. map (or_null value_is.Varchar) column.new ≡ offered taken (map (or_null value_is.Varchar) column.old) (lent_value value.entry)) }
     ensures err { OnErr result (column.new ≡ column.old) }
 {
     match value {
@@ -62,8 +62,8 @@ pub fn push_varchar(column: &mut Texts, value: ValueRef<'_>) -> Result<bool, Mem
 }
 
 pub fn push_date(column: &mut Nullable<i32>, value: ValueRef<'_>) -> Result<bool, Memory>
-    ensures taken { IfOk result (λ taken. taken ≡ fits kind_is.Date (value_of value.entry)) }
-    ensures ok { IfOk result (λ taken. map (or_null value_is.Date) column.new ≡ offered taken (map (or_null value_is.Date) column.old) (value_of value.entry)) }
+    ensures taken { IfOk result (λ taken. taken ≡ fits kind_is.Date (lent_value value.entry)) }
+    ensures ok { IfOk result (λ taken. map (or_null value_is.Date) column.new ≡ offered taken (map (or_null value_is.Date) column.old) (lent_value value.entry)) }
     ensures err { OnErr result (column.new ≡ column.old) }
 {
     match value {
@@ -75,7 +75,7 @@ pub fn push_date(column: &mut Nullable<i32>, value: ValueRef<'_>) -> Result<bool
 }
 
 pub fn boolean_or_null(item: Option<bool>) -> ValueRef<'static>
-    ensures { value_of result ≡ or_null value_is.Boolean item }
+    ensures { lent_value result ≡ or_null value_is.Boolean item }
 {
     match item {
         Some(truth) => ValueRef::Boolean(truth),
@@ -84,7 +84,7 @@ pub fn boolean_or_null(item: Option<bool>) -> ValueRef<'static>
 }
 
 pub fn bigint_or_null(item: Option<i64>) -> ValueRef<'static>
-    ensures { value_of result ≡ or_null value_is.Bigint item }
+    ensures { lent_value result ≡ or_null value_is.Bigint item }
 {
     match item {
         Some(number) => ValueRef::Bigint(number),
@@ -93,7 +93,7 @@ pub fn bigint_or_null(item: Option<i64>) -> ValueRef<'static>
 }
 
 pub fn decimal_or_null(item: Option<i128>) -> ValueRef<'static>
-    ensures { value_of result ≡ or_null value_is.Decimal item }
+    ensures { lent_value result ≡ or_null value_is.Decimal item }
 {
     match item {
         Some(unscaled) => ValueRef::Decimal(unscaled),
@@ -102,7 +102,7 @@ pub fn decimal_or_null(item: Option<i128>) -> ValueRef<'static>
 }
 
 pub fn varchar_or_null(item: Option<&str>) -> ValueRef<'_>
-    ensures { value_of result ≡ or_null value_is.Varchar (option_copied item.entry) }
+    ensures { lent_value result ≡ or_null value_is.Varchar (option_copied item.entry) }
 {
     match item {
         Some(text) => ValueRef::Varchar(text),
@@ -111,7 +111,7 @@ pub fn varchar_or_null(item: Option<&str>) -> ValueRef<'_>
 }
 
 pub fn date_or_null(item: Option<i32>) -> ValueRef<'static>
-    ensures { value_of result ≡ or_null value_is.Date item }
+    ensures { lent_value result ≡ or_null value_is.Date item }
 {
     match item {
         Some(day) => ValueRef::Date(day),

@@ -45,7 +45,10 @@ pub use fail::{EvalFault, Fail};
 pub use hash::bucket;
 pub use items::Items;
 pub use memory::Memory;
-pub use order::{KeySpec, Order, compare_cells, compare_rows, compare_values, rows_are_ordered};
+pub use order::{
+    KeySpec, Order, compare_cells, compare_rows, compare_values, equal_values_are_the_same,
+    rows_are_ordered,
+};
 pub use relational::{Call, JoinKind};
 pub use row::Row;
 pub use row_builder::RowBuilder;

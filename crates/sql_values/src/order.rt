@@ -1,6 +1,6 @@
-ghost use Rattle.std.specs.Prelude.{◌≡◌, List, [], ◌∷◌};
+ghost use Rattle.std.specs.Prelude.{◌≡◌, ◌↔◌, List, [], ◌∷◌};
 ghost use Rattle.std.specs.Cmp.{IsTotalOrder};
-ghost use Rattle.sql_values.specs.Cells.{value_of};
+ghost use Rattle.sql_values.specs.Cells.{lent_value};
 ghost use Rattle.sql_values.specs.Order.{cell_cmp, kind_rank, row_cmp, value_cmp};
 
 use crate::row::Row;
@@ -36,7 +36,7 @@ pub fn compare_rows(keys: &[KeySpec], a: &Row, b: &Row) -> Ordering
 
 /// Compares two cells in a direction, with NULL last.
 pub fn compare_cells(order: Order, a: ValueRef<'_>, b: ValueRef<'_>) -> Ordering
-    ensures { result ≡ cell_cmp order (value_of a.entry) (value_of b.entry) }
+    ensures { result ≡ cell_cmp order (lent_value a.entry) (lent_value b.entry) }
 {
     match (a, b) {
         (ValueRef::Null, ValueRef::Null) => Ordering::Equal,
@@ -52,7 +52,7 @@ pub fn compare_cells(order: Order, a: ValueRef<'_>, b: ValueRef<'_>) -> Ordering
 /// Compares two values: texts by their bytes, false below true.
 #[tactic(auto, using(crate::proofs::OrderLemmas::comparing_parts))]
 pub fn compare_values(a: ValueRef<'_>, b: ValueRef<'_>) -> Ordering
-    ensures { result ≡ value_cmp (value_of a.entry) (value_of b.entry) }
+    ensures { result ≡ value_cmp (lent_value a.entry) (lent_value b.entry) }
 {
     match (a, b) {
         (ValueRef::Boolean(x), ValueRef::Boolean(y)) => x.cmp(&y),
@@ -65,7 +65,7 @@ pub fn compare_values(a: ValueRef<'_>, b: ValueRef<'_>) -> Ordering
 }
 
 fn kind_rank(value: ValueRef<'_>) -> u8
-    ensures { result ≡ kind_rank (value_of value.entry) }
+    ensures { result ≡ kind_rank (lent_value value.entry) }
 {
     match value {
         ValueRef::Boolean(_) => 0,
@@ -81,4 +81,10 @@ fn kind_rank(value: ValueRef<'_>) -> u8
 #[tactic(auto, using(crate::proofs::OrderLemmas::row_cmp_total))]
 pub fn rows_are_ordered(keys: &[KeySpec])
     ensures { IsTotalOrder (row_cmp keys.now) }
+{}
+
+/// The law that two values are equal in the order exactly where they are the same value.
+#[tactic(auto, using(crate::proofs::OrderLemmas::equal_values))]
+pub fn equal_values_are_the_same(a: ValueRef<'_>, b: ValueRef<'_>)
+    ensures { (value_cmp (lent_value a.entry) (lent_value b.entry) ≡ Ordering.Equal) ↔ (lent_value a.entry ≡ lent_value b.entry) }
 {}

@@ -1,5 +1,5 @@
 ghost use Rattle.std.specs.Prelude.{◌≡◌, List, [], ◌∷◌, ◌++◌, length, IfOk, OnOk, OnErr};
-ghost use Rattle.sql_values.specs.Cells.{cell, value_of};
+ghost use Rattle.sql_values.specs.Cells.{cell, lent_value};
 
 use crate::memory::Memory;
 use crate::value::{Value, ValueRef};
@@ -50,7 +50,7 @@ impl Row {
 
     /// The value in a column: NULL past the row's last one.
     pub fn cell(&self, column: u32) -> ValueRef<'_>
-        ensures { value_of result ≡ cell self.now column }
+        ensures { lent_value result ≡ cell self.now column }
     {
         match self.values.get(column as usize) {
             Some(value) => value.as_ref(),

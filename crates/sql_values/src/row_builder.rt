@@ -1,5 +1,5 @@
 ghost use Rattle.std.specs.Prelude.{◌≡◌, ◌<◌, ◌≤◌, [], ◌∷◌, ◌++◌, length, if◌then◌else◌, ◌↔◌, IsTrue, IfOk, OnErr};
-ghost use Rattle.sql_values.specs.Cells.{value_of};
+ghost use Rattle.sql_values.specs.Cells.{lent_value};
 ghost use Rattle.sql_values.specs.Blocks.{offered};
 ghost use Rattle.sql_values.specs.ColumnRows.{fits_at};
 
@@ -48,8 +48,8 @@ impl RowBuilder {
     /// Puts the next cell of the row that is begun, or answers false where that row is full or the
     /// value has not the type of its column.
     pub fn put(&mut self, value: ValueRef<'_>) -> Result<bool, Memory>
-        ensures fits { IfOk result (λ taken. taken ≡ fits_at self.old.types (length self.old.begun) (value_of value.entry)) }
-        ensures ok { IfOk result (λ taken. self.new ≡ record self.old { begun = offered taken self.old.begun (value_of value.entry) }) }
+        ensures fits { IfOk result (λ taken. taken ≡ fits_at self.old.types (length self.old.begun) (lent_value value.entry)) }
+        ensures ok { IfOk result (λ taken. self.new ≡ record self.old { begun = offered taken self.old.begun (lent_value value.entry) }) }
         ensures err { OnErr result (self.new ≡ self.old) }
     {
         self.held.put(value)

@@ -1,5 +1,5 @@
 ghost use Rattle.std.specs.Prelude.{◌≡◌, ◌-◌, List, [], ◌∷◌, ◌++◌, ◌<◌, ◌≤◌, ◌↔◌, length, map, take, drop, slice_index_or, IsTrue, IfOk, OnOk, OnErr, All};
-ghost use Rattle.sql_values.specs.Cells.{cell, value_of};
+ghost use Rattle.sql_values.specs.Cells.{cell, lent_value};
 ghost use Rattle.sql_values.specs.Blocks.{fits};
 
 use crate::block::Block;
@@ -125,7 +125,7 @@ impl RowList {
     /// The value in a column of the row at a place: NULL past the row's last column.
     pub fn cell(&self, place: usize, column: u32) -> ValueRef<'_>
         requires { place < length self.now }
-        ensures { value_of result ≡ cell (slice_index_or self.now place []) column }
+        ensures { lent_value result ≡ cell (slice_index_or self.now place []) column }
     {
         match &self.kept {
             Kept::Columns(columns) => columns.cell(place, column),

@@ -1,5 +1,5 @@
 ghost use Rattle.std.specs.Prelude.{◌≡◌, ◌↔◌, IsTrue, IfOk};
-ghost use Rattle.sql_values.specs.Cells.{value_of};
+ghost use Rattle.sql_values.specs.Cells.{lent_value};
 
 use crate::memory::Memory;
 use crate::text::Text;
@@ -31,7 +31,7 @@ pub enum ValueRef<'a> {
 
 impl Value {
     pub fn as_ref(&self) -> ValueRef<'_>
-        ensures { value_of result ≡ self.now }
+        ensures { lent_value result ≡ self.now }
     {
         match self {
             Value::Null => ValueRef::Null,
@@ -74,7 +74,7 @@ impl Value {
 
 impl ValueRef<'_> {
     pub fn to_value(self, alloc: Global) -> Result<Value, Memory>
-        ensures { IfOk result (λ v. v ≡ value_of self.entry) }
+        ensures { IfOk result (λ v. v ≡ lent_value self.entry) }
     {
         Ok(match self {
             ValueRef::Null => Value::Null,

@@ -1,6 +1,6 @@
 ghost use Rattle.std.specs.Prelude.{◌≡◌, ◌≢◌, ◌++◌, MatchResult, OnOk, OnErr, Some};
 ghost use Rattle.scalar_texts.specs.Appends.{AppendsStart};
-ghost use Rattle.sql_values.specs.Cells.{value_of};
+ghost use Rattle.sql_values.specs.Cells.{lent_value};
 ghost use Rattle.sql_values.specs.Texts.{FailsToParse, scale_of, text_of_value, value_of_text};
 ghost use Rattle.sql_values.specs.Types.{HasType, IsType};
 
@@ -92,8 +92,8 @@ fn found(value: Option<Value>) -> Result<Value, ParseFault>
 /// Appends the text of a value, and nothing for NULL. Where memory was wanting a beginning of
 /// the text may stand there.
 pub fn print_value(kind: SqlType, value: ValueRef<'_>, to: &mut Vec<u8>) -> Result<(), Memory>
-    ensures ok { OnOk result (to.new.items ≡ to.old.items ++ text_of_value kind (value_of value.entry)) }
-    ensures err { OnErr result (AppendsStart (text_of_value kind (value_of value.entry)) to.old.items to.new.items) }
+    ensures ok { OnOk result (to.new.items ≡ to.old.items ++ text_of_value kind (lent_value value.entry)) }
+    ensures err { OnErr result (AppendsStart (text_of_value kind (lent_value value.entry)) to.old.items to.new.items) }
 {
     match value {
         ValueRef::Null => {}
@@ -126,9 +126,9 @@ fn scale(kind: SqlType) -> u8
 /// The law that what is printed reads back as the value.
 pub fn text_reads_back(kind: SqlType, value: ValueRef<'_>)
     requires is_type { IsType kind }
-    requires not_null { value_of value ≢ Value.Null }
-    requires has_type { HasType kind (value_of value) }
-    ensures { value_of_text kind (text_of_value kind (value_of value.entry)) ≡ Some (value_of value.entry) }
+    requires not_null { lent_value value ≢ Value.Null }
+    requires has_type { HasType kind (lent_value value) }
+    ensures { value_of_text kind (text_of_value kind (lent_value value.entry)) ≡ Some (lent_value value.entry) }
 {
     match value {
         ValueRef::Null | ValueRef::Varchar(_) => {}

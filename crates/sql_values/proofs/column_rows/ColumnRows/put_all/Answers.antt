@@ -1,5 +1,5 @@
 use Rattle.std.proofs.Common.{◌≡◌, ◌∷◌, ◌++◌, ◌≤◌, ◌<◌, [], length, get_or, take, drop, refl, ap, sym, ◌∙◌, arith}
-use Rattle.sql_values.specs.Cells.{value_of}
+use Rattle.sql_values.specs.Cells.{lent_value}
 use Rattle.sql_values.specs.ColumnRows.{TypedRows}
 use Rattle.sql_values.proofs.ColumnRowsLemmas.{put-refused, put-taken, put-begun, put-whole}
 use Rattle.sql_values.proofs.column_rows.ColumnRows.put_all.Goals as goal
@@ -11,7 +11,7 @@ returns-then-not-branch-clause-fits c =
 pub loop-value-preserved : goal.loop-value-preserved
 loop-value-preserved c =
     let put = rw c.if-not-branch.false at c.in_ok-put.ensures.ok in
-    let begun : c.put.new.self.begun ≡ c.loop-value.self.begun ++ value_of c.as_ref.result ∷ [] = ap {A = TypedRows} (λ t. t.begun) put in
+    let begun : c.put.new.self.begun ≡ c.loop-value.self.begun ++ lent_value c.as_ref.result ∷ [] = ap {A = TypedRows} (λ t. t.begun) put in
     record {
       kept = ap {A = TypedRows} (λ t. record { types = t.types; rows = t.rows; begun = [] }) put ∙ c.loop-value.invariant.kept;
       begun = begun ∙ put-begun c.loop-value.self.begun c.args.values.now c.loop-value.value-index _ c.loop-value.invariant.begun (rw c.as_ref.ensures c.value-item.is) c.loop-value-test.true;

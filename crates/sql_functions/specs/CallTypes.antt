@@ -1,8 +1,10 @@
 -- The types of calls and casts.
-use Rattle.std.specs.Prelude.{ℕ, ◌+◌, ◌-◌, max, min, List, [], ◌∷◌, length, unwrap_or, slice_get, Bool, true, false, ◌&&◌, ◌||◌, nat_le, ◌==◌, if◌then◌else◌}
+use Rattle.std.specs.Prelude.{ℕ, ◌+◌, List, [], ◌∷◌, length, unwrap_or, slice_get, Bool, true, false, ◌&&◌, ◌||◌, nat_le, ◌==◌, if◌then◌else◌}
 use Rattle.std.specs.List.{list_all}
+use Rattle.decimals.specs.Arithmetic.{product_precision, sum_precision, sum_scale}
 use Rattle.sql_values.specs.declared.types.SqlType.{SqlType}
 use Rattle.sql_values.specs.declared.types.SqlType.TheVariants.{Boolean, Bigint, Decimal, Varchar, Date}
+use Rattle.sql_values.specs.Texts.{scale_of}
 use Rattle.sql_functions.specs.declared.name.CallName.{CallName}
 use Rattle.sql_functions.specs.declared.name.CallName.TheVariants as call
 
@@ -38,14 +40,9 @@ same_type (Decimal p s) other = is_this_decimal p s other
 same_type Varchar other = is_varchar other
 same_type Date other = is_date other
 
--- how many digits of a decimal stand after the point
-abbrev pub scale_of : SqlType → ℕ
-scale_of (Decimal p s) = s
-scale_of kind = 0
-
 -- the type of a sum and of a difference
 abbrev pub sum_with : ℕ → ℕ → SqlType → SqlType
-sum_with p s (Decimal q t) = Decimal (min 38 (1 + max s t + max (p - s) (q - t))) (max s t)
+sum_with p s (Decimal q t) = Decimal (sum_precision p s q t) (sum_scale s t)
 sum_with p s right = Bigint
 
 abbrev pub sum_type : SqlType → SqlType → SqlType
@@ -54,7 +51,7 @@ sum_type left right = Bigint
 
 -- the type of a product, whose scale is at most 38
 abbrev pub product_with : ℕ → ℕ → SqlType → SqlType
-product_with p s (Decimal q t) = if nat_le (s + t) 38 then Decimal (min 38 (p + q)) (s + t) else Bigint
+product_with p s (Decimal q t) = if nat_le (s + t) 38 then Decimal (product_precision p q) (s + t) else Bigint
 product_with p s right = Bigint
 
 abbrev pub product_type : SqlType → SqlType → SqlType

@@ -1,6 +1,6 @@
 -- Casts, each from a type to a type.
-use Rattle.std.specs.Prelude.{ℕ, ◌-◌, ℤ, Bool, ◌&&◌, nat_le, if◌then◌else◌, Option, Some, None, Ok, Err}
-use Rattle.decimals.specs.Arithmetic.{of_digits, scaled, rounded}
+use Rattle.std.specs.Prelude.{ℕ, ℤ, if◌then◌else◌, Option, Some, None, Ok, Err}
+use Rattle.decimals.specs.Arithmetic.{Parts, is_decimal_type, rescaled}
 use Rattle.scalar_texts.specs.Numbers.{has_64_bits}
 use Rattle.sql_values.specs.declared.types.SqlType.{SqlType}
 use Rattle.sql_values.specs.declared.types.SqlType.TheVariants as type
@@ -9,17 +9,12 @@ use Rattle.sql_values.specs.declared.value.Value.TheVariants.{Null, Bigint, Deci
 use Rattle.sql_values.specs.declared.fail.Fail.TheVariants.{OutOfRange, BadCast}
 use Rattle.sql_values.specs.Texts.{text_of_value, value_of_text}
 use Rattle.sql_functions.specs.Outcomes.{Outcome}
-use Rattle.sql_functions.specs.DecimalNumbers.{Parts, decimal_parts, from_units}
+use Rattle.sql_functions.specs.DecimalNumbers.{decimal_parts, from_units}
 
 -- the value that a text was read as
 abbrev pub from_text : Option Value → Outcome
 from_text (Some v) = Ok v
 from_text None = Err BadCast
-
--- the units at another scale, a half rounded away from zero, where they have at most p digits
-abbrev pub units_rescaled : ℕ → ℕ → Parts → Option ℤ
-units_rescaled p s a =
-    if nat_le a.2 s then of_digits p (scaled (s - a.2) a.0) else of_digits p (rounded (a.2 - s) a.0)
 
 -- the whole number, where it is within 64 bits
 abbrev pub bigint_of_units : Option ℤ → Outcome
@@ -27,7 +22,7 @@ bigint_of_units (Some z) = if has_64_bits z then Ok (Bigint z) else Err OutOfRan
 bigint_of_units None = Err OutOfRange
 
 abbrev pub bigint_of_decimal : Option Parts → Outcome
-bigint_of_decimal (Some a) = bigint_of_units (units_rescaled 38 0 a)
+bigint_of_decimal (Some a) = bigint_of_units (rescaled a 38 0)
 bigint_of_decimal None = Ok Null
 
 abbrev pub to_bigint : SqlType → Value → Outcome
@@ -36,14 +31,12 @@ to_bigint from (Decimal unscaled) = bigint_of_decimal (decimal_parts from unscal
 to_bigint from v = Ok Null
 
 abbrev pub decimal_of_decimal : ℕ → ℕ → Option Parts → Outcome
-decimal_of_decimal p s (Some a) = from_units (units_rescaled p s a)
+decimal_of_decimal p s (Some a) = from_units (rescaled a p s)
 decimal_of_decimal p s None = Ok Null
 
-abbrev pub is_decimal_type : ℕ → ℕ → Bool
-is_decimal_type p s = nat_le 1 p && nat_le p 38 && nat_le s p
-
+-- a bigint is a number of 19 digits with none after the point
 abbrev pub to_decimal : ℕ → ℕ → SqlType → Value → Outcome
-to_decimal p s from (Bigint n) = from_units (of_digits p (scaled s n))
+to_decimal p s from (Bigint n) = from_units (rescaled (n, 19, 0) p s)
 to_decimal p s from (Decimal unscaled) = decimal_of_decimal p s (decimal_parts from unscaled)
 to_decimal p s from v = Ok Null
 

@@ -1,6 +1,6 @@
 -- Decimals by their types. Units that are no number of their type make a result NULL.
-use Rattle.std.specs.Prelude.{ℕ, ◌+◌, ◌-◌, max, nat_le, if◌then◌else◌, ℤ, ◌+ℤ◌, ◌*ℤ◌, neg_ℤ, Option, Some, None, option_and_then, Result, Ok, Err}
-use Rattle.decimals.specs.Arithmetic.{checked_parts, of_digits, scaled}
+use Rattle.std.specs.Prelude.{◌+◌, nat_le, if◌then◌else◌, ℤ, neg_ℤ, Option, Some, None, Result, Ok, Err}
+use Rattle.decimals.specs.Arithmetic.{Parts, checked_parts, difference_of, product_of, sum_of}
 use Rattle.decimals.specs.declared.decimal.Decimal.{Decimal as Number}
 use Rattle.decimals.specs.declared.decimal.OutOfRange.{OutOfRange as NoNumber}
 use Rattle.sql_values.specs.declared.types.SqlType.{SqlType}
@@ -8,10 +8,6 @@ use Rattle.sql_values.specs.declared.types.SqlType.TheVariants as type
 use Rattle.sql_values.specs.declared.value.Value.TheVariants.{Null, Decimal}
 use Rattle.sql_values.specs.declared.fail.Fail.TheVariants.{OutOfRange}
 use Rattle.sql_functions.specs.Outcomes.{Outcome}
-
--- units, precision and scale
-abbrev pub Parts : Type 0
-Parts = ℤ × ℕ × ℕ
 
 -- the parts of a number of the type
 abbrev pub decimal_parts : SqlType → ℤ → Option Parts
@@ -33,26 +29,15 @@ abbrev pub of_two : (Parts → Parts → Outcome) → Option Parts → Option Pa
 of_two operation (Some a) (Some b) = operation a b
 of_two operation a b = Ok Null
 
--- the units at a scale that is at least its own, where they have at most 38 digits
-abbrev pub units_at : ℕ → Parts → Option ℤ
-units_at s a = of_digits 38 (scaled (s - a.2) a.0)
-
--- the units of both numbers at one scale, and then of a result of at most 38 digits
-abbrev pub at_one_scale : (ℤ → ℤ → ℤ) → Parts → Parts → Outcome
-at_one_scale operation a b =
-    from_units
-    (option_and_then (λ x. option_and_then (λ y. of_digits 38 (operation x y)) (units_at (max a.2 b.2) b)) (units_at (max a.2 b.2) a))
-
--- the exact sum
 abbrev pub decimal_sum : SqlType → SqlType → ℤ → ℤ → Outcome
-decimal_sum left right a b = of_two (at_one_scale ◌+ℤ◌) (decimal_parts left a) (decimal_parts right b)
+decimal_sum left right a b = of_two (λ x y. from_units (sum_of x y)) (decimal_parts left a) (decimal_parts right b)
 
 abbrev pub decimal_difference : SqlType → SqlType → ℤ → ℤ → Outcome
-decimal_difference left right a b = of_two (at_one_scale (λ x y. x +ℤ neg_ℤ y)) (decimal_parts left a) (decimal_parts right b)
+decimal_difference left right a b = of_two (λ x y. from_units (difference_of x y)) (decimal_parts left a) (decimal_parts right b)
 
--- the exact product, of a scale that a type can have
+-- the product, of a scale that a type can have
 abbrev pub parts_product : Parts → Parts → Outcome
-parts_product a b = if nat_le (a.2 + b.2) 38 then from_units (of_digits 38 (a.0 *ℤ b.0)) else Ok Null
+parts_product a b = if nat_le (a.2 + b.2) 38 then from_units (product_of a b) else Ok Null
 
 abbrev pub decimal_product : SqlType → SqlType → ℤ → ℤ → Outcome
 decimal_product left right a b = of_two parts_product (decimal_parts left a) (decimal_parts right b)

@@ -1,12 +1,12 @@
 ghost use Rattle.std.specs.Prelude.{◌≡◌};
-ghost use Rattle.sql_values.specs.Cells.{value_of};
+ghost use Rattle.sql_values.specs.Cells.{lent_value};
 ghost use Rattle.sql_functions.specs.Arithmetic.{difference_of, opposite_of, product_of, quotient_of, remainder_of, sum_of};
 
 use crate::{bigint, decimal};
 use sql_values::{Fail, SqlType, Value, ValueRef};
 
 pub fn add(left: SqlType, a: ValueRef<'_>, right: SqlType, b: ValueRef<'_>) -> Result<Value, Fail>
-    ensures { result ≡ sum_of left right (value_of a.entry) (value_of b.entry) }
+    ensures { result ≡ sum_of left right (lent_value a.entry) (lent_value b.entry) }
 {
     match (a, b) {
         (ValueRef::Bigint(a), ValueRef::Bigint(b)) => bigint::sum(a, b),
@@ -21,7 +21,7 @@ pub fn subtract(
     right: SqlType,
     b: ValueRef<'_>,
 ) -> Result<Value, Fail>
-    ensures { result ≡ difference_of left right (value_of a.entry) (value_of b.entry) }
+    ensures { result ≡ difference_of left right (lent_value a.entry) (lent_value b.entry) }
 {
     match (a, b) {
         (ValueRef::Bigint(a), ValueRef::Bigint(b)) => bigint::difference(a, b),
@@ -36,7 +36,7 @@ pub fn multiply(
     right: SqlType,
     b: ValueRef<'_>,
 ) -> Result<Value, Fail>
-    ensures { result ≡ product_of left right (value_of a.entry) (value_of b.entry) }
+    ensures { result ≡ product_of left right (lent_value a.entry) (lent_value b.entry) }
 {
     match (a, b) {
         (ValueRef::Bigint(a), ValueRef::Bigint(b)) => bigint::product(a, b),
@@ -46,7 +46,7 @@ pub fn multiply(
 }
 
 pub fn divide(a: ValueRef<'_>, b: ValueRef<'_>) -> Result<Value, Fail>
-    ensures { result ≡ quotient_of (value_of a.entry) (value_of b.entry) }
+    ensures { result ≡ quotient_of (lent_value a.entry) (lent_value b.entry) }
 {
     match (a, b) {
         (ValueRef::Bigint(a), ValueRef::Bigint(b)) => bigint::quotient(a, b),
@@ -55,7 +55,7 @@ pub fn divide(a: ValueRef<'_>, b: ValueRef<'_>) -> Result<Value, Fail>
 }
 
 pub fn modulo(a: ValueRef<'_>, b: ValueRef<'_>) -> Result<Value, Fail>
-    ensures { result ≡ remainder_of (value_of a.entry) (value_of b.entry) }
+    ensures { result ≡ remainder_of (lent_value a.entry) (lent_value b.entry) }
 {
     match (a, b) {
         (ValueRef::Bigint(a), ValueRef::Bigint(b)) => bigint::remainder(a, b),
@@ -64,7 +64,7 @@ pub fn modulo(a: ValueRef<'_>, b: ValueRef<'_>) -> Result<Value, Fail>
 }
 
 pub fn negate(kind: SqlType, a: ValueRef<'_>) -> Result<Value, Fail>
-    ensures { result ≡ opposite_of kind (value_of a.entry) }
+    ensures { result ≡ opposite_of kind (lent_value a.entry) }
 {
     match a {
         ValueRef::Bigint(n) => bigint::opposite(n),

@@ -1,6 +1,7 @@
 ghost use Rattle.std.specs.Prelude.{◌≡◌};
 ghost use Rattle.std.specs.List.{list_all};
-ghost use Rattle.sql_functions.specs.CallTypes.{are_factors, are_numbers, call_type, can_cast, is_bigint, is_boolean, is_date, is_decimal, is_number, is_varchar, product_type, same_type, scale_of, sum_type, takes_all, takes_one, takes_several, takes_two, takes_types};
+ghost use Rattle.sql_functions.specs.CallTypes.{are_factors, are_numbers, call_type, can_cast, is_bigint, is_boolean, is_date, is_decimal, is_number, is_varchar, product_type, same_type, sum_type, takes_all, takes_one, takes_several, takes_two, takes_types};
+ghost use Rattle.sql_values.specs.Texts.{scale_of};
 
 use crate::name::CallName;
 use sql_values::SqlType;
@@ -118,7 +119,7 @@ fn are_numbers(left: SqlType, right: SqlType) -> bool
     (is_bigint(left) && is_bigint(right)) || (is_decimal(left) && is_decimal(right))
 }
 
-fn scale_of(kind: SqlType) -> u8
+pub fn scale_of(kind: SqlType) -> u8
     ensures { result ≡ scale_of kind }
 {
     match kind {

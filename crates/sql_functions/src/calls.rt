@@ -1,5 +1,5 @@
 ghost use Rattle.std.specs.Prelude.{◌≡◌, MatchResult};
-ghost use Rattle.sql_values.specs.Cells.{value_of};
+ghost use Rattle.sql_values.specs.Cells.{lent_value};
 ghost use Rattle.sql_functions.specs.Outcomes.{FailsBy};
 ghost use Rattle.sql_functions.specs.Calls.{binary_of, unary_of};
 
@@ -10,15 +10,15 @@ use crate::like::like;
 use crate::name::CallName;
 use crate::texts::{concat, length};
 use crate::truth::{is_null, truth_not};
-use sql_values::{EvalFault, SqlType, Value, ValueRef};
+use sql_values::{EvalFault, Fail, SqlType, Value, ValueRef};
 use std::alloc::Global;
 
 /// A call of one argument, of this type.
-pub fn unary(name: CallName, kind: SqlType, value: ValueRef<'_>) -> Result<Value, EvalFault>
-    ensures { MatchResult result (λ v. unary_of name kind (value_of value.entry) ≡ Ok v) (FailsBy (unary_of name kind (value_of value.entry))) }
+pub fn unary(name: CallName, kind: SqlType, value: ValueRef<'_>) -> Result<Value, Fail>
+    ensures { result ≡ unary_of name kind (lent_value value.entry) }
 {
     Ok(match name {
-        CallName::Neg => negate(kind, value)?,
+        CallName::Neg => return negate(kind, value),
         CallName::IsNull => Value::Boolean(is_null(value)),
         CallName::Not => truth_not(value),
         CallName::Length => length(value),
@@ -38,7 +38,7 @@ pub fn binary(
     right: SqlType,
     b: ValueRef<'_>,
 ) -> Result<Value, EvalFault>
-    ensures { MatchResult result (λ v. binary_of name left right (value_of a.entry) (value_of b.entry) ≡ Ok v) (FailsBy (binary_of name left right (value_of a.entry) (value_of b.entry))) }
+    ensures { MatchResult result (λ v. binary_of name left right (lent_value a.entry) (lent_value b.entry) ≡ Ok v) (FailsBy (binary_of name left right (lent_value a.entry) (lent_value b.entry))) }
 {
     match name {
         CallName::Add => Ok(add(left, a, right, b)?),

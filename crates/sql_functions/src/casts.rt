@@ -1,15 +1,23 @@
-ghost use Rattle.std.specs.Prelude.{◌≡◌, ◌≤◌, if◌then◌else◌, MatchResult};
-ghost use Rattle.decimals.specs.Arithmetic.{parts_of};
-ghost use Rattle.sql_values.specs.Cells.{value_of};
+ghost use Rattle.std.specs.Prelude.{◌≡◌, ◌≤◌, if◌then◌else◌, IfOk, MatchResult};
+ghost use Rattle.std.specs.Fmt.{signed_decimal};
+ghost use Rattle.std.specs.Str.{IsUtf8};
+ghost use Rattle.scalar_texts.specs.Booleans.{boolean_text};
+ghost use Rattle.scalar_texts.specs.Dates.{date_text};
+ghost use Rattle.scalar_texts.specs.Decimals.{decimal_text};
+ghost use Rattle.decimals.specs.Arithmetic.{is_decimal_type, parts_of, rescaled};
+ghost use Rattle.sql_values.specs.Cells.{lent_value};
 ghost use Rattle.sql_values.specs.Texts.{text_of_value, value_of_text};
 ghost use Rattle.sql_functions.specs.Outcomes.{FailsBy};
 ghost use Rattle.sql_functions.specs.DecimalNumbers.{decimal_parts, from_units};
-ghost use Rattle.sql_functions.specs.Casts.{bigint_of_units, cast_of, from_text, is_decimal_type, to_bigint, to_decimal, units_rescaled};
+ghost use Rattle.sql_functions.specs.Casts.{bigint_of_units, cast_of, from_text, to_bigint, to_decimal};
 
+use crate::call_types::scale_of;
 use crate::decimal::{decimal, in_range};
 use decimals::Decimal;
+use itoa::Buffer;
+use scalar_texts::{print_date, print_decimal};
 use sql_values::{
-    EvalFault, Fail, ParseFault, SqlType, Text, Value, ValueRef, parse_value, print_value,
+    EvalFault, Fail, Memory, ParseFault, SqlType, Text, Value, ValueRef, parse_value,
 };
 use std::alloc::Global;
 
@@ -23,20 +31,58 @@ fn read_as(alloc: Global, kind: SqlType, text: &str) -> Result<Value, EvalFault>
     }
 }
 
-fn printed(alloc: Global, kind: SqlType, value: ValueRef<'_>) -> Result<Value, EvalFault>
-    ensures { MatchResult result (λ v. v ≡ Value.Varchar (text_of_value kind (value_of value.entry))) (λ e. e ≡ EvalFault.Memory) }
+/// A text whose bytes are known to be one.
+fn text_of(bytes: Vec<u8>) -> Text
+    requires { IsUtf8 bytes.items }
+    ensures { result ≡ bytes.items }
+{
+    Text::of(unsafe { String::from_utf8_unchecked(bytes) })
+}
+
+fn decimal_text(alloc: Global, s: u8, unscaled: i128) -> Result<Text, Memory>
+    ensures { IfOk result (λ text. text ≡ decimal_text s unscaled) }
 {
     let mut bytes = Vec::new(alloc);
-    print_value(kind, value, &mut bytes)?;
-    match String::from_utf8(bytes) {
-        Ok(text) => Ok(Value::Varchar(Text::of(text))),
-        Err(_) => Err(EvalFault::Memory),
+    print_decimal(s, unscaled, &mut bytes)?;
+    Ok(text_of(bytes))
+}
+
+fn date_text(alloc: Global, day: i32) -> Result<Text, Memory>
+    ensures { IfOk result (λ text. text ≡ date_text day) }
+{
+    let mut bytes = Vec::new(alloc);
+    print_date(day, &mut bytes)?;
+    Ok(text_of(bytes))
+}
+
+fn bigint_text(alloc: Global, number: i64) -> Result<Text, Memory>
+    ensures { IfOk result (λ text. text ≡ signed_decimal number) }
+{
+    Text::copy_of(alloc, Buffer::new().format(number))
+}
+
+fn truth_text(alloc: Global, truth: bool) -> Result<Text, Memory>
+    ensures { IfOk result (λ text. text ≡ boolean_text truth) }
+{
+    Text::copy_of(alloc, if truth { "true" } else { "false" })
+}
+
+fn printed(alloc: Global, kind: SqlType, value: ValueRef<'_>) -> Result<Text, Memory>
+    ensures { IfOk result (λ text. text ≡ text_of_value kind (lent_value value.entry)) }
+{
+    match value {
+        ValueRef::Null => Ok(Text::of(String::new(alloc))),
+        ValueRef::Boolean(truth) => truth_text(alloc, truth),
+        ValueRef::Bigint(number) => bigint_text(alloc, number),
+        ValueRef::Decimal(unscaled) => decimal_text(alloc, scale_of(kind), unscaled),
+        ValueRef::Varchar(text) => Text::copy_of(alloc, text),
+        ValueRef::Date(day) => date_text(alloc, day),
     }
 }
 
 /// The number rounded to a whole one.
 fn whole_number(number: Decimal) -> Result<Value, Fail>
-    ensures { result ≡ bigint_of_units (units_rescaled 38 0 (parts_of number)) }
+    ensures { result ≡ bigint_of_units (rescaled (parts_of number) 38 0) }
 {
     match number.rescale(38, 0) {
         Ok(whole) => i64::try_from(whole.unscaled)
@@ -48,7 +94,7 @@ fn whole_number(number: Decimal) -> Result<Value, Fail>
 }
 
 fn to_bigint(from: SqlType, value: ValueRef<'_>) -> Result<Value, Fail>
-    ensures { result ≡ to_bigint from (value_of value.entry) }
+    ensures { result ≡ to_bigint from (lent_value value.entry) }
 {
     match value {
         ValueRef::Bigint(n) => Ok(Value::Bigint(n)),
@@ -63,7 +109,7 @@ fn to_bigint(from: SqlType, value: ValueRef<'_>) -> Result<Value, Fail>
 fn rescaled(p: u8, s: u8, number: Decimal) -> Result<Value, Fail>
     requires precision { (1 ≤ p) × (p ≤ 38) }
     requires scale { s ≤ p }
-    ensures { result ≡ from_units (units_rescaled p s (parts_of number)) }
+    ensures { result ≡ from_units (rescaled (parts_of number) p s) }
 {
     in_range(number.rescale(p, s))
 }
@@ -82,7 +128,7 @@ fn whole_decimal(n: i64) -> Decimal
 fn to_decimal(p: u8, s: u8, from: SqlType, value: ValueRef<'_>) -> Result<Value, Fail>
     requires precision { (1 ≤ p) × (p ≤ 38) }
     requires scale { s ≤ p }
-    ensures { result ≡ to_decimal p s from (value_of value.entry) }
+    ensures { result ≡ to_decimal p s from (lent_value value.entry) }
 {
     match value {
         ValueRef::Bigint(n) => rescaled(p, s, whole_decimal(n)),
@@ -95,7 +141,7 @@ fn to_decimal(p: u8, s: u8, from: SqlType, value: ValueRef<'_>) -> Result<Value,
 }
 
 fn to_decimal_type(p: u8, s: u8, from: SqlType, value: ValueRef<'_>) -> Result<Value, Fail>
-    ensures { result ≡ (if is_decimal_type p s then to_decimal p s from (value_of value.entry) else Ok Value.Null) }
+    ensures { result ≡ (if is_decimal_type p s then to_decimal p s from (lent_value value.entry) else Ok Value.Null) }
 {
     if p < 1 || p > 38 || s > p {
         return Ok(Value::Null);
@@ -110,11 +156,11 @@ pub fn cast(
     to: SqlType,
     value: ValueRef<'_>,
 ) -> Result<Value, EvalFault>
-    ensures { MatchResult result (λ v. cast_of from to (value_of value.entry) ≡ Ok v) (FailsBy (cast_of from to (value_of value.entry))) }
+    ensures { MatchResult result (λ v. cast_of from to (lent_value value.entry) ≡ Ok v) (FailsBy (cast_of from to (lent_value value.entry))) }
 {
     match (to, value) {
         (_, ValueRef::Null) => Ok(Value::Null),
-        (SqlType::Varchar, _) => printed(alloc, from, value),
+        (SqlType::Varchar, _) => Ok(Value::Varchar(printed(alloc, from, value)?)),
         (_, ValueRef::Varchar(text)) => read_as(alloc, to, text),
         (SqlType::Bigint, _) => Ok(to_bigint(from, value)?),
         (SqlType::Decimal { p, s }, _) => Ok(to_decimal_type(p, s, from, value)?),

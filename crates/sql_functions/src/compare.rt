@@ -1,5 +1,5 @@
 ghost use Rattle.std.specs.Prelude.{◌≡◌};
-ghost use Rattle.sql_values.specs.Cells.{value_of};
+ghost use Rattle.sql_values.specs.Cells.{lent_value};
 ghost use Rattle.sql_functions.specs.Comparison.{compared, distinct, ordering_meets};
 
 use crate::name::CallName;
@@ -23,7 +23,7 @@ fn ordering_meets(name: CallName, ordering: Ordering) -> bool
 }
 
 pub fn compared(name: CallName, a: ValueRef<'_>, b: ValueRef<'_>) -> Value
-    ensures { result ≡ compared name (value_of a.entry) (value_of b.entry) }
+    ensures { result ≡ compared name (lent_value a.entry) (lent_value b.entry) }
 {
     if is_null(a) || is_null(b) {
         return Value::Null;
@@ -33,7 +33,7 @@ pub fn compared(name: CallName, a: ValueRef<'_>, b: ValueRef<'_>) -> Value
 
 /// Whether two values differ, where NULL is the same as NULL.
 pub fn distinct(a: ValueRef<'_>, b: ValueRef<'_>) -> Value
-    ensures { result ≡ distinct (value_of a.entry) (value_of b.entry) }
+    ensures { result ≡ distinct (lent_value a.entry) (lent_value b.entry) }
 {
     Value::Boolean(compare_values(a, b).is_ne())
 }

@@ -1,6 +1,6 @@
 ghost use Rattle.std.specs.Prelude.{◌≡◌, option_map, unsigned_abs, pos, ◌+ℤ◌, if◌then◌else◌, Some, None};
 ghost use Rattle.scalar_texts.specs.Dates.{calendar_day, has_date, nth_day};
-ghost use Rattle.sql_values.specs.Cells.{value_of};
+ghost use Rattle.sql_values.specs.Cells.{lent_value};
 ghost use Rattle.sql_functions.specs.DateCalls.{add_days_of, date, day_of, days_between_of, month_of, year_of};
 
 use jiff_core::civil::Date;
@@ -19,7 +19,7 @@ fn later_by(day: i32, n: i64) -> Result<Value, Fail>
 }
 
 pub fn add_days(a: ValueRef<'_>, b: ValueRef<'_>) -> Result<Value, Fail>
-    ensures { result ≡ add_days_of (value_of a.entry) (value_of b.entry) }
+    ensures { result ≡ add_days_of (lent_value a.entry) (lent_value b.entry) }
 {
     match (a, b) {
         (ValueRef::Date(day), ValueRef::Bigint(n)) => later_by(day, n),
@@ -29,7 +29,7 @@ pub fn add_days(a: ValueRef<'_>, b: ValueRef<'_>) -> Result<Value, Fail>
 
 /// The day of the second less the day of the first.
 pub fn days_between(a: ValueRef<'_>, b: ValueRef<'_>) -> Value
-    ensures { result ≡ days_between_of (value_of a.entry) (value_of b.entry) }
+    ensures { result ≡ days_between_of (lent_value a.entry) (lent_value b.entry) }
 {
     match (a, b) {
         (ValueRef::Date(a), ValueRef::Date(b)) => Value::Bigint(i64::from(b) - i64::from(a)),
@@ -49,7 +49,7 @@ fn calendar_date(day: i32) -> Option<Date>
 }
 
 pub fn year(value: ValueRef<'_>) -> Value
-    ensures { result ≡ year_of (value_of value.entry) }
+    ensures { result ≡ year_of (lent_value value.entry) }
 {
     match value {
         ValueRef::Date(day) => match calendar_date(day) {
@@ -61,7 +61,7 @@ pub fn year(value: ValueRef<'_>) -> Value
 }
 
 pub fn month(value: ValueRef<'_>) -> Value
-    ensures { result ≡ month_of (value_of value.entry) }
+    ensures { result ≡ month_of (lent_value value.entry) }
 {
     match value {
         ValueRef::Date(day) => match calendar_date(day) {
@@ -73,7 +73,7 @@ pub fn month(value: ValueRef<'_>) -> Value
 }
 
 pub fn day(value: ValueRef<'_>) -> Value
-    ensures { result ≡ day_of (value_of value.entry) }
+    ensures { result ≡ day_of (lent_value value.entry) }
 {
     match value {
         ValueRef::Date(day) => match calendar_date(day) {

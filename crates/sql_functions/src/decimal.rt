@@ -1,6 +1,6 @@
-ghost use Rattle.std.specs.Prelude.{◌≡◌, ◌+ℤ◌, neg_ℤ, option_map};
-ghost use Rattle.decimals.specs.Arithmetic.{parts_of};
-ghost use Rattle.sql_functions.specs.DecimalNumbers.{at_one_scale, decimal_difference, decimal_opposite, decimal_parts, decimal_product, decimal_sum, from_units, parts_product, units_of};
+ghost use Rattle.std.specs.Prelude.{◌≡◌, option_map};
+ghost use Rattle.decimals.specs.Arithmetic.{difference_of, parts_of, sum_of};
+ghost use Rattle.sql_functions.specs.DecimalNumbers.{decimal_difference, decimal_opposite, decimal_parts, decimal_product, decimal_sum, from_units, parts_product, units_of};
 
 use decimals::{Decimal, OutOfRange};
 use sql_values::{Fail, SqlType, Value};
@@ -26,13 +26,13 @@ pub fn in_range(number: Result<Decimal, OutOfRange>) -> Result<Value, Fail>
 }
 
 fn exact_sum(a: Decimal, b: Decimal) -> Result<Value, Fail>
-    ensures { result ≡ at_one_scale ◌+ℤ◌ (parts_of a) (parts_of b) }
+    ensures { result ≡ from_units (sum_of (parts_of a) (parts_of b)) }
 {
     in_range(a.add(b))
 }
 
 fn exact_difference(a: Decimal, b: Decimal) -> Result<Value, Fail>
-    ensures { result ≡ at_one_scale (λ x y. x +ℤ neg_ℤ y) (parts_of a) (parts_of b) }
+    ensures { result ≡ from_units (difference_of (parts_of a) (parts_of b)) }
 {
     in_range(a.sub(b))
 }

@@ -1,6 +1,6 @@
 //! What follows from the definitions.
 ghost use Rattle.std.specs.Prelude.{◌≡◌, ◌≢◌, true, false, Ok};
-ghost use Rattle.sql_values.specs.Cells.{value_of};
+ghost use Rattle.sql_values.specs.Cells.{lent_value};
 ghost use Rattle.sql_values.specs.Types.{HasType, IsType};
 ghost use Rattle.sql_functions.specs.Casts.{cast_of};
 ghost use Rattle.sql_functions.specs.Comparison.{compared, distinct};
@@ -12,8 +12,8 @@ use sql_values::{SqlType, Value, ValueRef, text_reads_back};
 
 /// The law that a comparison with NULL is NULL, and so is the opposite of NULL.
 pub fn nulls_are_unknown(name: CallName, value: ValueRef<'_>)
-    ensures left { compared name Value.Null (value_of value.entry) ≡ Value.Null }
-    ensures right { compared name (value_of value.entry) Value.Null ≡ Value.Null }
+    ensures left { compared name Value.Null (lent_value value.entry) ≡ Value.Null }
+    ensures right { compared name (lent_value value.entry) Value.Null ≡ Value.Null }
     ensures opposite { truth_not Value.Null ≡ Value.Null }
 {
     match value {
@@ -29,7 +29,7 @@ pub fn nulls_are_unknown(name: CallName, value: ValueRef<'_>)
 /// The law that NULL is distinct from each value but NULL.
 pub fn null_is_distinct_from_values(value: ValueRef<'_>)
     ensures same { distinct Value.Null Value.Null ≡ Value.Boolean false }
-    ensures other { value_of value.entry ≢ Value.Null → distinct (value_of value.entry) Value.Null ≡ Value.Boolean true }
+    ensures other { lent_value value.entry ≢ Value.Null → distinct (lent_value value.entry) Value.Null ≡ Value.Boolean true }
 {
     match value {
         ValueRef::Null => {}
@@ -44,9 +44,9 @@ pub fn null_is_distinct_from_values(value: ValueRef<'_>)
 /// The law that a cast to varchar and back gives the value.
 pub fn cast_to_text_reads_back(kind: SqlType, value: ValueRef<'_>)
     requires is_type { IsType kind }
-    requires not_null { value_of value ≢ Value.Null }
-    requires has_type { HasType kind (value_of value) }
-    ensures { and_then (cast_of kind SqlType.Varchar (value_of value.entry)) (cast_of SqlType.Varchar kind) ≡ Ok (value_of value.entry) }
+    requires not_null { lent_value value ≢ Value.Null }
+    requires has_type { HasType kind (lent_value value) }
+    ensures { and_then (cast_of kind SqlType.Varchar (lent_value value.entry)) (cast_of SqlType.Varchar kind) ≡ Ok (lent_value value.entry) }
 {
     text_reads_back(kind, value);
     match value {

@@ -8,7 +8,11 @@
 //! - `truth`: three-valued logic, by `specs/Truth.antt`
 //! - `compare`: comparisons, by `specs/Comparison.antt`
 //! - `bigint`, `decimal`, `arithmetic`: numbers, by `specs/Bigints.antt`, `specs/DecimalNumbers.antt`
-//!   and `specs/Arithmetic.antt`
+//!   and `specs/Arithmetic.antt`; decimals cite the words of `decimals`
+//! - `texts`, `dates`, `like`, `casts`: by `specs/TextCalls.antt`, `specs/DateCalls.antt`,
+//!   `specs/Like.antt` and `specs/Casts.antt`
+//! - `calls`, `call_types`: calls by their names, and the types that they take and give
+//! - `laws`: what follows from the definitions
 #![tactic(auto)]
 
 mod arithmetic;
@@ -22,6 +26,8 @@ mod decimal;
 mod laws;
 mod like;
 mod name;
+#[cfg(test)]
+mod tests;
 mod texts;
 mod truth;
 

@@ -1,5 +1,5 @@
 ghost use Rattle.std.specs.Prelude.{◌≡◌, ◌+◌, [], ◌∷◌, length, reverse, chars, false, ◌||◌, ◌&&◌, IfOk};
-ghost use Rattle.sql_values.specs.Cells.{value_of};
+ghost use Rattle.sql_values.specs.Cells.{lent_value};
 ghost use Rattle.sql_functions.specs.Like.{is_like, like_of, takes};
 ghost use Rattle.sql_functions.specs.LikeRows.{ends_from, moved, next_row, set_from};
 
@@ -115,7 +115,7 @@ fn is_like(alloc: Global, text: &str, pattern: &str) -> Result<bool, Memory>
 }
 
 pub fn like(alloc: Global, text: ValueRef<'_>, pattern: ValueRef<'_>) -> Result<Value, Memory>
-    ensures { IfOk result (λ v. v ≡ like_of (value_of text.entry) (value_of pattern.entry)) }
+    ensures { IfOk result (λ v. v ≡ like_of (lent_value text.entry) (lent_value pattern.entry)) }
 {
     match (text, pattern) {
         (ValueRef::Varchar(text), ValueRef::Varchar(pattern)) => {

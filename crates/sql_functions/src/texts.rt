@@ -1,5 +1,5 @@
 ghost use Rattle.std.specs.Prelude.{◌≡◌, ◌<◌, ◌^◌, ◌+◌, length, chars, pos, MatchResult};
-ghost use Rattle.sql_values.specs.Cells.{value_of};
+ghost use Rattle.sql_values.specs.Cells.{lent_value};
 ghost use Rattle.sql_functions.specs.Outcomes.{FailsBy};
 ghost use Rattle.sql_functions.specs.TextCalls.{concat_of, joined, length_of};
 
@@ -22,7 +22,7 @@ fn count_of(text: &str) -> i64
 }
 
 pub fn length(value: ValueRef<'_>) -> Value
-    ensures { result ≡ length_of (value_of value.entry) }
+    ensures { result ≡ length_of (lent_value value.entry) }
 {
     match value {
         ValueRef::Varchar(text) => Value::Bigint(count_of(text)),
@@ -42,7 +42,7 @@ fn join(alloc: Global, a: &str, b: &str) -> Result<Value, EvalFault>
 }
 
 pub fn concat(alloc: Global, a: ValueRef<'_>, b: ValueRef<'_>) -> Result<Value, EvalFault>
-    ensures { MatchResult result (λ v. concat_of (value_of a.entry) (value_of b.entry) ≡ Ok v) (FailsBy (concat_of (value_of a.entry) (value_of b.entry))) }
+    ensures { MatchResult result (λ v. concat_of (lent_value a.entry) (lent_value b.entry) ≡ Ok v) (FailsBy (concat_of (lent_value a.entry) (lent_value b.entry))) }
 {
     match (a, b) {
         (ValueRef::Varchar(a), ValueRef::Varchar(b)) => join(alloc, a, b),

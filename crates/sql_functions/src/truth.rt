@@ -1,11 +1,11 @@
 ghost use Rattle.std.specs.Prelude.{◌≡◌};
-ghost use Rattle.sql_values.specs.Cells.{value_of};
+ghost use Rattle.sql_values.specs.Cells.{lent_value};
 ghost use Rattle.sql_functions.specs.Truth.{is_false, is_null, is_true, truth_and, truth_not, truth_or};
 
 use sql_values::{Value, ValueRef};
 
 pub fn is_null(value: ValueRef<'_>) -> bool
-    ensures { result ≡ is_null (value_of value.entry) }
+    ensures { result ≡ is_null (lent_value value.entry) }
 {
     match value {
         ValueRef::Null => true,
@@ -14,7 +14,7 @@ pub fn is_null(value: ValueRef<'_>) -> bool
 }
 
 pub fn is_true(value: ValueRef<'_>) -> bool
-    ensures { result ≡ is_true (value_of value.entry) }
+    ensures { result ≡ is_true (lent_value value.entry) }
 {
     match value {
         ValueRef::Boolean(truth) => truth,
@@ -23,7 +23,7 @@ pub fn is_true(value: ValueRef<'_>) -> bool
 }
 
 pub fn is_false(value: ValueRef<'_>) -> bool
-    ensures { result ≡ is_false (value_of value.entry) }
+    ensures { result ≡ is_false (lent_value value.entry) }
 {
     match value {
         ValueRef::Boolean(truth) => !truth,
@@ -32,7 +32,7 @@ pub fn is_false(value: ValueRef<'_>) -> bool
 }
 
 pub fn truth_not(value: ValueRef<'_>) -> Value
-    ensures { result ≡ truth_not (value_of value.entry) }
+    ensures { result ≡ truth_not (lent_value value.entry) }
 {
     match value {
         ValueRef::Boolean(truth) => Value::Boolean(!truth),
@@ -42,7 +42,7 @@ pub fn truth_not(value: ValueRef<'_>) -> Value
 
 /// FALSE where a side is FALSE, else NULL where a side is NULL, else TRUE.
 pub fn truth_and(a: ValueRef<'_>, b: ValueRef<'_>) -> Value
-    ensures { result ≡ truth_and (value_of a.entry) (value_of b.entry) }
+    ensures { result ≡ truth_and (lent_value a.entry) (lent_value b.entry) }
 {
     if is_false(a) || is_false(b) {
         return Value::Boolean(false);
@@ -55,7 +55,7 @@ pub fn truth_and(a: ValueRef<'_>, b: ValueRef<'_>) -> Value
 
 /// TRUE where a side is TRUE, else NULL where a side is NULL, else FALSE.
 pub fn truth_or(a: ValueRef<'_>, b: ValueRef<'_>) -> Value
-    ensures { result ≡ truth_or (value_of a.entry) (value_of b.entry) }
+    ensures { result ≡ truth_or (lent_value a.entry) (lent_value b.entry) }
 {
     if is_true(a) || is_true(b) {
         return Value::Boolean(true);

@@ -31,5 +31,6 @@ pub use place::Place;
 pub use tables::Part;
 pub use walk::places_of;
 pub use words::{
-    FormWord, OpWord, OutputWord, StepWord, op_named, op_of, output_named, step_named, step_of,
+    FormWord, OpWord, OutputWord, StepWord, form_of, op_named, op_of, output_named, output_of,
+    step_named, step_of,
 };

@@ -1,2 +1,7 @@
 pub mod EvalLemmas
 pub mod TruthLemmas
+pub mod TypingLemmas
+pub mod PageLemmas
+pub mod FitLemmas
+pub mod ShownLemmas
+pub mod CalmLemmas

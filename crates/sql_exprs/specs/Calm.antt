@@ -1,5 +1,5 @@
 -- Calm forms: those in which nothing is marked as able to fail.
-use Rattle.std.specs.Prelude.{List, [], ◌∷◌, slice_get, Bool, true, false, not, ◌&&◌, ◌||◌, Option, Some, None, map}
+use Rattle.std.specs.Prelude.{List, slice_get, Bool, true, false, not, ◌&&◌, ◌||◌, Option, Some, None, map}
 use Rattle.std.specs.Option.{option_or}
 use Rattle.sql_values.specs.declared.types.SqlType.{SqlType}
 use Rattle.sql_values.specs.declared.types.SqlType.TheVariants.{Boolean}

@@ -3,6 +3,7 @@ pub mod Rows
 pub mod Meaning
 pub mod Held
 pub mod Calm
-pub mod Paths
+pub mod Literals
 pub mod Typing
 pub mod Laws
+pub mod Pages

@@ -1,5 +1,5 @@
 -- The types and the values of forms on a row whose columns have the given types.
-use Rattle.std.specs.Prelude.{ℕ, List, [], ◌∷◌, map, Ok}
+use Rattle.std.specs.Prelude.{List, [], ◌∷◌, map, Ok}
 use Rattle.sql_values.specs.declared.types.SqlType.{SqlType}
 use Rattle.sql_values.specs.declared.value.Value.{Value}
 use Rattle.sql_values.specs.declared.value.Value.TheVariants.{Null}

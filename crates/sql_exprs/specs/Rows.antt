@@ -1,32 +1,49 @@
 -- What calls and cases make of the outcomes of their parts. Each stops at what decides it: outcomes
 -- that stand after do not count.
-use Rattle.std.specs.Prelude.{◌≡◌, List, [], ◌∷◌, true, false, if◌then◌else◌, Option, Some, None, unwrap_or, Ok, Err}
+use Rattle.std.specs.Prelude.{◌≡◌, List, [], ◌∷◌, Bool, true, false, if◌then◌else◌, Option, Some, None, unwrap_or, Result, Ok, Err}
+use Rattle.std.specs.List.{list_any}
 use Rattle.sql_values.specs.declared.types.SqlType.{SqlType}
 use Rattle.sql_values.specs.declared.value.Value.{Value}
 use Rattle.sql_values.specs.declared.value.Value.TheVariants.{Null, Boolean}
+use Rattle.sql_values.specs.declared.fail.Fail.{Fail}
 use Rattle.sql_values.specs.declared.fail.EvalFault.{EvalFault}
 use Rattle.sql_values.specs.declared.fail.EvalFault.TheVariants as fault
 use Rattle.sql_functions.specs.declared.name.CallName.{CallName}
 use Rattle.sql_functions.specs.declared.name.CallName.TheVariants.{And, Or, Coalesce}
 use Rattle.sql_functions.specs.Outcomes.{Outcome, and_then}
-use Rattle.sql_functions.specs.Truth.{is_null, is_true, is_false, truth_and, truth_or}
+use Rattle.sql_functions.specs.Truth.{is_null, is_true, is_false}
 use Rattle.sql_functions.specs.Calls.{unary_of, binary_of}
 
--- stops at the first FALSE; the values before it are taken together as the first argument
-abbrev pub and_from : Value → List Outcome → Outcome
-and_from so_far [] = Ok so_far
-and_from so_far (o ∷ os) = and_then o (λ v. if is_false v then Ok (Boolean false) else and_from (truth_and so_far v) os)
+-- the values of the outcomes up to the first that decides, with it, or the failure before it
+abbrev pub with_value : Value → Result (List Value) Fail → Result (List Value) Fail
+with_value v (Ok vs) = Ok (v ∷ vs)
+with_value v (Err kind) = Err kind
 
+abbrev pub evaluated : (Value → Bool) → List Outcome → Result (List Value) Fail
+evaluated decides [] = Ok []
+evaluated decides (Err kind ∷ os) = Err kind
+evaluated decides (Ok v ∷ os) = if decides v then Ok (v ∷ []) else with_value v (evaluated decides os)
+
+-- what a table makes of the evaluated values
+abbrev pub over : (List Value → Value) → Result (List Value) Fail → Outcome
+over table (Ok vs) = Ok (table vs)
+over table (Err kind) = Err kind
+
+-- FALSE where a value is FALSE, else NULL where one is NULL, else TRUE
+abbrev pub all_of : List Value → Value
+all_of vs = if list_any is_false vs then Boolean false else if list_any is_null vs then Null else Boolean true
+
+-- TRUE where a value is TRUE, else NULL where one is NULL, else FALSE
+abbrev pub any_of : List Value → Value
+any_of vs = if list_any is_true vs then Boolean true else if list_any is_null vs then Null else Boolean false
+
+-- stops at the first FALSE
 abbrev pub and_of : List Outcome → Outcome
-and_of = and_from (Boolean true)
+and_of os = over all_of (evaluated is_false os)
 
 -- stops at the first TRUE
-abbrev pub or_from : Value → List Outcome → Outcome
-or_from so_far [] = Ok so_far
-or_from so_far (o ∷ os) = and_then o (λ v. if is_true v then Ok (Boolean true) else or_from (truth_or so_far v) os)
-
 abbrev pub or_of : List Outcome → Outcome
-or_of = or_from (Boolean false)
+or_of os = over any_of (evaluated is_true os)
 
 -- stops at the first value that is not NULL
 abbrev pub coalesce_of : List Outcome → Outcome

@@ -1,6 +1,6 @@
 ghost use Rattle.std.specs.Prelude.{◌≡◌, List};
 ghost use Rattle.sql_values.specs.declared.value.Value.{Value};
-ghost use Rattle.sql_values.specs.Cells.{cell, value_of};
+ghost use Rattle.sql_values.specs.Cells.{cell, lent_value};
 
 use sql_values::{Row, ValueRef};
 
@@ -10,7 +10,7 @@ pub trait Cells {
 
     /// The value in a column: NULL past the row's last one.
     fn cell(&self, column: u32) -> ValueRef<'_>
-        ensures { value_of result ≡ cell (values self.now) column };
+        ensures { lent_value result ≡ cell (values self.now) column };
 }
 
 impl Cells for Row {

@@ -1,5 +1,5 @@
 ghost use Rattle.std.specs.Prelude.{◌≡◌, Option, option_map, map, MatchResult};
-ghost use Rattle.sql_values.specs.Cells.{value_of as lent_value};
+ghost use Rattle.sql_values.specs.Cells.{lent_value};
 ghost use Rattle.sql_functions.specs.Outcomes.{FailsBy, and_then};
 ghost use Rattle.sql_functions.specs.Casts.{cast_of};
 ghost use Rattle.sql_exprs.specs.Forms.{form_view};
@@ -77,6 +77,7 @@ fn eval_call<'a, C: Cells>(
 }
 
 /// Stops at the first FALSE.
+#[tactic(auto, using(crate::proofs::TruthLemmas::and_of_from))]
 #[cycle(eval)]
 fn eval_and<'a, C: Cells>(
     alloc: Global,
@@ -98,6 +99,7 @@ fn eval_and<'a, C: Cells>(
 }
 
 /// Stops at the first TRUE.
+#[tactic(auto, using(crate::proofs::TruthLemmas::or_of_from))]
 #[cycle(eval)]
 fn eval_or<'a, C: Cells>(
     alloc: Global,

@@ -1,5 +1,5 @@
 ghost use Rattle.std.specs.Prelude.{◌≡◌, IfOk};
-ghost use Rattle.sql_values.specs.Cells.{value_of};
+ghost use Rattle.sql_values.specs.Cells.{lent_value};
 ghost use Rattle.sql_exprs.specs.Held.{held_value};
 
 use sql_values::{Memory, Value, ValueRef};
@@ -14,7 +14,7 @@ pub enum Held<'a> {
 
 impl Held<'_> {
     pub fn as_ref(&self) -> ValueRef<'_>
-        ensures { value_of result ≡ held_value self.now }
+        ensures { lent_value result ≡ held_value self.now }
     {
         match self {
             Held::Lent(value) => *value,

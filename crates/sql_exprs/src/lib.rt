@@ -6,8 +6,9 @@
 //! - `expr`, `copy`: expressions and their copies
 //! - `cells`, `held`: the cells of a row, and values that are lent or made
 //! - `eval`, `kinds`: the value of an expression on a row, and its type, by `specs/Rows.antt`
-//! - `typing`, `path`: which expressions have a type, and the path of the first part that does not
-//!   fit, by `specs/Typing.antt`
+//! - `page`, `page_row`: the values of an expression at positions of a page, by `specs/Pages.antt`
+//! - `typing`, `literal`: which expressions have a type, and the path of the first part that does
+//!   not fit, by `specs/Typing.antt` and `specs/Literals.antt`
 //! - `calm`: expressions in which nothing can fail, by `specs/Calm.antt`
 //! - `laws`: what follows from the definitions
 #![tactic(auto)]
@@ -20,7 +21,9 @@ mod expr;
 mod held;
 mod kinds;
 mod laws;
-mod path;
+mod literal;
+mod page;
+mod page_row;
 #[cfg(test)]
 mod tests;
 mod typing;
@@ -32,7 +35,12 @@ pub use eval::{eval_cells, eval_row};
 pub use expr::{Branch, BranchList, Expr, ExprList};
 pub use held::Held;
 pub use kinds::kind_of;
-pub use laws::{and_is_by_the_truth_table, or_is_by_the_truth_table};
-pub use path::{Step, pointer_of, under};
+pub use laws::{
+    and_is_by_the_truth_table, calm_never_fails, or_is_by_the_truth_table, typed_kind,
+    typed_values_fit,
+};
+pub use literal::is_value_of;
+pub use page::{PageFault, eval_page};
+pub use plan_places::{Key, Step, pointer_of, then};
 pub use sql_functions::CallName;
 pub use typing::{BranchType, Misfit, TypeFault, type_at, typed};

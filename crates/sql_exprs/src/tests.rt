@@ -1,10 +1,13 @@
 //! Values from outside: those that PostgreSQL and Trino document, or computed by hand.
-use crate::{Branch, CallName, Expr, TypeFault, eval_row, is_calm, typed};
+use crate::{Branch, CallName, Expr, PageFault, TypeFault, eval_page, eval_row, is_calm, typed};
 use CallName::{
     Add, AddDays, And, Coalesce, Concat, Day, DaysBetween, Divide, Equal, GreaterEqual, IsDistinct,
     IsNull, Length, Less, Like, Modulo, Month, Multiply, Neg, Not, Or, Subtract, Unequal, Year,
 };
-use sql_values::{EvalFault, Fail, Memory, Row, SqlType, Text, Value, parse_value, print_value};
+use col_pages::{Page, PageBuilder};
+use sql_values::{
+    EvalFault, Fail, Memory, Row, SqlType, Text, Value, ValueRef, parse_value, print_value,
+};
 use std::alloc::Global;
 
 const TRUTH: SqlType = SqlType::Boolean;
@@ -478,5 +481,79 @@ fn paths_of_what_does_not_fit(rt: HostRuntime) -> Result<(), Memory> {
     let cast = Expr::Cast { arg, kind: DATE };
     assert!(rt; refused_at(alloc, &unary(alloc, Year, cast)?, "/args/0")?);
     assert!(rt; refused_at(alloc, &Expr::Column(0), "none")?);
+    Ok(())
+}
+
+/// A value that a literal of the type may not hold.
+fn wrong_literal(kind: SqlType, value: Value) -> Expr {
+    Expr::Literal { kind, value }
+}
+
+#[test]
+fn literals_hold_values_of_their_types(rt: HostRuntime) -> Result<(), Memory> {
+    let alloc = rt.alloc();
+    assert!(rt; refused_at(alloc, &wrong_literal(WHOLE, Value::Null), "/lit")?);
+    assert!(rt; refused_at(alloc, &wrong_literal(WHOLE, Value::Date(1)), "/lit")?);
+    assert!(rt; refused_at(alloc, &wrong_literal(DEC_2_1, Value::Decimal(100)), "/lit")?);
+    assert!(rt; refused_at(alloc, &wrong_literal(DEC_2_1, Value::Decimal(-99)), "none")?);
+    let late = wrong_literal(DATE, Value::Date(2_932_897));
+    let sum = binary(
+        alloc,
+        DaysBetween,
+        literal(alloc, DATE, "1970-01-01")?,
+        late,
+    )?;
+    assert!(rt; refused_at(alloc, &sum, "/args/1/lit")?);
+    Ok(())
+}
+
+/// Four rows of two numbers.
+fn pairs(alloc: Global) -> Result<Page, Memory> {
+    let mut builder = PageBuilder::new(alloc, &[WHOLE, WHOLE], 4)?;
+    for (a, b) in [(10, 2), (7, 0), (9, 3), (1, 0)] {
+        builder.put(ValueRef::Bigint(a))?;
+        builder.put(ValueRef::Bigint(b))?;
+        if !builder.is_full() {
+            builder.end_row();
+        }
+    }
+    builder.build()
+}
+
+/// The numbers that an expression has at the positions, or the position at which it fails.
+fn shown(alloc: Global, expr: &Expr, positions: &[u32]) -> Result<String, Memory> {
+    let mut text = String::new(alloc);
+    let page = pairs(alloc)?;
+    match eval_page(alloc, expr, &page, positions) {
+        Ok(block) => {
+            for place in 0..block.len() {
+                match block.cell(place) {
+                    ValueRef::Bigint(number) => write!(text, "{number} ")?,
+                    _ => text.push_str("NULL ")?,
+                }
+            }
+        }
+        Err(PageFault::At { position, kind }) => write!(text, "{} at {position}", name_of(kind))?,
+        Err(PageFault::Memory) => return Err(Memory),
+    }
+    Ok(text)
+}
+
+#[test]
+fn positions_in_their_order(rt: HostRuntime) -> Result<(), Memory> {
+    let alloc = rt.alloc();
+    let quotient = binary(alloc, Divide, Expr::Column(0), Expr::Column(1))?;
+    for (positions, wanted) in [
+        (&[2, 0, 2][..], "3 5 3 "),
+        (&[][..], ""),
+        (&[0, 3, 1][..], "DivisionByZero at 3"),
+        (&[2, 1, 0, 3][..], "DivisionByZero at 1"),
+        (&[4][..], "NULL "),
+    ] {
+        let found = shown(alloc, &quotient, positions)?;
+        assert_eq!(rt; found.as_str(), wanted);
+    }
+    let found = shown(alloc, &Expr::Column(0), &[3, 2, 1, 0])?;
+    assert_eq!(rt; found.as_str(), "1 9 7 10 ");
     Ok(())
 }

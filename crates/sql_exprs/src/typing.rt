@@ -3,12 +3,13 @@ ghost use Rattle.std.specs.Option.{ok_or};
 ghost use Rattle.std.specs.List.{list_all};
 ghost use Rattle.sql_functions.specs.CallTypes.{type_at};
 ghost use Rattle.sql_exprs.specs.Forms.{form_view};
-ghost use Rattle.sql_exprs.specs.Typing.{MisfitAt, RefusedFor, StandsAt, all_branch_types, arg_types, call_row, case_row, cast_row, fits_branch, form_type};
+ghost use Rattle.sql_exprs.specs.Typing.{MisfitAt, RefusedFor, StandsAt, all_branch_types, arg_types, call_row, case_row, cast_row, fits_branch, form_type, literal_row};
 
 use crate::expr::{Branch, Expr};
-use crate::path::{Step, pointer_of, under};
+use crate::literal::is_value_of;
+use plan_places::{Key, Step, pointer_of, then};
 use sql_functions::{CallName, call_type, can_cast, same_type, takes_types};
-use sql_values::{Memory, SqlType, Text};
+use sql_values::{Memory, SqlType, Text, Value};
 use std::alloc::{AllocError, AllocFailed, Global};
 use thiserror::Error;
 
@@ -92,7 +93,7 @@ pub fn typed(alloc: Global, expr: &Expr, columns: &[SqlType]) -> Result<SqlType,
     }
 }
 
-/// The type of an expression that stands at a path.
+/// The type of an expression that stands at a path. The path of what does not fit begins with it.
 #[cycle(typing)]
 pub fn type_at(
     alloc: Global,
@@ -104,22 +105,22 @@ pub fn type_at(
 {
     match expr {
         Expr::Column(column) => column_type(alloc, columns, path, *column as usize),
-        Expr::Literal { kind, .. } => Ok(*kind),
+        Expr::Literal { kind, value } => literal_row(alloc, path, *kind, value),
         Expr::Null(kind) => Ok(*kind),
         Expr::Call { name, args } => {
-            let inner = under(alloc, path, Step::Args)?;
+            let inner = then(alloc, path, Step::Key(Key::Args))?;
             let kinds = arg_types(alloc, columns, inner.as_slice(), args.as_slice())?;
             call_row(alloc, path, *name, kinds.as_slice())
         }
         Expr::Cast { arg, kind } => {
-            let inner = under(alloc, path, Step::Cast)?;
+            let inner = then(alloc, path, Step::Key(Key::Cast))?;
             let from = type_at(alloc, columns, inner.as_slice(), arg)?;
             cast_row(alloc, path, from, *kind)
         }
         Expr::Case { branches, other } => {
-            let inner = under(alloc, path, Step::Case)?;
+            let inner = then(alloc, path, Step::Key(Key::Case))?;
             let types = branch_types(alloc, columns, inner.as_slice(), branches.as_slice())?;
-            let inner = under(alloc, path, Step::Else)?;
+            let inner = then(alloc, path, Step::Key(Key::Else))?;
             let other = type_at(alloc, columns, inner.as_slice(), other)?;
             case_row(alloc, path, types.as_slice(), other)
         }
@@ -137,7 +138,7 @@ fn arg_types(
 {
     let mut kinds = Vec::with_capacity(alloc, args.len())?;
     for (at, arg) in args.iter().enumerate() {
-        let inner = under(alloc, path, Step::Place(at))?;
+        let inner = then(alloc, path, Step::Index(at))?;
         kinds.push(type_at(alloc, columns, inner.as_slice(), arg)?)?;
     }
     Ok(kinds)
@@ -154,11 +155,11 @@ fn branch_types(
 {
     let mut types = Vec::with_capacity(alloc, branches.len())?;
     for (at, branch) in branches.iter().enumerate() {
-        let inner = under(alloc, path, Step::Place(at))?;
-        let when = under(alloc, inner.as_slice(), Step::When)?;
+        let inner = then(alloc, path, Step::Index(at))?;
+        let when = then(alloc, inner.as_slice(), Step::Key(Key::When))?;
         let test = type_at(alloc, columns, when.as_slice(), &branch.test)?;
-        let then = under(alloc, inner.as_slice(), Step::Then)?;
-        let result = type_at(alloc, columns, then.as_slice(), &branch.result)?;
+        let chosen = then(alloc, inner.as_slice(), Step::Key(Key::Then))?;
+        let result = type_at(alloc, columns, chosen.as_slice(), &branch.result)?;
         types.push(BranchType { test, result })?;
     }
     Ok(types)
@@ -187,6 +188,21 @@ fn column_type(
         Some(kind) => Ok(*kind),
         None => Err(refused_at(alloc, path)),
     }
+}
+
+fn literal_row(
+    alloc: Global,
+    path: &[Step],
+    kind: SqlType,
+    value: &Value,
+) -> Result<SqlType, Misfit>
+    ensures { MatchResult result (λ t. literal_row path.now kind value.now ≡ Ok t) (MisfitAt (literal_row path.now kind value.now)) }
+{
+    if !is_value_of(kind, value) {
+        let inner = then(alloc, path, Step::Key(Key::Lit))?;
+        return Err(Misfit::At(inner));
+    }
+    Ok(kind)
 }
 
 fn call_row(

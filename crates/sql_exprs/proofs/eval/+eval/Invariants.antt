@@ -1,6 +1,7 @@
 use Rattle.std.proofs.Common.{◌≡◌, drop}
 use Rattle.sql_exprs.specs.Meaning.{arg_values, branch_values}
-use Rattle.sql_exprs.specs.Rows.{and_from, and_of, chosen_of, coalesce_of, or_from, or_of}
+use Rattle.sql_exprs.specs.Rows.{and_of, chosen_of, coalesce_of, or_of}
+use Rattle.sql_exprs.proofs.TruthLemmas.{and_from, or_from}
 use Rattle.sql_exprs.proofs.eval.+eval.Given as goal
 
 abbrev pub invariant-eval_coalesce-loop-arg : goal.invariant-eval_coalesce-loop-arg

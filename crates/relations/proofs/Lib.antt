@@ -1,0 +1,12 @@
+pub mod WorkedRows
+pub mod EqualityLemmas
+pub mod OrderLemmas
+pub mod SortLemmas
+pub mod FirstLemmas
+pub mod PartialLemmas
+pub mod BagLemmas
+pub mod PartialOrderLemmas
+pub mod NothingLemmas
+pub mod LawRules
+pub mod WidthLemmas
+pub mod VerdictLemmas

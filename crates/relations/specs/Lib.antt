@@ -1,0 +1,9 @@
+pub mod Equality
+pub mod Verdicts
+pub mod Joins
+pub mod Aggregates
+pub mod Groups
+pub mod Partials
+pub mod Sorts
+pub mod Laws
+pub mod Widths

@@ -1,0 +1,83 @@
+use sql_exprs::{Expr, ExprList};
+use sql_values::{Call, Items, JoinKind, KeySpec, Places, RowList, Types};
+
+/// A column of the left side of a join and one of the right, which are equal in partners.
+#[derive(Clone, Copy, Debug, PartialEq, Eq)]
+pub struct Pair {
+    pub left: u32,
+    pub right: u32,
+}
+
+pub type Pairs = Items<Pair>;
+
+/// Sort keys, the first one first.
+pub type KeyList = Items<KeySpec>;
+
+/// Calls of aggregates.
+pub type CallList = Items<Call>;
+
+/// An operator over the rows of its inputs. Each has the id of its node in the plan.
+#[derive(Debug, Drop)]
+pub enum Tree {
+    /// The rows of a table, cut to the columns at these places, which have these types.
+    Scan {
+        id: u32,
+        table: u32,
+        columns: Places,
+        types: Types,
+    },
+    Values {
+        id: u32,
+        types: Types,
+        rows: RowList,
+    },
+    /// What the fragment under it gives, in any order.
+    Remote {
+        id: u32,
+        input: Box<Tree>,
+    },
+    Filter {
+        id: u32,
+        predicate: Expr,
+        input: Box<Tree>,
+    },
+    Project {
+        id: u32,
+        columns: ExprList,
+        input: Box<Tree>,
+    },
+    Join {
+        id: u32,
+        kind: JoinKind,
+        on: Pairs,
+        left: Box<Tree>,
+        right: Box<Tree>,
+    },
+    Aggregate {
+        id: u32,
+        keys: Places,
+        calls: CallList,
+        input: Box<Tree>,
+    },
+    Sort {
+        id: u32,
+        keys: KeyList,
+        input: Box<Tree>,
+    },
+    TopN {
+        id: u32,
+        count: u32,
+        keys: KeyList,
+        input: Box<Tree>,
+    },
+    Limit {
+        id: u32,
+        count: u32,
+        input: Box<Tree>,
+    },
+    Union {
+        id: u32,
+        left: Box<Tree>,
+        right: Box<Tree>,
+    },
+}

@@ -1,0 +1,127 @@
+ghost use Rattle.std.specs.Prelude.{◌≡◌, ◌++◌, map, IfOk, OnOk};
+ghost use Rattle.sql_functions.specs.CallTypes.{type_at};
+ghost use Rattle.sql_exprs.specs.Forms.{form_view};
+ghost use Rattle.sql_exprs.specs.Meaning.{kind_of};
+ghost use Rattle.plan_trees.specs.TreeTypes.{call_kind, sum_kind, types_of};
+ghost use Rattle.plan_trees.specs.TreeForms.{tree_view};
+
+use crate::tree::Tree;
+use sql_exprs::{Expr, kind_of};
+use sql_values::{Call, Memory, SqlType, Types};
+use std::alloc::Global;
+
+/// The types of the columns of a tree's rows.
+pub fn types_of_tree(alloc: Global, tree: &Tree) -> Result<Types, Memory>
+    ensures { IfOk result (λ ts. ts ≡ types_of (tree_view tree.now)) }
+{
+    match tree {
+        Tree::Scan { types, .. } => copy_types(alloc, types.as_slice()),
+        Tree::Values { types, .. } => copy_types(alloc, types.as_slice()),
+        Tree::Remote { input, .. } => types_of_tree(alloc, input),
+        Tree::Filter { input, .. } => types_of_tree(alloc, input),
+        Tree::Project { columns, input, .. } => {
+            let types = types_of_tree(alloc, input)?;
+            column_types(alloc, types.as_slice(), columns.as_slice())
+        }
+        Tree::Join { left, right, .. } => {
+            let mut types = types_of_tree(alloc, left)?;
+            let right = types_of_tree(alloc, right)?;
+            append_types(&mut types, right.as_slice())?;
+            Ok(types)
+        }
+        Tree::Aggregate {
+            keys,
+            calls,
+            input,
+            ..
+        } => {
+            let input = types_of_tree(alloc, input)?;
+            let mut types = Types::new(alloc);
+            append_key_types(&mut types, input.as_slice(), keys.as_slice())?;
+            append_call_types(&mut types, input.as_slice(), calls.as_slice())?;
+            Ok(types)
+        }
+        Tree::Sort { input, .. } => types_of_tree(alloc, input),
+        Tree::TopN { input, .. } => types_of_tree(alloc, input),
+        Tree::Limit { input, .. } => types_of_tree(alloc, input),
+        Tree::Union { left, .. } => types_of_tree(alloc, left),
+    }
+}
+
+fn copy_types(alloc: Global, types: &[SqlType]) -> Result<Types, Memory>
+    ensures { IfOk result (λ ts. ts ≡ types.now) }
+{
+    Ok(Types::of(Vec::from_slice(alloc, types)?))
+}
+
+pub fn append_types(types: &mut Types, more: &[SqlType]) -> Result<(), Memory>
+    ensures { OnOk result (types.new ≡ types.old ++ more.now) }
+{
+    for kind in more {
+        types.push(*kind)?;
+    }
+    Ok(())
+}
+
+/// The types of expressions over columns of these types.
+fn column_types(alloc: Global, types: &[SqlType], columns: &[Expr]) -> Result<Types, Memory>
+    ensures { IfOk result (λ ts. ts ≡ map (kind_of types.now) (map form_view columns.now)) }
+{
+    let mut kinds = Types::new(alloc);
+    for column in columns {
+        kinds.push(kind_of(types, column))?;
+    }
+    Ok(kinds)
+}
+
+pub fn append_key_types(kinds: &mut Types, types: &[SqlType], keys: &[u32]) -> Result<(), Memory>
+    ensures { OnOk result (kinds.new ≡ kinds.old ++ map (type_at types.now) keys.now) }
+{
+    for key in keys {
+        kinds.push(type_at(types, *key))?;
+    }
+    Ok(())
+}
+
+pub fn append_call_types(kinds: &mut Types, types: &[SqlType], calls: &[Call]) -> Result<(), Memory>
+    ensures { OnOk result (kinds.new ≡ kinds.old ++ map (call_kind types.now) calls.now) }
+{
+    for call in calls {
+        kinds.push(call_kind(types, *call))?;
+    }
+    Ok(())
+}
+
+/// The type of an aggregate's result over rows of these types.
+fn call_kind(types: &[SqlType], call: Call) -> SqlType
+    ensures { result ≡ call_kind types.now call }
+{
+    match call {
+        Call::CountAll => SqlType::Bigint,
+        Call::Count(_) => SqlType::Bigint,
+        Call::Sum(column) => sum_kind(type_at(types, column)),
+        Call::Min(column) => type_at(types, column),
+        Call::Max(column) => type_at(types, column),
+        Call::Avg(column) => type_at(types, column),
+    }
+}
+
+/// A sum of bigints is a bigint, one of decimals has as many digits as a decimal can have.
+fn sum_kind(kind: SqlType) -> SqlType
+    ensures { result ≡ sum_kind kind }
+{
+    match kind {
+        SqlType::Decimal { s, .. } => SqlType::Decimal { p: 38, s },
+        _ => SqlType::Bigint,
+    }
+}
+
+/// The type of the column at a place: boolean where there is none.
+fn type_at(types: &[SqlType], column: u32) -> SqlType
+    ensures { result ≡ type_at types.now column }
+{
+    match types.get(column as usize) {
+        Some(kind) => *kind,
+        None => SqlType::Boolean,
+    }
+}

@@ -1,0 +1,17 @@
+pub mod BagLemmas
+pub mod GatherLemmas
+pub mod BucketLemmas
+pub mod JoinLemmas
+pub mod FilterLemmas
+pub mod DistinctLemmas
+pub mod GroupLemmas
+pub mod MergeLemmas
+pub mod PieceLemmas
+pub mod LimitLemmas
+pub mod TopLemmas
+pub mod KeyLemmas
+pub mod VerdictLemmas
+pub mod WithinLemmas
+pub mod LawLemmas
+pub mod SpreadLemmas
+pub mod WorkedRows

@@ -1,0 +1,9 @@
+pub mod Nodes
+pub mod Plans
+pub mod Words
+pub mod Names
+pub mod Exprs
+pub mod Cells
+pub mod Parts
+pub mod ReadNodes
+pub mod Documents

@@ -1,0 +1,152 @@
+ghost use Rattle.std.specs.Prelude.{◌≡◌, ◌++◌, IfOk, OnOk};
+ghost use Rattle.std.specs.List.{flat_map, position_from};
+ghost use Rattle.sql_functions.specs.CallTypes.{type_at};
+ghost use Rattle.plan_types.specs.Aggregates.{call_layout, has_column, is_short, is_summed, layout_types, step_types, sum_layout, takes, takes_not, whole_types};
+
+use crate::row_types::{RowTypes, plain};
+use plan_docs::NodeStep;
+use plan_trees::{append_call_types, append_key_types};
+use sql_values::{Call, Memory, SqlType, Types};
+use std::alloc::Global;
+
+fn is_short(kind: SqlType) -> bool
+    ensures { result ≡ is_short kind }
+{
+    match kind {
+        SqlType::Decimal { p, .. } => p <= 18,
+        _ => false,
+    }
+}
+
+fn has_column(types: &[SqlType], column: u32) -> bool
+    ensures { result ≡ has_column types.now column }
+{
+    (column as usize) < types.len()
+}
+
+/// The type of the column at a place: boolean where there is none.
+fn type_at(types: &[SqlType], column: u32) -> SqlType
+    ensures { result ≡ type_at types.now column }
+{
+    match types.get(column as usize) {
+        Some(kind) => *kind,
+        None => SqlType::Boolean,
+    }
+}
+
+/// Whether the call has an argument, where it takes one, and of a type that it takes.
+fn takes(types: &[SqlType], call: Call) -> bool
+    ensures { result ≡ takes types.now call }
+{
+    match call {
+        Call::CountAll => true,
+        Call::Count(column) => has_column(types, column),
+        Call::Sum(column) => has_column(types, column) && is_summed(type_at(types, column)),
+        Call::Min(column) => has_column(types, column),
+        Call::Max(column) => has_column(types, column),
+        Call::Avg(column) => has_column(types, column) && is_short(type_at(types, column)),
+    }
+}
+
+fn is_summed(kind: SqlType) -> bool
+    ensures { result ≡ is_summed kind }
+{
+    kind == SqlType::Bigint || is_short(kind)
+}
+
+/// The first of the calls that does not take its argument.
+pub fn first_untaken(types: &[SqlType], calls: &[Call]) -> Option<usize>
+    ensures { result ≡ position_from (takes_not types.now) 0 calls.now }
+{
+    for (i, call) in calls.iter().enumerate() {
+        if !takes(types, *call) {
+            return Some(i);
+        }
+    }
+    None
+}
+
+/// The types of an aggregate's rows.
+pub fn step_types(
+    alloc: Global,
+    step: NodeStep,
+    types: &[SqlType],
+    keys: &[u32],
+    calls: &[Call],
+) -> Result<RowTypes, Memory>
+    ensures { IfOk result (λ t. t ≡ step_types step types.now keys.now calls.now) }
+{
+    let whole = whole_types(alloc, types, keys, calls)?;
+    match step {
+        NodeStep::Single => Ok(plain(whole)),
+        NodeStep::Partial => Ok(RowTypes {
+            columns: layout_types(alloc, types, keys, calls)?,
+            whole: Some(whole),
+        }),
+    }
+}
+
+fn whole_types(
+    alloc: Global,
+    types: &[SqlType],
+    keys: &[u32],
+    calls: &[Call],
+) -> Result<Types, Memory>
+    ensures { IfOk result (λ ts. ts ≡ whole_types types.now keys.now calls.now) }
+{
+    let mut kinds = Types::new(alloc);
+    append_key_types(&mut kinds, types, keys)?;
+    append_call_types(&mut kinds, types, calls)?;
+    Ok(kinds)
+}
+
+fn layout_types(
+    alloc: Global,
+    types: &[SqlType],
+    keys: &[u32],
+    calls: &[Call],
+) -> Result<Types, Memory>
+    ensures { IfOk result (λ ts. ts ≡ layout_types types.now keys.now calls.now) }
+{
+    let mut kinds = Types::new(alloc);
+    append_key_types(&mut kinds, types, keys)?;
+    kinds.push(SqlType::Decimal { p: 38, s: 0 })?;
+    append_layouts(&mut kinds, types, calls)?;
+    Ok(kinds)
+}
+
+fn append_layouts(kinds: &mut Types, types: &[SqlType], calls: &[Call]) -> Result<(), Memory>
+    ensures { OnOk result (kinds.new ≡ kinds.old ++ flat_map (call_layout types.now) calls.now) }
+{
+    for call in calls {
+        append_layout(kinds, types, *call)?;
+    }
+    Ok(())
+}
+
+/// Appends what a call keeps between the halves of an aggregate.
+fn append_layout(kinds: &mut Types, types: &[SqlType], call: Call) -> Result<(), Memory>
+    ensures { OnOk result (kinds.new ≡ kinds.old ++ call_layout types.now call) }
+{
+    match call {
+        Call::CountAll => {}
+        Call::Count(_) => kinds.push(SqlType::Bigint)?,
+        Call::Sum(column) => kinds.push(sum_layout(type_at(types, column)))?,
+        Call::Min(column) => kinds.push(type_at(types, column))?,
+        Call::Max(column) => kinds.push(type_at(types, column))?,
+        Call::Avg(column) => {
+            kinds.push(sum_layout(type_at(types, column)))?;
+            kinds.push(SqlType::Bigint)?;
+        }
+    }
+    Ok(())
+}
+
+fn sum_layout(kind: SqlType) -> SqlType
+    ensures { result ≡ sum_layout kind }
+{
+    match kind {
+        SqlType::Decimal { s, .. } => SqlType::Decimal { p: 38, s },
+        _ => SqlType::Decimal { p: 38, s: 0 },
+    }
+}

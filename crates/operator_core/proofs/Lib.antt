@@ -1,0 +1,7 @@
+pub mod HeldLemmas
+pub mod SampleLemmas
+pub mod StageLemmas
+pub mod LinkLemmas
+pub mod TurnLemmas
+pub mod ChainLemmas
+pub mod MadeLemmas

@@ -1,0 +1,76 @@
+-- What a call of an operator leaves, as the trait's clauses say it of a call that did not want memory.
+use Rattle.std.specs.Prelude.{◌≡◌, ◌↔◌, ℕ, List, [], ◌++◌, true, false}
+use Rattle.sql_values.specs.declared.fail.Fail.{Fail}
+use Rattle.col_pages.specs.Pages.{TypedPage}
+use Rattle.operator_core.specs.declared.operator.Operator.{Ghosts}
+use Rattle.operator_core.specs.Rows.{Row, Coming}
+
+-- the laws of the trait that speak of what is still to come
+pub record IsLawful {S : Type 0} (g : Ghosts S) : Type 0 where
+  pub some_rows : (s : S) (Z : List Row) → Coming (g.is_told s) Z → (B : List Row) × g.may_give s Z B
+  pub holds_rest : (s : S) (B : List Row) → g.is_told s ≡ true → g.may_give s [] B → (g.holds_row s ≡ false) ↔ (B ≡ [])
+  pub finished : (s : S) → (g.is_finished s ≡ true) ↔ ((g.is_told s ≡ true) × (g.holds_row s ≡ false)
+      × ((node : ℕ) (kind : Fail) → g.may_still_fail s [] node kind → ⊥))
+  pub made_untold : (s : S) → g.is_told (g.as_made s) ≡ false
+  pub made_knows : (s : S) → g.knows (g.as_made s) ≡ g.knows s
+  pub made_went : (s : S) → g.went (g.as_made s) [] []
+  pub learns_as_made : (s m : S) → g.may_learn s m ↔ g.may_learn (g.as_made s) m
+  pub learns_made : (s m : S) → g.may_learn s m → (g.knows m ≡ true) × (g.is_told m ≡ false) × (g.as_made m ≡ m)
+  pub any_note : (s m : S) (T G Z : List Row) → g.knows s ≡ false → g.went s T G → g.may_learn s m → Coming (g.is_told s) Z
+      → (B : List Row) × g.may_give m (T ++ Z) (G ++ B) × (g.is_finished s ≡ true → B ≡ [])
+
+-- what stays at each call but `blocked`
+pub record Stays {S : Type 0} (g : Ghosts S) (old new : S) : Type 0 where
+  pub as_made : g.as_made new ≡ g.as_made old
+  pub knows : g.knows new ≡ g.knows old
+  pub over : g.is_finished old ≡ true → g.is_finished new ≡ true
+  pub takes : (page : TypedPage) → g.takes old page → g.takes new page
+  pub size : g.page_size new ≡ g.page_size old
+  pub looks : g.empty_looks new ≡ g.empty_looks old
+
+-- a page of these rows was taken in
+pub record Took {S : Type 0} (g : Ghosts S) (old new : S) (P : List Row) : Type 0 where
+  pub gives : (Z B : List Row) → g.may_give new Z B → g.may_give old (P ++ Z) B
+  pub fails : (Z : List Row) (node : ℕ) (kind : Fail) → g.may_still_fail new Z node kind ↔ g.may_still_fail old (P ++ Z) node kind
+  pub went : g.knows old ≡ false → (T G : List Row) → g.went old T G → g.went new (T ++ P) G
+  pub same : Stays g old new
+  pub untold : g.is_told old ≡ false
+  pub told : g.is_told new ≡ g.is_told old
+
+-- a page of these rows was given, or none
+pub record Gave {S : Type 0} (g : Ghosts S) (old new : S) (P : List Row) : Type 0 where
+  pub gives : (Z B : List Row) → Coming (g.is_told old) Z → g.may_give new Z B → g.may_give old Z (P ++ B)
+  pub fails : (Z : List Row) (node : ℕ) (kind : Fail) → Coming (g.is_told old) Z → g.may_still_fail new Z node kind ↔ g.may_still_fail old Z node kind
+  pub went : g.knows old ≡ false → (T G : List Row) → g.went old T G → g.went new T (G ++ P)
+  pub same : Stays g old new
+  pub told : g.is_told new ≡ g.is_told old
+
+-- it was told to finish
+pub record Told {S : Type 0} (g : Ghosts S) (old new : S) : Type 0 where
+  pub gives : (B : List Row) → g.may_give new [] B → g.may_give old [] B
+  pub fails : (node : ℕ) (kind : Fail) → g.may_still_fail new [] node kind ↔ g.may_still_fail old [] node kind
+  pub went : g.knows old ≡ false → (T G : List Row) → g.went old T G → g.went new T G
+  pub same : Stays g old new
+  pub told : g.is_told new ≡ true
+
+-- it looked at its note
+pub record Looked {S : Type 0} (g : Ghosts S) (old new : S) : Type 0 where
+  pub gives : (Z B : List Row) → Coming (g.is_told old) Z → g.may_give new Z B → g.may_give old Z B
+  pub fails : (Z : List Row) (node : ℕ) (kind : Fail) → Coming (g.is_told old) Z → g.may_still_fail new Z node kind ↔ g.may_still_fail old Z node kind
+  pub known : g.knows old ≡ true → g.knows new ≡ true
+  pub same : g.knows new ≡ g.knows old → g.as_made new ≡ g.as_made old
+  pub went : g.knows new ≡ false → (T G : List Row) → g.went old T G → g.went new T G
+  pub learns : g.knows old ≡ false → g.knows new ≡ true → g.may_learn old (g.as_made new)
+  pub learns_gives : g.knows old ≡ false → g.knows new ≡ true → (T G : List Row) → g.went old T G
+      → (Z B : List Row) → Coming (g.is_told old) Z → g.may_give new Z B → g.may_give (g.as_made new) (T ++ Z) (G ++ B)
+  pub learns_fails : g.knows old ≡ false → g.knows new ≡ true → (T G : List Row) → g.went old T G
+      → (Z : List Row) (node : ℕ) (kind : Fail) → Coming (g.is_told old) Z
+      → g.may_still_fail new Z node kind ↔ g.may_still_fail (g.as_made new) (T ++ Z) node kind
+  pub told : g.is_told new ≡ g.is_told old
+  pub over : g.is_finished old ≡ true → g.is_finished new ≡ true
+  pub takes : (page : TypedPage) → g.takes old page → g.takes new page
+  pub size : g.page_size new ≡ g.page_size old
+
+-- a failure of this kind comes, whatever rows follow
+abbrev pub FailsNow : {S : Type 0} → Ghosts S → S → ℕ → Fail → Type 0
+FailsNow g s node kind = (Z : List Row) → Coming (g.is_told s) Z → g.may_still_fail s Z node kind

@@ -1,0 +1,162 @@
+ghost use Rattle.std.specs.Prelude.{◌≡◌, ◌↔◌, ◌+◌, ◌-◌, ◌^◌, ◌<◌, List, [], unwrap_or};
+ghost use Rattle.operator_core.specs.Rows.{Row};
+ghost use Rattle.operator_core.specs.Samples.{LimitGives};
+
+use crate::examples::Note;
+use crate::{HeldPages, OpFault, Operator};
+use blocked::{Bells, BlockedOn};
+use col_pages::Page;
+use sql_values::Memory;
+use std::alloc::Global;
+use std::sync::Wait;
+use std::thread::Threads;
+
+/// Gives as many of its first rows as its note says. It takes none before the note knows.
+#[derive(Debug, Drop)]
+pub struct NotedLimit {
+    alloc: Global,
+    bell: u32,
+    note: Note,
+    passed: u32,
+    held: HeldPages,
+    is_told: bool,
+}
+
+impl NotedLimit {
+    pub fn new(alloc: Global, bell: u32, note: Note) -> NotedLimit
+        requires { note.empty_looks ≡ 0 }
+        ensures made { ⟦<NotedLimit as Operator>⟧.as_made result ≡ result }
+        ensures gives { (X B : List Row) → ⟦<NotedLimit as Operator>⟧.may_give result X B
+            ↔ LimitGives note.known 0 [] X B }
+    {
+        NotedLimit {
+            alloc,
+            bell,
+            note,
+            passed: 0,
+            held: HeldPages::new(alloc),
+            is_told: false,
+        }
+    }
+
+    /// How many rows are still wanted.
+    fn left(&self) -> u32
+        ensures left { result ≡ unwrap_or self.now.note.known 0 - self.now.passed }
+        ensures fits { self.now.passed + result < 2 ^ 32 }
+    {
+        let passed = self.passed;
+        match self.note.known() {
+            Some(number) => number.saturating_sub(passed),
+            None => 0,
+        }
+    }
+}
+
+impl Operator for NotedLimit {
+    ghost use Rattle.std.specs.Prelude.{◌≡◌, ℕ, [], Some, true, false, not, ◌&&◌, ◌||◌, refl, is_some};
+    ghost use Rattle.col_pages.specs.Pages.{most_rows};
+    ghost use Rattle.operator_core.specs.Samples.{has_row, unlooked, LimitGives};
+    ghost use Rattle.operator_core.specs.NoteLaws.{limit-some, limit-rest, limit-needs_none, limit-needs, waits-unknowing, held-over, limit-goes_on};
+
+    ghost may_give = { λ s X B. LimitGives s.note.known s.passed s.held X B };
+
+    ghost may_still_fail = { λ _ _ _ _. ⊥ };
+
+    ghost takes = { λ _ _. Unit {0} };
+
+    ghost page_size = { λ _. most_rows };
+
+    ghost is_source = { λ _. false };
+
+    ghost needs_input = { λ s. is_some s.note.known && not (s.is_told || has_row s.held) };
+
+    ghost holds_row = { λ s. has_row s.held };
+
+    ghost is_told = { λ s. s.is_told };
+
+    ghost is_finished = { λ s. s.is_told && not (has_row s.held) };
+
+    ghost knows = { λ s. is_some s.note.known };
+
+    ghost is_waiting = { λ s. not (is_some s.note.known) };
+
+    ghost empty_looks = { λ s. s.note.empty_looks };
+
+    ghost went = { λ s T G. (T ≡ []) × (G ≡ []) × (s.held ≡ []) × (s.passed ≡ 0) };
+
+    ghost as_made = { λ s.
+        record s { note = unlooked s.note.known; passed = 0; held = []; is_told = false } };
+
+    ghost may_learn = { λ s m. (n : ℕ)
+        × (m ≡ record s { note = unlooked (Some n); passed = 0; held = []; is_told = false }) };
+
+    fn needs_input(&self) -> bool {
+        self.note.known().is_some() && !(self.is_told || !self.held.is_empty())
+    }
+
+    fn add_input(&mut self, page: Page) -> Result<(), OpFault> {
+        let taken = self.left().min(page.len());
+        self.held.push(page.slice(self.alloc, 0, taken)?)?;
+        self.passed += taken;
+        Ok(())
+    }
+
+    #[tactic(auto, using(crate::proofs::HeldLemmas::has_row_first))]
+    fn get_output(&mut self) -> Result<Option<Page>, OpFault> {
+        match self.held.take_first() {
+            Some(page) => Ok(Some(page)),
+            None => Ok(None),
+        }
+    }
+
+    fn finish(&mut self) {
+        self.is_told = true;
+    }
+
+    fn is_finished(&self) -> bool {
+        self.is_told && self.held.is_empty()
+    }
+
+    fn blocked<R: Threads + Wait + Sync, B: Bells>(
+        &mut self,
+        rt: &R,
+        bells: &mut B,
+    ) -> Result<Option<BlockedOn>, Memory> {
+        let seen = bells.seen(rt, self.bell);
+        match self.note.look() {
+            Some(_) => Ok(None),
+            None => Ok(Some(BlockedOn::new(self.bell, seen))),
+        }
+    }
+
+    ghost some_rows = { λ s X coming. limit-some s.note.known s.passed s.held X };
+
+    ghost holds_rest = { λ s B told e. limit-rest s.note.known s.passed s.held B e };
+
+    ghost finished = { λ s. held-over s.is_told s.held };
+
+    ghost needs_untold = { λ s.
+        limit-needs_none (is_some s.note.known) s.is_told (has_row s.held) };
+
+    ghost source_needs_none = { λ s e. Prim.cc };
+
+    ghost needs = { λ s told held waits _.
+        limit-needs (is_some s.note.known) s.is_told (has_row s.held) told held waits };
+
+    ghost waits_unknowing = { λ s. waits-unknowing (is_some s.note.known) };
+
+    ghost made_untold = { λ s. refl };
+
+    ghost made_knows = { λ s. refl };
+
+    ghost made_went = { λ s. (refl, refl, refl, refl) };
+
+    ghost made_again = { λ s. refl };
+
+    ghost learns_as_made = { λ s m. ((λ e. e), (λ e. e)) };
+
+    ghost learns_made = { λ s m e. Prim.rw e.1 (refl, refl, refl) };
+
+    ghost any_note = { λ s m T G Z knows went learns coming. Prim.rw learns.1
+        (limit-goes_on learns.0 s.is_told s.held T G Z (went.0, went.1, went.2) coming) };
+}

@@ -1,0 +1,213 @@
+ghost use Rattle.std.specs.Prelude.{◌≡◌, ℕ, ◌≤◌, List, [], ◌++◌, ◌↔◌, Bool, true, false, None, IfOk, IsOk, MatchOption};
+ghost use Rattle.sql_values.specs.declared.fail.Fail.{Fail as Kind};
+ghost use Rattle.col_pages.specs.Pages.{TypedPage};
+ghost use Rattle.blocked.specs.Counts.{Rose};
+ghost use Rattle.operator_core.specs.Rows.{Row, Coming};
+ghost use Rattle.operator_core.specs.Answers.{NotMemory, gave, IsFit};
+
+use crate::fault::OpFault;
+use blocked::{Bells, BlockedOn};
+use col_pages::Page;
+use sql_values::Memory;
+use std::sync::Wait;
+use std::thread::Threads;
+
+/// A step of a pipeline: it takes pages in and gives pages out.
+pub trait Operator {
+    // With these rows still to come it may still give those, rows and groups that fail left out.
+    ghost may_give: { Self → List Row → List Row → Type 0 };
+
+    // A row or a group of what it took in and has not yet judged, or of the rows still to come,
+    // fails so at this node.
+    ghost may_still_fail: { Self → List Row → ℕ → Kind → Type 0 };
+
+    // It may be given this page: the page's types are those that it works on.
+    ghost takes: { Self → TypedPage → Type 0 };
+
+    // The most rows of a page that it gives.
+    ghost page_size: { Self → ℕ };
+
+    // It has rows of its own and needs no input.
+    ghost is_source: { Self → Bool };
+
+    ghost needs_input: { Self → Bool };
+
+    // It holds a row that it may give now.
+    ghost holds_row: { Self → Bool };
+
+    // It was told to finish.
+    ghost is_told: { Self → Bool };
+
+    ghost is_finished: { Self → Bool };
+
+    // Its note knows what it looks for; also where it has no note.
+    ghost knows: { Self → Bool };
+
+    // Its note does not know the value for which it waits.
+    ghost is_waiting: { Self → Bool };
+
+    // How many looks of its note found nothing.
+    ghost empty_looks: { Self → ℕ };
+
+    // While its note knew nothing it took these rows and gave those.
+    ghost went: { Self → List Row → List Row → Type 0 };
+
+    // It as it was made, with what its note knows.
+    ghost as_made: { Self → Self };
+
+    // The second is the first as it was made, had its note known a value that it may come to know.
+    ghost may_learn: { Self → Self → Type 0 };
+
+    /// Whether it takes a page now.
+    fn needs_input(&self) -> bool
+        ensures { result ≡ needs_input self.now };
+
+    /// Takes a page in.
+    fn add_input(&mut self, page: Page) -> Result<(), OpFault>
+        requires needs { needs_input self.old ≡ true }
+        requires takes { takes self.old page }
+        ensures gives { NotMemory result → (X B : List Row) → may_give self.new X B
+            → may_give self.old (page.rows ++ X) B }
+        ensures fails { NotMemory result → (X : List Row) (node : ℕ) (kind : Kind)
+            → may_still_fail self.new X node kind
+            ↔ may_still_fail self.old (page.rows ++ X) node kind }
+        ensures fault { (node : ℕ) (kind : Kind) → result ≡ Err (OpFault.Expr node kind)
+            → (X : List Row) → may_still_fail self.old (page.rows ++ X) node kind }
+        ensures went { NotMemory result → knows self.old ≡ false → (T G : List Row)
+            → went self.old T G → went self.new (T ++ page.rows) G }
+        ensures as_made { as_made self.new ≡ as_made self.old }
+        ensures told { is_told self.new ≡ is_told self.old }
+        ensures knows { knows self.new ≡ knows self.old }
+        ensures looks { empty_looks self.new ≡ empty_looks self.old }
+        ensures takes { (page : TypedPage) → takes self.old page → takes self.new page }
+        ensures constant { (page_size self.new ≡ page_size self.old)
+            × (is_source self.new ≡ is_source self.old) };
+
+    /// Gives a page, or none where it holds no row that it may give yet.
+    fn get_output(&mut self) -> Result<Option<Page>, OpFault>
+        ensures gives { NotMemory result → (X B : List Row) → Coming (is_told self.old) X
+            → may_give self.new X B → may_give self.old X (gave result ++ B) }
+        ensures fails { NotMemory result → (X : List Row) (node : ℕ) (kind : Kind)
+            → Coming (is_told self.old) X
+            → may_still_fail self.new X node kind ↔ may_still_fail self.old X node kind }
+        ensures fault { (node : ℕ) (kind : Kind) → result ≡ Err (OpFault.Expr node kind)
+            → (X : List Row) → Coming (is_told self.old) X → may_still_fail self.old X node kind }
+        ensures none { NotMemory result → (result ≡ Ok None) ↔ ((holds_row self.old ≡ false)
+            × (is_told self.old ≡ true → (node : ℕ) (kind : Kind)
+            → may_still_fail self.old [] node kind → ⊥)) }
+        ensures size { IsFit result (page_size self.old) }
+        ensures went { NotMemory result → knows self.old ≡ false → (T G : List Row)
+            → went self.old T G → went self.new T (G ++ gave result) }
+        ensures as_made { as_made self.new ≡ as_made self.old }
+        ensures told { is_told self.new ≡ is_told self.old }
+        ensures ended { is_finished self.old ≡ true → is_finished self.new ≡ true }
+        ensures knows { knows self.new ≡ knows self.old }
+        ensures looks { empty_looks self.new ≡ empty_looks self.old }
+        ensures takes { (page : TypedPage) → takes self.old page → takes self.new page }
+        ensures constant { (page_size self.new ≡ page_size self.old)
+            × (is_source self.new ≡ is_source self.old) };
+
+    /// Tells it that no page comes any more.
+    fn finish(&mut self)
+        ensures gives { (B : List Row) → may_give self.new [] B → may_give self.old [] B }
+        ensures fails { (node : ℕ) (kind : Kind)
+            → may_still_fail self.new [] node kind ↔ may_still_fail self.old [] node kind }
+        ensures again { is_told self.old ≡ true → self.new ≡ self.old }
+        ensures went { knows self.old ≡ false → (T G : List Row)
+            → went self.old T G → went self.new T G }
+        ensures as_made { as_made self.new ≡ as_made self.old }
+        ensures told { is_told self.new ≡ true }
+        ensures knows { knows self.new ≡ knows self.old }
+        ensures looks { empty_looks self.new ≡ empty_looks self.old }
+        ensures takes { (page : TypedPage) → takes self.old page → takes self.new page }
+        ensures constant { (page_size self.new ≡ page_size self.old)
+            × (is_source self.new ≡ is_source self.old) };
+
+    /// Whether it was told to finish and has nothing left to give or to fail on.
+    fn is_finished(&self) -> bool
+        ensures { result ≡ is_finished self.now };
+
+    /// Looks whether it has to wait for the value of its note, and at which bell.
+    fn blocked<R: Threads + Wait + Sync, B: Bells>(
+        &mut self,
+        rt: &R,
+        bells: &mut B,
+    ) -> Result<Option<BlockedOn>, Memory>
+        ensures gives { IsOk result → (X B : List Row) → Coming (is_told self.old) X
+            → may_give self.new X B → may_give self.old X B }
+        ensures fails { IsOk result → (X : List Row) (node : ℕ) (kind : Kind)
+            → Coming (is_told self.old) X
+            → may_still_fail self.new X node kind ↔ may_still_fail self.old X node kind }
+        ensures answer { IfOk result (λ on. MatchOption on (is_waiting self.new ≡ false)
+            (λ on. (is_waiting self.new ≡ true) × Rose (empty_looks self.old) (empty_looks self.new)
+            × B.shown bells.new on.bell on.seen × (on.rung ≡ false))) }
+        ensures known { knows self.old ≡ true → knows self.new ≡ true }
+        ensures same { IsOk result → knows self.new ≡ knows self.old
+            → as_made self.new ≡ as_made self.old }
+        ensures went { IsOk result → knows self.new ≡ false → (T G : List Row)
+            → went self.old T G → went self.new T G }
+        ensures learns { IsOk result → knows self.old ≡ false → knows self.new ≡ true
+            → may_learn self.old (as_made self.new) }
+        ensures learns_gives { IsOk result → knows self.old ≡ false → knows self.new ≡ true
+            → (T G : List Row) → went self.old T G → (X B : List Row) → Coming (is_told self.old) X
+            → may_give self.new X B → may_give (as_made self.new) (T ++ X) (G ++ B) }
+        ensures learns_fails { IsOk result → knows self.old ≡ false → knows self.new ≡ true
+            → (T G : List Row) → went self.old T G → (X : List Row) (node : ℕ) (kind : Kind)
+            → Coming (is_told self.old) X → may_still_fail self.new X node kind
+            ↔ may_still_fail (as_made self.new) (T ++ X) node kind }
+        ensures told { is_told self.new ≡ is_told self.old }
+        ensures ended { is_finished self.old ≡ true → is_finished self.new ≡ true }
+        ensures looks { empty_looks self.old ≤ empty_looks self.new }
+        ensures takes { (page : TypedPage) → takes self.old page → takes self.new page }
+        ensures constant { (page_size self.new ≡ page_size self.old)
+            × (is_source self.new ≡ is_source self.old) }
+        ensures bells { (bell count : ℕ) → B.shown bells.old bell count
+            → B.shown bells.new bell count };
+
+    // For every state and rows still to come there is something that it may give.
+    ghost some_rows: { (s : Self) (X : List Row) → Coming (is_told s) X
+        → (B : List Row) × may_give s X B };
+
+    // Once it was told, it holds a row that it may give exactly where it has any left to give.
+    ghost holds_rest: { (s : Self) (B : List Row) → is_told s ≡ true → may_give s [] B
+        → (holds_row s ≡ false) ↔ (B ≡ []) };
+
+    // It is finished exactly where it was told, holds nothing and nothing may fail.
+    ghost finished: { (s : Self) → (is_finished s ≡ true) ↔ ((is_told s ≡ true)
+        × (holds_row s ≡ false)
+        × ((node : ℕ) (kind : Kind) → may_still_fail s [] node kind → ⊥)) };
+
+    // Once it was told, it needs no input.
+    ghost needs_untold: { (s : Self) → needs_input s ≡ true → is_told s ≡ false };
+
+    // A source never takes input.
+    ghost source_needs_none: { (s : Self) → is_source s ≡ true → needs_input s ≡ false };
+
+    // Until then it refuses input only where it holds a row to give, waits, or is a source.
+    ghost needs: { (s : Self) → is_told s ≡ false → holds_row s ≡ false → is_waiting s ≡ false
+        → is_source s ≡ false → needs_input s ≡ true };
+
+    // It waits only for what its note does not know.
+    ghost waits_unknowing: { (s : Self) → is_waiting s ≡ true → knows s ≡ false };
+
+    // As it was made, it was not told, it had taken and given nothing, and it was so made.
+    ghost made_untold: { (s : Self) → is_told (as_made s) ≡ false };
+
+    ghost made_knows: { (s : Self) → knows (as_made s) ≡ knows s };
+
+    ghost made_went: { (s : Self) → went (as_made s) [] [] };
+
+    ghost made_again: { (s : Self) → as_made (as_made s) ≡ as_made s };
+
+    // What it may learn is a matter of how it was made.
+    ghost learns_as_made: { (s m : Self) → may_learn s m ↔ may_learn (as_made s) m };
+
+    // What it may come to be made as knows its value, and is so made.
+    ghost learns_made: { (s m : Self) → may_learn s m
+        → (knows m ≡ true) × (is_told m ≡ false) × (as_made m ≡ m) };
+
+    // While its note knows nothing it can go on, whatever value the note comes to know.
+    ghost any_note: { (s m : Self) (T G Z : List Row) → knows s ≡ false → went s T G
+        → may_learn s m → Coming (is_told s) Z → (B : List Row)
+        × may_give m (T ++ Z) (G ++ B) × (is_finished s ≡ true → B ≡ []) };
+}

@@ -1,0 +1,100 @@
+//! The word that hands out the numbers of splits.
+ghost use Rattle.std.specs.Prelude.{◌≡◌, ◌<◌, ◌≤◌, [], false, IfOk};
+ghost use Rattle.std.specs.Vec.{vec_capacity};
+ghost use Rattle.split_source.specs.Claims.{unshared};
+ghost use Rattle.split_source.specs.Seats.{new_seats, AreAllOf};
+
+use crate::claim_seat::ClaimSeat;
+use crate::draws::{ClaimTable, ClaimWord, Counts, OneSeat, Pen};
+use atomic_table::Table;
+use sql_values::Memory;
+use std::alloc::Global;
+use std::marker::Model;
+
+/// Numbers below a count, to be drawn by some seats, each number once.
+#[derive(Drop)]
+pub struct Claims {
+    alloc: Global,
+    table: ClaimTable,
+    count: u32,
+    seats: u32,
+    /// What is known before the seats are handed out.
+    pen: Option<Pen>,
+}
+
+impl Model for Claims {
+    ghost use Rattle.split_source.specs.Seats.{ClaimsState};
+
+    ghost Value = { ClaimsState };
+
+    ghost use Rattle.split_source.specs.InClaims.{claims_view, IsClaims};
+
+    ghost view = { claims_view };
+
+    ghost invariant = { IsClaims };
+}
+
+impl Claims {
+    /// The numbers below `count`, for this many seats.
+    pub fn new(alloc: Global, count: u32, seats: u32) -> Result<Claims, Memory>
+        requires { 0 < seats }
+        ensures count { IfOk result (λ c. c.id.of ≡ record { count = count; seats = seats }) }
+        ensures fresh { IfOk result (λ c. c.is_handed_out ≡ false) }
+    {
+        let (table, pen) = Table::of_words(alloc, &[0], &Counts { count, seats })?;
+        Ok(Claims {
+            alloc,
+            table,
+            count,
+            seats,
+            pen: Some(pen),
+        })
+    }
+
+    /// Whether the seats were handed out.
+    pub fn is_handed_out(&self) -> bool
+        ensures { result ≡ self.now.is_handed_out }
+    {
+        self.pen.is_none()
+    }
+
+    /// Hands out all seats. Where there is no memory for them, they are not handed out.
+    #[tactic(auto, using(crate::proofs::SeatLemmas::all_new))]
+    pub fn seats<'c>(&'c mut self) -> Result<Vec<ClaimSeat<'c>>, Memory>
+        requires { self.old.is_handed_out ≡ false }
+        ensures seats { IfOk result (λ s. s.items ≡ new_seats self.old.id) }
+        ensures all { IfOk result (λ s. AreAllOf self.old.id s.items) }
+    {
+        let mut seats = Vec::with_capacity(self.alloc, self.seats as usize)?;
+        let count = self.count;
+        let number = self.seats;
+        let Some(pen) = self.pen.take() else {
+            unreachable!()
+        };
+        deal(&mut seats, &self.table.shared, pen, count, number);
+        Ok(seats)
+    }
+}
+
+/// Cuts the pen into seats.
+fn deal<'c>(
+    seats: &mut Vec<ClaimSeat<'c>>,
+    word: &'c ClaimWord,
+    mut pen: Pen,
+    count: u32,
+    number: u32,
+)
+    requires none { seats.old.items ≡ [] }
+    requires room { number ≤ vec_capacity seats.old }
+    requires number { (0 < number) × (number ≡ word.now.key.seats) }
+    requires place { (pen.table_id ≡ word.now.table_id) × (word.now.table_id.words ≡ 1) }
+    requires count { count ≡ word.now.key.count }
+    requires pen { pen.me ≡ (unshared word.now.key, []) }
+    ensures { seats.new.items ≡ new_seats (record { table = word.now.table_id; of = word.now.key }) }
+{
+    for _ in 1..number {
+        let one = word.split_seat::<OneSeat>(&mut pen);
+        seats.push_reserved(ClaimSeat::new(word, one, count));
+    }
+    seats.push_reserved(ClaimSeat::new(word, pen, count));
+}

@@ -1,0 +1,4 @@
+pub mod Judged
+pub mod Typed
+pub mod Positions
+pub mod Columns

@@ -1,0 +1,16 @@
+-- A list of pages with one more.
+use Rattle.std.proofs.Common.{◌≡◌, ◌<◌, List, [], ◌∷◌, ◌++◌, length, ap, sym, ◌∙◌, append_assoc}
+use Rattle.std.proofs.lemmas.List.{append-nil}
+use Rattle.sql_values.specs.declared.types.SqlType.{SqlType}
+use Rattle.col_pages.specs.Pages.{TypedPage}
+use Rattle.page_judges.specs.Typed.{AllFit}
+use Rattle.tree_evaluator.specs.Pages.{ArePages, rows_in}
+
+pub rows_more : (pages : List TypedPage) (page : TypedPage) → rows_in (pages ++ page ∷ []) ≡ rows_in pages ++ page.rows
+rows_more [] page = append-nil page.rows
+rows_more (first ∷ pages) page = ap (λ rows. first.rows ++ rows) (rows_more pages page) ∙ sym (append_assoc first.rows (rows_in pages) page.rows)
+
+pub pages_more : (types : List SqlType) (pages : List TypedPage) (page : TypedPage) → ArePages types pages → page.types ≡ types → 0 < length page.rows → AllFit types page.rows
+    → ArePages types (pages ++ page ∷ [])
+pages_more types [] page all t some fit = (t, some, fit, tt)
+pages_more types (first ∷ pages) page all t some fit = (all.0, all.1, all.2, pages_more types pages page all.3 t some fit)

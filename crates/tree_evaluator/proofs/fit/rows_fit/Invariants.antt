@@ -1,0 +1,9 @@
+use Rattle.std.proofs.Common.{◌≡◌, take}
+use Rattle.page_judges.specs.Typed.{AllFit}
+use Rattle.tree_evaluator.proofs.fit.rows_fit.Given as goal
+
+abbrev pub invariant-loop-place : goal.invariant-loop-place
+invariant-loop-place l = record {
+  types : l.held.types ≡ l.types;
+  fit : AllFit l.types (take l.place l.rows);
+}

@@ -1,0 +1,31 @@
+use Rattle.std.proofs.Common.{◌∙◌, List, ap, map, sym}
+use Rattle.std.proofs.lemmas.Result.{err_from_is_err_and}
+use Rattle.sql_exprs.specs.Forms.{form_view}
+use Rattle.sql_exprs.specs.Meaning.{kind_of}
+use Rattle.sql_values.specs.declared.types.SqlType.{SqlType}
+use Rattle.plan_trees.specs.Judges.{project_judge}
+use Rattle.page_judges.specs.Judged.{first_failure, judged}
+use Rattle.tree_evaluator.proofs.JudgeLemmas.{judging_goes_on, judging_stops, stops_whole}
+use Rattle.tree_evaluator.proofs.judges.project_rows.Goals as goal
+
+-- the page was judged as one of the node's types
+pub loop-page-preserved : goal.loop-page-preserved
+loop-page-preserved c =
+    judging_goes_on (project_judge c.args.rows.types (map form_view c.args.columns.now)) c.args.rows.types c.args.types.now c.args.rows.rows
+    c.loop-page.rows c.take_first.new.self c.loop-page.kept c.keep.new.kept c.in-Some.page c.in_ok-judged.judged
+    c.loop-page.invariant c.in-Some.ensures.rows c.in-Some.ensures.types
+    (c.in_ok-judged.ensures.judged
+    ∙ ap (λ (ts : List SqlType). judged (project_judge ts (map form_view c.args.columns.now)) (map (kind_of ts) (map form_view c.args.columns.now)) c.in-Some.page.rows) (c.in-Some.ensures.page.0 ∙ c.loop-page.invariant.left_types)
+    ∙ ap (λ ks. judged (project_judge c.args.rows.types (map form_view c.args.columns.now)) ks c.in-Some.page.rows) (sym c.requires.types))
+    c.in_ok-keep.ensures.0 c.in_ok-keep.ensures.1
+
+pub returns-in_err-keep : goal.returns-in_err-keep
+returns-in_err-keep c =
+    let p = err_from_is_err_and c.from_residual-in_err-keep.result c.from_residual-in_err-keep.ensures.1 in
+    rw (p.1, p.2)
+    (stops_whole c.args.id c.in_ok-judged.judged.failure (first_failure (project_judge c.args.rows.types (map form_view c.args.columns.now)) c.args.rows.rows) c.in_err-keep.field-0.0 c.in_err-keep.ensures
+    (λ kind f. judging_stops (project_judge c.args.rows.types (map form_view c.args.columns.now)) c.args.rows.types c.args.types.now c.args.rows.rows c.loop-page.rows c.loop-page.kept c.in-Some.page c.take_first.new.self.rows
+    c.in_ok-judged.judged kind c.loop-page.invariant c.in-Some.ensures.rows
+    (c.in_ok-judged.ensures.judged
+    ∙ ap (λ (ts : List SqlType). judged (project_judge ts (map form_view c.args.columns.now)) (map (kind_of ts) (map form_view c.args.columns.now)) c.in-Some.page.rows) (c.in-Some.ensures.page.0 ∙ c.loop-page.invariant.left_types)
+    ∙ ap (λ ks. judged (project_judge c.args.rows.types (map form_view c.args.columns.now)) ks c.in-Some.page.rows) (sym c.requires.types)) f))

@@ -1,0 +1,44 @@
+-- Trees whose expressions have types, over tables and constants that fit the trees' types.
+use Rattle.std.specs.Prelude.{◌≡◌, ℕ, ◌<◌, List, ◌∷◌, All, length, map, slice_get, Option, Some, None}
+use Rattle.sql_values.specs.declared.types.Column.{Column}
+use Rattle.sql_values.specs.declared.types.SqlType.{SqlType}
+use Rattle.sql_values.specs.declared.table.Table.{Table}
+use Rattle.sql_values.specs.declared.value.Value.{Value}
+use Rattle.page_judges.specs.Typed.{AllFit, AllTyped, IsTyped}
+use Rattle.plan_trees.specs.TreeForms.{TreeForm, scan, values, remote, filter, project, join, aggregate, sort, topn, limit, union}
+use Rattle.plan_trees.specs.TreeTypes.{types_of}
+use Rattle.plan_trees.specs.Allowed.{scanned}
+
+-- each node has a column
+abbrev pub FitsTables : TreeForm → List (List (List Value)) → Type 0
+FitsTables (scan id table columns types) tables =
+    (0 < length types) × (length types ≡ length columns) × AllFit types (scanned tables table columns)
+FitsTables (values id types constants) tables = (0 < length types) × AllFit types constants
+FitsTables (remote id input) tables = FitsTables input tables
+FitsTables (filter id predicate input) tables = IsTyped (types_of input) predicate × FitsTables input tables
+FitsTables (project id columns input) tables = (0 < length columns) × AllTyped (types_of input) columns × FitsTables input tables
+FitsTables (join id kind on left right) tables = FitsTables left tables × FitsTables right tables
+FitsTables (aggregate id keys calls input) tables = FitsTables input tables
+FitsTables (sort id keys input) tables = FitsTables input tables
+FitsTables (topn id count keys input) tables = FitsTables input tables
+FitsTables (limit id count input) tables = FitsTables input tables
+FitsTables (union id left right) tables = (types_of left ≡ types_of right) × FitsTables left tables × FitsTables right tables
+
+abbrev pub kinds : List Column → List SqlType
+kinds columns = map (λ column. column.kind) columns
+
+-- each row of each table has a value of the type of each column
+abbrev pub TablesFit : List Table → Type 0
+TablesFit tables = All (λ table. AllFit (kinds table.columns) table.rows) tables
+
+-- the column at a place has the type, if there is one
+abbrev pub IsOrMissing : Option SqlType → SqlType → Type 0
+IsOrMissing None kind = Unit {0}
+IsOrMissing (Some own) kind = own ≡ kind
+
+abbrev pub ColumnFits : List SqlType → ℕ → SqlType → Type 0
+ColumnFits own column kind = IsOrMissing (slice_get own column) kind
+
+abbrev pub ColumnsFit : List SqlType → List ℕ → List SqlType → Type 0
+ColumnsFit own (column ∷ columns) (kind ∷ kinds) = ColumnFits own column kind × ColumnsFit own columns kinds
+ColumnsFit own columns kinds = Unit {0}

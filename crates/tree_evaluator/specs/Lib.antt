@@ -1,0 +1,3 @@
+pub mod Pages
+pub mod Fits
+pub mod Stops

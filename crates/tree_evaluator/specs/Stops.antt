@@ -1,0 +1,30 @@
+-- What the evaluator gives, and why it stops.
+use Rattle.std.specs.Prelude.{◌≡◌, ℕ, List, Option, Some}
+use Rattle.sql_values.specs.declared.value.Value.{Value}
+use Rattle.sql_values.specs.declared.table.Table.{Table}
+use Rattle.sql_values.specs.declared.fail.Fail.{Fail}
+use Rattle.col_pages.specs.Pages.{TypedPage}
+use Rattle.plan_trees.specs.TreeForms.{TreeForm}
+use Rattle.plan_trees.specs.TreeTypes.{types_of}
+use Rattle.plan_trees.specs.Allowed.{Allows}
+use Rattle.plan_trees.specs.Stopped.{MayFail}
+use Rattle.tree_evaluator.specs.declared.stop.EvalStop.{EvalStop}
+use Rattle.tree_evaluator.specs.declared.stop.EvalStop.TheVariants as stop
+
+abbrev pub rows_of : Table → List (List Value)
+rows_of table = table.rows
+
+-- a node failed that may fail so, or memory was wanting
+abbrev pub StopsFor : TreeForm → List (List (List Value)) → EvalStop → Type 0
+StopsFor tree tables (stop.ExprFailed node kind) = MayFail tree tables node kind
+StopsFor tree tables stop.Memory = Unit {0}
+
+-- this node failed so, or memory was wanting
+abbrev pub StopsHere : ℕ → Option Fail → EvalStop → Type 0
+StopsHere id failure (stop.ExprFailed node kind) = (id ≡ node) × (failure ≡ Some kind)
+StopsHere id failure stop.Memory = Unit {0}
+
+-- rows of the tree's types that the tree allows
+pub record IsEvaluated (tree : TreeForm) (tables : List (List (List Value))) (given : TypedPage) : Type 0 where
+  pub types : given.types ≡ types_of tree
+  pub allowed : Allows tree tables given.rows

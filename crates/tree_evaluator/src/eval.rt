@@ -1,0 +1,76 @@
+ghost use Rattle.std.specs.Prelude.{map, MatchResult};
+ghost use Rattle.plan_trees.specs.Allowed.{Allows};
+ghost use Rattle.plan_trees.specs.TreeForms.{tree_view};
+ghost use Rattle.tree_evaluator.specs.Fits.{FitsTables, TablesFit};
+ghost use Rattle.tree_evaluator.specs.Stops.{IsEvaluated, StopsFor, rows_of};
+
+use crate::fit::fits_tables;
+use crate::judges::{filter_rows, project_rows};
+use crate::leaves::{constant_rows, scan_table};
+use crate::lists::{append_rows, limit_rows, list_of};
+use crate::node_rows::NodeRows;
+use crate::stop::EvalStop;
+use plan_trees::{Tree, types_of_tree};
+use sql_values::{RowList, Table};
+use std::alloc::Global;
+
+/// A list of rows that the tree allows over the tables. A tree that does not fit the tables, or
+/// whose expressions have no types, as that of no plan that was read, is answered `Memory`.
+pub fn evaluate(alloc: Global, tree: &Tree, tables: &[Table]) -> Result<RowList, EvalStop>
+    requires { TablesFit tables.now }
+    ensures { MatchResult result
+        (Allows (tree_view tree.now) (map rows_of tables.now))
+        (StopsFor (tree_view tree.now) (map rows_of tables.now)) }
+{
+    if !fits_tables(alloc, tree, tables)? {
+        return Err(EvalStop::Memory);
+    }
+    let rows = evaluate_node(alloc, tree, tables)?;
+    Ok(list_of(alloc, rows)?)
+}
+
+/// The rows of a node, from its inputs up.
+fn evaluate_node(alloc: Global, tree: &Tree, tables: &[Table]) -> Result<NodeRows, EvalStop>
+    requires { FitsTables (tree_view tree.now) (map rows_of tables.now) }
+    ensures { MatchResult result
+        (IsEvaluated (tree_view tree.now) (map rows_of tables.now))
+        (StopsFor (tree_view tree.now) (map rows_of tables.now)) }
+{
+    match tree {
+        Tree::Scan {
+            table,
+            columns,
+            types,
+            ..
+        } => Ok(scan_table(alloc, tables, *table, types.as_slice(), columns.as_slice())?),
+        Tree::Values { types, rows, .. } => Ok(constant_rows(alloc, rows, types.as_slice())?),
+        Tree::Remote { input, .. } => evaluate_node(alloc, input, tables),
+        Tree::Filter {
+            id,
+            predicate,
+            input,
+        } => {
+            let rows = evaluate_node(alloc, input, tables)?;
+            filter_rows(alloc, *id, predicate, rows)
+        }
+        Tree::Project { id, columns, input } => {
+            let types = types_of_tree(alloc, tree)?;
+            let rows = evaluate_node(alloc, input, tables)?;
+            project_rows(alloc, *id, columns.as_slice(), types.as_slice(), rows)
+        }
+        Tree::Limit { count, input, .. } => {
+            let rows = evaluate_node(alloc, input, tables)?;
+            Ok(limit_rows(alloc, *count, rows)?)
+        }
+        Tree::Union { left, right, .. } => {
+            let mut rows = evaluate_node(alloc, left, tables)?;
+            let more = evaluate_node(alloc, right, tables)?;
+            append_rows(&mut rows, more)?;
+            Ok(rows)
+        }
+        Tree::Join { .. } => Err(EvalStop::Memory),
+        Tree::Aggregate { .. } => Err(EvalStop::Memory),
+        Tree::Sort { .. } => Err(EvalStop::Memory),
+        Tree::TopN { .. } => Err(EvalStop::Memory),
+    }
+}

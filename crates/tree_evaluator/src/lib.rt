@@ -1,0 +1,28 @@
+//! The plain evaluator of a tree over tables: node by node over whole lists, each as pages of the
+//! node's types.
+//!
+//! It is the reference that operators on pages are compared with. The list that it gives is one
+//! that the tree allows, and it stops only on a node that may fail so (`specs/Stops.antt`). The
+//! tables fit the tree and its expressions are typed (`specs/Fits.antt`).
+//!
+//! - `eval`: `evaluate`
+//! - `fit`: whether a tree fits the tables
+//! - `stop`: why it stops
+//! - `node_rows`: the rows of a node, as pages
+//! - `leaves`: the rows of scans and constants
+//! - `judges`: filters and projects
+//! - `lists`: unions and limits
+#![tactic(auto)]
+
+mod eval;
+mod fit;
+mod judges;
+mod leaves;
+mod lists;
+mod node_rows;
+mod stop;
+#[cfg(test)]
+mod tests;
+
+pub use eval::evaluate;
+pub use stop::EvalStop;

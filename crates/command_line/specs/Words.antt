@@ -1,0 +1,90 @@
+-- The command line: which words are one, and what it asks for.
+use Rattle.std.specs.Prelude.{ℕ, List, length, map, drop, Bool, true, not, ◌&&◌, ◌==◌, nat_lt, nat_eq, slice_index, slice_index_or, [], ◌∷◌, Option, Some, None, option_map, unwrap_or, slice_get, if◌then◌else◌, codes}
+use Rattle.std.specs.List.{before_first, after_first, list_all, list_any, position_from}
+use Rattle.std.specs.Cmp.Lexicographic.{pointwise}
+use Rattle.command_line.specs.declared.words as words
+
+-- a table's name and its file
+pub record NamedFile : Type 0 where
+  pub name : List ℕ
+  pub file : List ℕ
+
+-- what a command line asks for: the plan's file, and the files of tables by their names
+pub record Job : Type 0 where
+  pub plan : List ℕ
+  pub files : List NamedFile
+
+abbrev pub same_text : List ℕ → List ℕ → Bool
+same_text = pointwise nat_eq
+
+-- the bytes of `-` and of `=`
+abbrev pub dash : ℕ
+dash = 45
+
+abbrev pub equals_sign : ℕ
+equals_sign = 61
+
+-- a word that may name a file: not empty, and no option
+abbrev pub is_file_name : List ℕ → Bool
+is_file_name word = nat_lt 0 (length word) && not (slice_index word 0 == dash)
+
+-- the two parts of a word round its first `=`
+abbrev pub name_part : List ℕ → List ℕ
+name_part word = before_first (λ byte. byte == equals_sign) word
+
+abbrev pub file_part : List ℕ → List ℕ
+file_part word = after_first (λ byte. byte == equals_sign) word
+
+abbrev pub named_file : List ℕ → NamedFile
+named_file word = record { name = name_part word; file = file_part word }
+
+-- a word `NAME=FILE`
+abbrev pub is_named_file : List ℕ → Bool
+is_named_file word = is_file_name word && nat_lt 0 (length (name_part word)) && nat_lt 0 (length (file_part word))
+
+-- a word gives a file to a table of this name
+abbrev pub names : List ℕ → List ℕ → Bool
+names name word = same_text (name_part word) name
+
+-- no name is given a file twice
+abbrev pub names_differ : List (List ℕ) → Bool
+names_differ [] = true
+names_differ (word ∷ words) = not (list_any (names (name_part word)) words) && names_differ words
+
+-- the words after the plan's file give files to tables
+abbrev pub are_named_files : List (List ℕ) → Bool
+are_named_files words = list_all is_named_file words && names_differ words
+
+-- the words `--plan FILE NAME=FILE ..`
+abbrev pub job_of_parts : List ℕ → List ℕ → List (List ℕ) → Option Job
+job_of_parts option plan files =
+    if same_text option (codes "--plan") && is_file_name plan && are_named_files files
+    then Some (record { plan = plan; files = map named_file files })
+    else None
+
+-- what the words ask for; None where they are no command line
+abbrev pub job_of : List (List ℕ) → Option Job
+job_of words =
+    if nat_lt 1 (length words)
+    then job_of_parts (slice_index_or words 0 []) (slice_index_or words 1 []) (drop 2 words)
+    else None
+
+-- what a job that borrows its words asks for
+abbrev pub asked : words.Job.Job → Job
+asked job = record { plan = job.plan.now; files = map named_file job.files.now }
+
+-- a file is that of the table of this name
+abbrev pub is_named : List ℕ → NamedFile → Bool
+is_named name file = same_text file.name name
+
+-- the file at a place
+abbrev pub file_at : List NamedFile → ℕ → List ℕ
+file_at files place = unwrap_or (option_map (λ named. named.file) (slice_get files place)) []
+
+-- the place of a table's file among the files, and the file
+abbrev pub file_of : List ℕ → List NamedFile → Option (ℕ × List ℕ)
+file_of name files = option_map (λ place. (place, file_at files place)) (position_from (is_named name) 0 files)
+
+-- a file that borrows its word
+abbrev pub asked_file : words.TableFile.TableFile → ℕ × List ℕ
+asked_file found = (found.place, found.file.now)

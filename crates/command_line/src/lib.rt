@@ -1,0 +1,13 @@
+//! The command line: the words after the program's name, and what they ask for.
+//!
+//! `specs/Words.antt` says which words are a command line and what each one asks for. Words are
+//! lent, not copied, so that reading them takes no memory.
+//!
+//! - `words`: `read_words`, and the file of a table
+#![tactic(auto)]
+
+#[cfg(test)]
+mod tests;
+mod words;
+
+pub use words::{Job, TableFile, read_words};

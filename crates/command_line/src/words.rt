@@ -1,0 +1,143 @@
+ghost use Rattle.std.specs.Prelude.{◌≡◌, ◌<◌, true, map, drop, length, slice_index_or, [], option_map, slice_get};
+ghost use Rattle.std.specs.List.{list_all, list_any, position_from};
+ghost use Rattle.command_line.specs.Words.{is_file_name, is_named_file, is_named, names, name_part, file_part, named_file, names_differ, are_named_files, job_of, job_of_parts, asked, asked_file, file_at, file_of};
+
+use sql_values::Text;
+
+/// What the words ask for: the plan's file, and a word `NAME=FILE` for each table that has one.
+#[derive(Clone, Copy, Debug)]
+pub struct Job<'a> {
+    pub plan: &'a str,
+    pub files: &'a [Text],
+}
+
+/// Reads the words `--plan FILE NAME=FILE ..`; None where they are no command line.
+pub fn read_words(words: &[Text]) -> Option<Job<'_>>
+    ensures { option_map asked result ≡ job_of words.now }
+{
+    if words.len() < 2 {
+        return None;
+    }
+    job_of_parts(words[0].as_str(), words[1].as_str(), &words[2..])
+}
+
+fn job_of_parts<'a>(option: &str, plan: &'a str, files: &'a [Text]) -> Option<Job<'a>>
+    ensures { option_map asked result ≡ job_of_parts option.now plan.entry.now files.entry.now }
+{
+    if option != "--plan" || !is_file_name(plan) || !are_named_files(files) {
+        return None;
+    }
+    Some(Job { plan, files })
+}
+
+/// Whether a word may name a file: it is not empty and no option.
+fn is_file_name(word: &str) -> bool
+    ensures { result ≡ is_file_name word.now }
+{
+    !word.is_empty() && word.as_bytes()[0] != b'-'
+}
+
+/// The part of a word before its first `=`.
+fn name_part(word: &str) -> &str
+    ensures { result.now ≡ name_part word.now }
+{
+    match word.split_once('=') {
+        Some((name, _)) => name,
+        None => word,
+    }
+}
+
+/// The part of a word after its first `=`.
+fn file_part(word: &str) -> &str
+    ensures { result.now ≡ file_part word.now }
+{
+    match word.split_once('=') {
+        Some((_, file)) => file,
+        None => "",
+    }
+}
+
+fn is_named_file(word: &str) -> bool
+    ensures { result ≡ is_named_file word.now }
+{
+    is_file_name(word) && !name_part(word).is_empty() && !file_part(word).is_empty()
+}
+
+fn are_named_files(words: &[Text]) -> bool
+    ensures { result ≡ are_named_files words.now }
+{
+    all_name_files(words) && names_differ(words)
+}
+
+fn all_name_files(words: &[Text]) -> bool
+    ensures { result ≡ list_all is_named_file words.now }
+{
+    for word in words {
+        if !is_named_file(word.as_str()) {
+            return false;
+        }
+    }
+    true
+}
+
+/// Whether a word gives a file to a table of the name.
+fn gives(words: &[Text], name: &str) -> bool
+    ensures { result ≡ list_any (names name.now) words.now }
+{
+    for word in words {
+        if name_part(word.as_str()) == name {
+            return true;
+        }
+    }
+    false
+}
+
+fn names_differ(words: &[Text]) -> bool
+    ensures { result ≡ names_differ words.now }
+{
+    for place in 0..words.len() {
+        if gives(&words[place + 1..], name_part(words[place].as_str())) {
+            return false;
+        }
+    }
+    true
+}
+
+/// The file that the words name for a table, and its place among the files, from 0.
+#[derive(Clone, Copy, Debug)]
+pub struct TableFile<'a> {
+    pub place: usize,
+    pub file: &'a str,
+}
+
+impl<'a> Job<'a> {
+    /// The file of a table.
+    pub fn file_of(&self, name: &str) -> Option<TableFile<'a>>
+        ensures { option_map asked_file result ≡ file_of name.now (asked self.now).files }
+    {
+        let place = self.place_of(name)?;
+        let file = self.file_at(place);
+        Some(TableFile { place, file })
+    }
+
+    fn place_of(&self, name: &str) -> Option<usize>
+        ensures { result ≡ position_from (is_named name.now) 0 (asked self.now).files }
+    {
+        for place in 0..self.files.len() {
+            if name_part(self.files[place].as_str()) == name {
+                return Some(place);
+            }
+        }
+        None
+    }
+
+    /// The file at a place; no text where there is none.
+    pub fn file_at(&self, place: usize) -> &'a str
+        ensures { result.now ≡ file_at (asked self.now).files place }
+    {
+        match self.files.get(place) {
+            Some(word) => file_part(word.as_str()),
+            None => "",
+        }
+    }
+}

@@ -1,1 +1,3 @@
+pub mod AppendLemmas
+pub mod TableLemmas
 pub mod CompletenessLemmas

@@ -1,33 +1,23 @@
 -- What each answer of a run means, by what was seen of it from outside.
-use Rattle.std.specs.Prelude.{◌≡◌, ◌≢◌, ◌⊎◌, ℕ, List, [], ◌∷◌, Option, Some, None, slice_get, option_map, unwrap_or, Result, Ok, Err}
+use Rattle.std.specs.Prelude.{◌≡◌, ◌⊎◌, ℕ, List, [], Option, Some, None, Result, Ok, Err}
 use Rattle.std.specs.Io.KnownBytes.{Appends}
-use Rattle.sql_values.specs.declared.value.Value.{Value}
-use Rattle.sql_values.specs.declared.types.Column.{Column}
-use Rattle.sql_values.specs.declared.table.Table.{Table}
+use Rattle.sql_values.specs.declared.fail.Fail.{Fail}
 use Rattle.run_ports.specs.Counts.{Rose}
-use Rattle.run_ports.specs.Reading.{AreBytesOf}
 use Rattle.run_ports.specs.Writing.{AppendsPrefix}
-use Rattle.first_plans.specs.declared.fault.PlanFault.TheVariants as plan_fault
-use Rattle.first_plans.specs.declared.plan.Plan.{Plan}
-use Rattle.first_plans.specs.Plans.{IsPlan, RefusedFor}
-use Rattle.first_plans.specs.Trees.{columns_of, tree_of, types_of}
-use Rattle.first_plans.specs.Allowed.{Allows}
-use Rattle.csv_tables.specs.Tables.{IsTable, TableRefusedFor}
+use Rattle.plan_docs.specs.Plans.{PlanForm}
+use Rattle.plan_trees.specs.TreeTypes.{types_of}
+use Rattle.plan_trees.specs.Allowed.{Allows}
+use Rattle.plan_trees.specs.Stopped.{MayFail}
+use Rattle.plan_reader.specs.Trees.{tree_of}
 use Rattle.csv_tables.specs.ResultTexts.{result_text}
-use Rattle.csv_tables.specs.declared.fault.TableFault.TheVariants as table_fault
-use Rattle.trinorun.specs.Words.{Job}
+use Rattle.command_line.specs.Words.{Job}
+use Rattle.trinorun.specs.Jobs.{AreTablesAsked, Contents, IsPlanAsked, Row}
+use Rattle.trinorun.specs.Loading.{FirstIsRefused, HasNoFile, PlanFails, SomeTableIsUnread}
+use Rattle.trinorun.specs.Lines.{line, message}
 use Rattle.trinorun.specs.declared.status.Status.{Status}
 use Rattle.trinorun.specs.declared.status.Status.TheVariants as status
 
--- how many rows a table may have
-abbrev pub row_limit : ℕ
-row_limit = 16000000
-
--- the bytes of a name, where the files tell
-abbrev pub Contents : Type 0
-Contents = Option (List ℕ → Option (List ℕ))
-
--- what is seen of a run from outside, before it and after it
+-- what is seen of a run from outside, before it and after it: files and output
 pub record Seen : Type 0 where
   pub held : Contents
   pub read_faults_before : ℕ
@@ -38,126 +28,108 @@ pub record Seen : Type 0 where
   pub write_faults_before : ℕ
   pub write_faults_after : ℕ
 
--- the rows of a table
-abbrev pub rows_of : Table → List (List Value)
-rows_of table = table.rows
-
--- the name and the columns of the first table of a plan
-abbrev pub table_name : Plan → List ℕ
-table_name plan = unwrap_or (option_map (λ doc. doc.name) (slice_get plan.tables 0)) []
-
-abbrev pub table_columns : Plan → List Column
-table_columns plan = columns_of plan.tables 0
-
--- the plan's file holds this plan, of a table of the asked name
-pub record IsPlanAsked (held : Contents) (job : Job) (plan : Plan) : Type 0 where
-  pub bytes : List ℕ
-  pub are_bytes : AreBytesOf held job.plan bytes
-  pub is_plan : IsPlan bytes plan
-  pub is_named : table_name plan ≡ job.name
-
--- the table's file holds these rows, in the columns of the plan's table
-pub record IsTableAsked (held : Contents) (job : Job) (plan : Plan) (rows : List (List Value)) : Type 0 where
-  pub bytes : List ℕ
-  pub are_bytes : AreBytesOf held job.file bytes
-  pub is_table : IsTable (table_columns plan) row_limit bytes rows
+-- what was told on the errors, before a run and after it
+pub record Heard : Type 0 where
+  pub told_before : Option (List ℕ)
+  pub told_after : Option (List ℕ)
+  pub faults_before : ℕ
+  pub faults_after : ℕ
 
 -- the text of a list of rows that the plan's tree allows over its tables
-pub record IsTextOf (plan : Plan) (tables : List (List (List Value))) (text : List ℕ) : Type 0 where
-  pub list : List (List Value)
+pub record IsTextOf (plan : PlanForm) (tables : List (List Row)) (text : List ℕ) : Type 0 where
+  pub list : List Row
   pub allowed : Allows (tree_of plan) tables list
-  pub is_text : text ≡ result_text plan.output (types_of plan.tables (tree_of plan)) list
+  pub is_text : text ≡ result_text plan.output (types_of (tree_of plan)) list
 
--- a text that what was asked allows
-pub record IsResult (held : Contents) (job : Job) (text : List ℕ) : Type 0 where
-  pub plan : Plan
-  pub rows : List (List Value)
-  pub is_plan : IsPlanAsked held job plan
-  pub is_table : IsTableAsked held job plan rows
-  pub is_text : IsTextOf plan (rows ∷ []) text
+-- a text that the plan allows over the tables that were asked for
+pub record IsResult (held : Contents) (job : Job) (plan : PlanForm) (text : List ℕ) : Type 0 where
+  pub tables : List (List Row)
+  pub are_tables : AreTablesAsked held job plan.tables tables
+  pub is_text : IsTextOf plan tables text
 
--- a read of this file failed
-pub record ReadFailed (before after : ℕ) (refused : Option (List ℕ)) (name : List ℕ) : Type 0 where
-  pub rose : Rose before after
-  pub is_name : refused ≡ Some name
+-- the result was written whole, and nothing else
+pub record WroteResult (job : Job) (plan : PlanForm) (seen : Seen) : Type 0 where
+  pub text : List ℕ
+  pub is_result : IsResult seen.held job plan text
+  pub appends : Appends seen.written_before seen.written_after text
 
--- why a file was not read
-abbrev pub ReadFails : ℕ → ℕ → ℕ → Option (List ℕ) → List ℕ → Status → Type 0
-ReadFails number before after refused name status.Memory = Unit {0}
-ReadFails number before after refused name (status.ReadFault file) = (file ≡ number) × ReadFailed before after refused name
-ReadFails number before after refused name _ = ⊥
+-- a beginning of the result was written, and then a write failed
+pub record StoppedWriting (job : Job) (plan : PlanForm) (seen : Seen) : Type 0 where
+  pub text : List ℕ
+  pub is_result : IsResult seen.held job plan text
+  pub appends : AppendsPrefix seen.written_before seen.written_after text
+  pub rose : Rose seen.write_faults_before seen.write_faults_after
 
--- the plan is of another table than the one that has a file
-pub record IsOtherTable (job : Job) (bytes : List ℕ) (code : ℕ) (path : List ℕ) : Type 0 where
-  pub plan : Plan
-  pub is_plan : IsPlan bytes plan
-  pub other : table_name plan ≢ job.name
-  pub is_ten : code ≡ 10
-  pub no_place : path ≡ []
-
--- the plan's file holds no plan that serves
-pub record PlanIsRefused (held : Contents) (job : Job) (code : ℕ) (path : List ℕ) : Type 0 where
-  pub bytes : List ℕ
-  pub are_bytes : AreBytesOf held job.plan bytes
-  pub why : RefusedFor bytes (plan_fault.Refused code path) ⊎ IsOtherTable job bytes code path
-
--- the table's file holds no table of the plan's
-pub record TableIsRefused (held : Contents) (job : Job) (plan : Plan) (row column why : ℕ) : Type 0 where
-  pub bytes : List ℕ
-  pub are_bytes : AreBytesOf held job.file bytes
-  pub refused : TableRefusedFor (table_columns plan) row_limit bytes (table_fault.Refused row column why)
-
--- why there is no plan: what each status says of the reads so far
-abbrev pub PlanFails : Contents → Job → ℕ → ℕ → Option (List ℕ) → Status → Type 0
-PlanFails held job before after refused status.Memory = Unit {0}
-PlanFails held job before after refused (status.ReadFault file) = (file ≡ 0) × ReadFailed before after refused job.plan
-PlanFails held job before after refused (status.PlanRefused code path) = PlanIsRefused held job code path
-PlanFails held job before after refused _ = ⊥
-
--- why there is no table
-abbrev pub TableFails : Contents → Job → Plan → ℕ → ℕ → Option (List ℕ) → Status → Type 0
-TableFails held job plan before after refused status.Memory = Unit {0}
-TableFails held job plan before after refused (status.ReadFault file) = (file ≡ 1) × ReadFailed before after refused job.file
-TableFails held job plan before after refused (status.TableRefused table row column why) =
-    (table ≡ 0) × TableIsRefused held job plan row column why
-TableFails held job plan before after refused _ = ⊥
+-- an expression of the plan may fail so on a row that it may have been given
+pub record MayHaveFailed (held : Contents) (job : Job) (plan : PlanForm) (node : ℕ) (kind : Fail) : Type 0 where
+  pub tables : List (List Row)
+  pub are_tables : AreTablesAsked held job plan.tables tables
+  pub may_fail : MayFail (tree_of plan) tables node kind
 
 -- nothing was written
 abbrev pub WroteNothing : Seen → Type 0
 WroteNothing seen = seen.written_after ≡ seen.written_before
 
--- the result was written whole, and nothing else
-pub record WroteResult (job : Job) (seen : Seen) : Type 0 where
-  pub text : List ℕ
-  pub is_result : IsResult seen.held job text
-  pub appends : Appends seen.written_before seen.written_after text
+-- why a plan that was read gave no result
+abbrev pub RunFails : PlanForm → List (List Row) → Status → Type 0
+RunFails plan tables status.Memory = Unit {0}
+RunFails plan tables (status.ExprFailed node kind) = MayFail (tree_of plan) tables node kind
+RunFails plan tables _ = ⊥
 
--- a beginning of the result was written, and then a write failed
-pub record StoppedWriting (job : Job) (seen : Seen) : Type 0 where
-  pub text : List ℕ
-  pub is_result : IsResult seen.held job text
-  pub appends : AppendsPrefix seen.written_before seen.written_after text
-  pub rose : Rose seen.write_faults_before seen.write_faults_after
+-- what an answer means once the plan was read
+abbrev pub PlanAnswered : Job → PlanForm → Seen → Status → Type 0
+PlanAnswered job plan seen status.Ok = WroteResult job plan seen
+PlanAnswered job plan seen status.Memory = WroteNothing seen
+PlanAnswered job plan seen status.BadWords = ⊥
+PlanAnswered job plan seen (status.ReadFault file) = WroteNothing seen
+    × SomeTableIsUnread job plan.tables seen.read_faults_before seen.read_faults_after seen.refused file
+PlanAnswered job plan seen (status.PlanRefused code path) = WroteNothing seen × HasNoFile job plan.tables code path
+PlanAnswered job plan seen (status.TableRefused table row column why) =
+    WroteNothing seen × FirstIsRefused seen.held job plan.tables table row column why
+PlanAnswered job plan seen (status.ExprFailed node kind) =
+    WroteNothing seen × MayHaveFailed seen.held job plan node kind
+PlanAnswered job plan seen status.WriteFault = StoppedWriting job plan seen
+
+-- a line of this message was written to the errors, unless a write of it failed
+abbrev pub ToldLine : Heard → List ℕ → Type 0
+ToldLine heard text = ¬ Rose heard.faults_before heard.faults_after → Appends heard.told_before heard.told_after (line text)
+
+-- what was told on the errors: nothing where all went well, else the answer's message
+abbrev pub Told : Heard → List ℕ → Status → Type 0
+Told heard text status.Ok = heard.told_after ≡ heard.told_before
+Told heard text _ = ToldLine heard text
+
+-- no plan was read
+pub record PlanIsUnread (job : Job) (seen : Seen) (heard : Heard) (answer : Status) : Type 0 where
+  pub why : PlanFails seen.held job seen.read_faults_before seen.read_faults_after seen.refused answer
+  pub nothing : WroteNothing seen
+  pub told : Told heard (message job [] answer) answer
+
+-- the plan's file holds this plan, and it was run
+pub record PlanRan (job : Job) (seen : Seen) (heard : Heard) (answer : Status) : Type 0 where
+  pub plan : PlanForm
+  pub is_plan : IsPlanAsked seen.held job plan
+  pub answered : PlanAnswered job plan seen answer
+  pub told : Told heard (message job plan.tables answer) answer
 
 -- what an answer means where the words ask for this
-abbrev pub JobAnswered : Job → Seen → Status → Type 0
-JobAnswered job seen status.Ok = WroteResult job seen
-JobAnswered job seen status.Memory = WroteNothing seen
-JobAnswered job seen status.BadWords = ⊥
-JobAnswered job seen (status.ReadFault file) = WroteNothing seen
-    × (((file ≡ 0) × ReadFailed seen.read_faults_before seen.read_faults_after seen.refused job.plan)
-    ⊎ ((file ≡ 1) × ReadFailed seen.read_faults_before seen.read_faults_after seen.refused job.file
-    × ((plan : Plan) × IsPlanAsked seen.held job plan)))
-JobAnswered job seen (status.PlanRefused code path) = WroteNothing seen × PlanIsRefused seen.held job code path
-JobAnswered job seen (status.TableRefused table row column why) = WroteNothing seen × (table ≡ 0)
-    × ((plan : Plan) × IsPlanAsked seen.held job plan × TableIsRefused seen.held job plan row column why)
-JobAnswered job seen (status.ExprFailed node kind) = ⊥
-JobAnswered job seen status.WriteFault = StoppedWriting job seen
+abbrev pub JobAnswered : Job → Seen → Heard → Status → Type 0
+JobAnswered job seen heard answer = PlanIsUnread job seen heard answer ⊎ PlanRan job seen heard answer
+
+-- a job of no file, for the message of words that are no command line
+abbrev pub no_job : Job
+no_job = record { plan = []; files = [] }
+
+-- the words are no command line
+pub record WordsAreBad (seen : Seen) (heard : Heard) (answer : Status) : Type 0 where
+  pub is : answer ≡ status.BadWords
+  pub nothing : WroteNothing seen
+  pub told : Told heard (message no_job [] answer) answer
 
 -- what an answer means
-abbrev pub Answered : Option Job → Seen → Status → Type 0
-Answered None seen answer = (answer ≡ status.BadWords) × WroteNothing seen
-Answered (Some job) seen answer = JobAnswered job seen answer
+abbrev pub Answered : Option Job → Seen → Heard → Status → Type 0
+Answered None seen heard answer = WordsAreBad seen heard answer
+Answered (Some job) seen heard answer = JobAnswered job seen heard answer
 
 -- the answer of a run's steps
 abbrev pub status_of : {A : Type 0} → Result A Status → Status
@@ -169,10 +141,14 @@ pub record MetNoFault (seen : Seen) : Type 0 where
   pub reads : ¬ Rose seen.read_faults_before seen.read_faults_after
   pub writes : ¬ Rose seen.write_faults_before seen.write_faults_after
 
--- a run of a good plan over a good table that met no fault of the outside gave the result, or
--- memory was wanting
+-- a good plan over good tables, in which nothing may fail
+pub record IsSound (held : Contents) (job : Job) (plan : PlanForm) (tables : List (List Row)) : Type 0 where
+  pub is_plan : IsPlanAsked held job plan
+  pub are_tables : AreTablesAsked held job plan.tables tables
+  pub calm : (node : ℕ) (kind : Fail) → ¬ MayFail (tree_of plan) tables node kind
+
+-- a run of what is sound that met no fault of the outside gave the result, or memory was wanting
 pub record IsComplete (asked : Option Job) (seen : Seen) (answer : Status) : Type 0 where
-  pub ends_well : (job : Job) (held : List ℕ → Option (List ℕ)) (plan : Plan) (rows : List (List Value))
-      → asked ≡ Some job → seen.held ≡ Some held
-      → IsPlanAsked (Some held) job plan → IsTableAsked (Some held) job plan rows
+  pub ends_well : (job : Job) (held : List ℕ → Option (List ℕ)) (plan : PlanForm) (tables : List (List Row))
+      → asked ≡ Some job → seen.held ≡ Some held → IsSound (Some held) job plan tables
       → MetNoFault seen → (answer ≡ status.Ok) ⊎ (answer ≡ status.Memory)

@@ -1,3 +1,5 @@
-pub mod Words
 pub mod Statuses
+pub mod Lines
+pub mod Jobs
+pub mod Loading
 pub mod Answers

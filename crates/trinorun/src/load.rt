@@ -1,14 +1,19 @@
-ghost use Rattle.std.specs.Prelude.{◌≡◌, ◌↔◌, ◌≤◌, IsTrue, MatchResult};
-ghost use Rattle.trinorun.specs.Answers.{IsPlanAsked, IsTableAsked, PlanFails, ReadFails, TableFails, table_columns, table_name};
+ghost use Rattle.std.specs.Prelude.{◌≡◌, ◌≤◌, IfOk, MatchResult, map, Some};
 ghost use Rattle.run_ports.specs.Reading.{AreBytesOf};
-ghost use Rattle.trinorun.specs.Words.{asked};
+ghost use Rattle.plan_docs.specs.Plans.{plan_view};
+ghost use Rattle.command_line.specs.Words.{asked, asked_file, file_of};
+ghost use Rattle.page_judges.specs.Typed.{AllFit};
+ghost use Rattle.tree_evaluator.specs.Fits.{TablesFit, kinds};
+ghost use Rattle.trinorun.specs.Jobs.{AreTablesAsked, first_without_file, IsPlanAsked, IsTableAsked, rows_of};
+ghost use Rattle.trinorun.specs.Loading.{FilesFail, PlanFails, name_path, ReadFails, TableFails, TablesFail};
 
 use crate::status::Status;
-use crate::words::Job;
-use csv_tables::{TableFault, read_table};
-use first_plans::{Plan, PlanFault, read_plan};
+use command_line::{Job, TableFile};
+use csv_tables::{TableFault, read_table, rows_of_a_table_fit};
+use plan_places::{Key, Step, pointer_of};
+use plan_reader::{Plan, PlanFault, TableDoc, read_plan};
 use run_ports::{FileFault, Files};
-use sql_values::{Column, Table, Text};
+use sql_values::{Memory, Table};
 use std::alloc::Global;
 
 /// How many rows a table may have.
@@ -39,66 +44,118 @@ pub fn load_plan<F: Files>(alloc: Global, job: &Job<'_>, files: &mut F) -> Resul
     ensures same { F.holds files.new ≡ F.holds files.old }
     ensures later { F.faults files.old ≤ F.faults files.new }
     ensures answer { MatchResult result
-        (IsPlanAsked (F.holds files.old) (asked job.now))
+        (λ plan. IsPlanAsked (F.holds files.old) (asked job.now) (plan_view plan))
         (PlanFails (F.holds files.old) (asked job.now) (F.faults files.old) (F.faults files.new) (F.refused files.new)) }
 {
     let bytes = read_file(alloc, files, job.plan, 0)?;
-    let plan = match read_plan(alloc, bytes.as_slice()) {
-        Ok(plan) => plan,
-        Err(PlanFault::Refused { code, path }) => return Err(Status::PlanRefused { code, path }),
-        Err(PlanFault::Memory) => return Err(Status::Memory),
-    };
-    if !is_of_table(&plan, job.name) {
-        return Err(Status::PlanRefused {
-            code: 10,
-            path: Text::of(String::new(alloc)),
-        });
+    match read_plan(alloc, bytes.as_slice()) {
+        Ok(plan) => Ok(plan),
+        Err(PlanFault::Refused { code, path }) => Err(Status::PlanRefused { code, path }),
+        Err(PlanFault::Memory) => Err(Status::Memory),
     }
-    Ok(plan)
 }
 
-/// Whether the plan's table has the name.
-fn is_of_table(plan: &Plan, name: &str) -> bool
-    ensures { IsTrue result ↔ (table_name plan.now ≡ name.now) }
+/// The files that the words name for the tables of a plan.
+pub fn files_of<'a>(
+    alloc: Global,
+    job: &Job<'a>,
+    docs: &[TableDoc],
+) -> Result<Vec<TableFile<'a>>, Status>
+    ensures { MatchResult result
+        (λ found. map (λ file. Some (asked_file file)) found.items ≡ map (λ doc. file_of doc.name (asked job.now).files) docs.now)
+        (FilesFail (asked job.now) docs.now) }
 {
-    match plan.tables.as_slice().first() {
-        Some(table) => table.name.as_str() == name,
-        None => name.is_empty(),
+    let mut found = Vec::with_capacity(alloc, docs.len())?;
+    for table in 0..docs.len() {
+        match job.file_of(docs[table].name.as_str()) {
+            Some(file) => found.push(file)?,
+            None => return Err(has_no_file(alloc, job, docs, table)?),
+        }
     }
+    Ok(found)
 }
 
-/// Reads the table that the words name, as the plan has it.
-pub fn load_table<F: Files>(
+/// The refusal of a plan in which this table is the first without a file.
+fn has_no_file(
     alloc: Global,
     job: &Job<'_>,
-    plan: &Plan,
+    docs: &[TableDoc],
+    table: usize,
+) -> Result<Status, Memory>
+    requires { first_without_file (asked job.now) docs.now ≡ Some table }
+    ensures { IfOk result (FilesFail (asked job.now) docs.now) }
+{
+    let path = [
+        Step::Key(Key::Tables),
+        Step::Index(table),
+        Step::Key(Key::Name),
+    ];
+    Ok(Status::PlanRefused {
+        code: 4,
+        path: pointer_of(alloc, &path)?,
+    })
+}
+
+/// Reads the tables of a plan, each from its file.
+#[tactic(auto, using(crate::proofs::TableLemmas::images_at, crate::proofs::TableLemmas::item_there, crate::proofs::TableLemmas::one_table_more, crate::proofs::TableLemmas::table_fails))]
+pub fn load_tables<F: Files>(
+    alloc: Global,
+    job: &Job<'_>,
+    docs: &[TableDoc],
+    found: &[TableFile<'_>],
     files: &mut F,
-) -> Result<Table, Status>
+) -> Result<Vec<Table>, Status>
+    requires { map (λ file. Some (asked_file file)) found.now ≡ map (λ doc. file_of doc.name (asked job.now).files) docs.now }
+    ensures fits { IfOk result (λ tables. TablesFit tables.items) }
     ensures same { F.holds files.new ≡ F.holds files.old }
     ensures later { F.faults files.old ≤ F.faults files.new }
     ensures answer { MatchResult result
-        (λ table. IsTableAsked (F.holds files.old) (asked job.now) plan.now table.rows)
-        (TableFails (F.holds files.old) (asked job.now) plan.now (F.faults files.old) (F.faults files.new) (F.refused files.new)) }
+        (λ tables. AreTablesAsked (F.holds files.old) (asked job.now) docs.now (map rows_of tables.items))
+        (TablesFail (F.holds files.old) (asked job.now) docs.now (F.faults files.old) (F.faults files.new) (F.refused files.new)) }
 {
-    let bytes = read_file(alloc, files, job.file, 1)?;
-    match read_table(alloc, columns_of(plan), ROW_LIMIT, bytes.as_slice()) {
-        Ok(table) => Ok(table),
+    let mut tables = Vec::with_capacity(alloc, docs.len())?;
+    for place in 0..docs.len().min(found.len()) {
+        let table = load_table(alloc, job, &docs[place], place, found[place], files)?;
+        tables.push(table)?;
+    }
+    Ok(tables)
+}
+
+/// Reads one table, which has this place in the plan.
+fn load_table<F: Files>(
+    alloc: Global,
+    job: &Job<'_>,
+    doc: &TableDoc,
+    place: usize,
+    found: TableFile<'_>,
+    files: &mut F,
+) -> Result<Table, Status>
+    requires { file_of doc.now.name (asked job.now).files ≡ Some (asked_file found) }
+    ensures fits { IfOk result (λ table. AllFit (kinds table.columns) table.rows) }
+    ensures same { F.holds files.new ≡ F.holds files.old }
+    ensures later { F.faults files.old ≤ F.faults files.new }
+    ensures answer { MatchResult result
+        (λ table. IsTableAsked (F.holds files.old) (asked job.now) doc.now table.rows)
+        (TableFails (F.holds files.old) (asked job.now) doc.now place (F.faults files.old) (F.faults files.new) (F.refused files.new)) }
+{
+    let number = u32::try_from(found.place.saturating_add(1)).unwrap_or(u32::MAX);
+    let bytes = read_file(alloc, files, found.file, number)?;
+    match read_table(alloc, doc.columns.as_slice(), ROW_LIMIT, bytes.as_slice()) {
+        Ok(table) => {
+            rows_of_a_table_fit(
+                doc.columns.as_slice(),
+                ROW_LIMIT,
+                bytes.as_slice(),
+                &table.rows,
+            );
+            Ok(table)
+        }
         Err(TableFault::Refused { row, column, why }) => Err(Status::TableRefused {
-            table: 0,
+            table: u32::try_from(place).unwrap_or(u32::MAX),
             row,
             column,
             why,
         }),
         Err(TableFault::Memory) => Err(Status::Memory),
-    }
-}
-
-/// The columns of the plan's table.
-fn columns_of(plan: &Plan) -> &[Column]
-    ensures { result.now ≡ table_columns plan.now }
-{
-    match plan.tables.as_slice().first() {
-        Some(table) => table.columns.as_slice(),
-        None => &[],
     }
 }

@@ -5,20 +5,18 @@
 //! that the plan's tree allows over its tables, and each other status but want of memory has its
 //! cause.
 //!
-//! - `words`: the command line
 //! - `load`: the plan and its tables, from files
-//! - `evaluate`: the rows of a tree, node by node over whole lists
+//! - `lines`: the line that is told for each answer
 //! - `top`: `run`
 //! - `status`: the answers, and the exit status of each
 #![tactic(auto)]
 
-mod evaluate;
+mod lines;
 mod load;
 mod status;
 #[cfg(test)]
 mod tests;
 mod top;
-mod words;
 
 use run_ports::{DiskFiles, NoMeet, ReplayCourier, StdSink};
 use sql_values::Text;

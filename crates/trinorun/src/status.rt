@@ -3,7 +3,7 @@ ghost use Rattle.trinorun.specs.Statuses.{exit_code};
 
 use run_ports::SinkFailed;
 use sql_values::{Fail, Memory, Text};
-use std::alloc::AllocFailed;
+use std::alloc::{AllocError, AllocFailed};
 
 /// The answer of a run.
 #[derive(Debug, Drop)]
@@ -65,6 +65,17 @@ impl From<Memory> for Status {
     ghost from_gives = { λ _ s. s ≡ status.Memory };
 
     fn from(_: Memory) -> Status {
+        Status::Memory
+    }
+}
+
+impl From<AllocError> for Status {
+    ghost use Rattle.std.specs.Prelude.{◌≡◌};
+    ghost use Rattle.trinorun.specs.declared.status.Status.TheVariants as status;
+
+    ghost from_gives = { λ _ s. s ≡ status.Memory };
+
+    fn from(_: AllocError) -> Status {
         Status::Memory
     }
 }

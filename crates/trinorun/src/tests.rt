@@ -1,146 +1,24 @@
-//! `run` over the objects in memory: each row is a command line with its files, the status, and
-//! what was written.
-use crate::status::Status;
+//! `run` over the objects in memory: each row is a plan over a table, and the answer: the exit
+//! status, what was written and what was told, with a `|` between them.
 use crate::top::run;
 use run_ports::{MemFiles, MemSink, NamedBytes, NoMeet, ReplayCourier};
 use sql_values::Text;
 use std::alloc::Global;
+use std::random::RandomSource;
+use std::str;
+use std::sync::Wait;
 use std::test::Fail;
-
-const TWO_COLUMNS: &str = "{\"version\":1,\"output\":[\"a\",\"c\"],\
-    \"tables\":[{\"name\":\"t\",\"columns\":[{\"name\":\"a\",\"type\":\"bigint\"},\
-    {\"name\":\"c\",\"type\":\"varchar\"}]}],\
-    \"fragments\":[{\"id\":0,\"placement\":\"SINGLE\",\
-    \"root\":{\"id\":9,\"op\":\"scan\",\"table\":\"t\",\"columns\":[\"a\",\"c\"]}}]}";
-
-const ONE_COLUMN: &str = "{\"version\":1,\"output\":[\"a\"],\
-    \"tables\":[{\"name\":\"t\",\"columns\":[{\"name\":\"a\",\"type\":\"bigint\"}]}],\
-    \"fragments\":[{\"id\":0,\"placement\":\"SINGLE\",\
-    \"root\":{\"id\":9,\"op\":\"scan\",\"table\":\"t\",\"columns\":[\"a\"]}}]}";
-
-/// The words, the plan, the table, the read and the write that fail (0: none), how many bytes a
-/// write takes, the answer, and what was written.
-type Case = (
-    &'static str,
-    &'static str,
-    &'static str,
-    u32,
-    u32,
-    usize,
-    &'static str,
-    &'static str,
-);
+use std::thread::Threads;
 
 const WORDS: &str = "--plan p t=t";
 
-const NO_JSON: &str = "PlanRefused { code: 1, path: Text { inner: \"\" } }";
+const A: &str = "{\"name\":\"a\",\"type\":\"bigint\"}";
 
-const NO_PLAN: &str = "PlanRefused { code: 10, path: Text { inner: \"\" } }";
+const A_AND_C: &str = "{\"name\":\"a\",\"type\":\"bigint\"},{\"name\":\"c\",\"type\":\"varchar\"}";
 
-const CASES: [Case; 21] = [
-    (
-        WORDS,
-        TWO_COLUMNS,
-        "a,c\n1,x\n2,\n\\N,\\N\n",
-        0,
-        0,
-        99,
-        "Ok",
-        "a,c\n1,x\n2,\n\\N,\\N\n",
-    ),
-    (
-        WORDS,
-        TWO_COLUMNS,
-        "a,c\n1,\n2,\\\\N\n3,\\\\\\N\n",
-        0,
-        0,
-        99,
-        "Ok",
-        "a,c\n1,\n2,\\\\N\n3,\\\\\\N\n",
-    ),
-    (WORDS, ONE_COLUMN, "a\n", 0, 0, 99, "Ok", "a\n"),
-    (
-        WORDS,
-        ONE_COLUMN,
-        "a\n+7\n-0\n\n",
-        0,
-        0,
-        1,
-        "Ok",
-        "a\n7\n0\n",
-    ),
-    ("", ONE_COLUMN, "a\n", 0, 0, 99, "BadWords", ""),
-    ("--plan p", ONE_COLUMN, "a\n", 0, 0, 99, "BadWords", ""),
-    ("--plan p t", ONE_COLUMN, "a\n", 0, 0, 99, "BadWords", ""),
-    ("--plan p t=", ONE_COLUMN, "a\n", 0, 0, 99, "BadWords", ""),
-    ("--plan -p t=t", ONE_COLUMN, "a\n", 0, 0, 99, "BadWords", ""),
-    ("--pla p t=t", ONE_COLUMN, "a\n", 0, 0, 99, "BadWords", ""),
-    ("--plan p =t", ONE_COLUMN, "a\n", 0, 0, 99, "BadWords", ""),
-    ("--plan p -t=t", ONE_COLUMN, "a\n", 0, 0, 99, "BadWords", ""),
-    (
-        "--plan p t=t u=u",
-        ONE_COLUMN,
-        "a\n",
-        0,
-        0,
-        99,
-        "BadWords",
-        "",
-    ),
-    (
-        WORDS,
-        ONE_COLUMN,
-        "a\n",
-        1,
-        0,
-        99,
-        "ReadFault { file: 0 }",
-        "",
-    ),
-    (
-        WORDS,
-        ONE_COLUMN,
-        "a\n",
-        2,
-        0,
-        99,
-        "ReadFault { file: 1 }",
-        "",
-    ),
-    (
-        "--plan p t=z",
-        ONE_COLUMN,
-        "a\n",
-        0,
-        0,
-        99,
-        "ReadFault { file: 1 }",
-        "",
-    ),
-    (WORDS, "{\"version\":1", "a\n", 0, 0, 99, NO_JSON, ""),
-    ("--plan p u=t", ONE_COLUMN, "a\n", 0, 0, 99, NO_PLAN, ""),
-    (
-        WORDS,
-        ONE_COLUMN,
-        "a\n1x\n",
-        0,
-        0,
-        99,
-        "TableRefused { table: 0, row: 1, column: 0, why: 4 }",
-        "",
-    ),
-    (
-        WORDS,
-        TWO_COLUMNS,
-        "a,c\n1,x\n2",
-        0,
-        0,
-        99,
-        "TableRefused { table: 0, row: 2, column: 1, why: 2 }",
-        "",
-    ),
-    (WORDS, ONE_COLUMN, "a\n", 0, 2, 1, "WriteFault", "a"),
-];
+const SCAN: &str = "{\"id\":9,\"op\":\"scan\",\"table\":\"t\",\"columns\":[\"a\"]}";
+
+const SCAN_BOTH: &str = "{\"id\":9,\"op\":\"scan\",\"table\":\"t\",\"columns\":[\"a\",\"c\"]}";
 
 fn words_in(alloc: Global, line: &str) -> Result<Vec<Text>, Fail> {
     let mut words = Vec::new(alloc);
@@ -157,39 +35,205 @@ fn named(alloc: Global, name: &str, text: &str) -> Result<NamedBytes, Fail> {
     })
 }
 
+/// The files `p`, `t` and `u`, of which one read fails (0: none).
 fn files_of(alloc: Global, plan: &str, table: &str, failing: u32) -> Result<MemFiles, Fail> {
     let mut held = Vec::new(alloc);
     held.push(named(alloc, "p", plan)?)?;
     held.push(named(alloc, "t", table)?)?;
+    held.push(named(alloc, "u", table)?)?;
     Ok(MemFiles::new(held, Vec::from_slice(alloc, &[failing])?))
 }
 
-fn told(alloc: Global, status: &Status, answer: &str) -> Result<bool, Fail> {
-    let text = format!(in alloc; "{status:?}")?;
-    Ok(text.as_str() == answer)
+/// A plan of one fragment over the table `t`.
+fn plan_of(alloc: Global, columns: &str, output: &str, root: &str) -> Result<String, Fail> {
+    Ok(format!(in alloc;
+        "{{\"version\":1,\"output\":[{output}],\
+        \"tables\":[{{\"name\":\"t\",\"columns\":[{columns}]}}],\
+        \"fragments\":[{{\"id\":0,\"placement\":\"SINGLE\",\"root\":{root}}}]}}"
+    )?)
+}
+
+/// What a run answers, whose given read and write fail.
+fn answer_of<R: Threads + Wait + Sync + RandomSource + AllocGlobal>(
+    rt: &R,
+    words: &str,
+    plan: &str,
+    table: &str,
+    failing: (u32, u32),
+) -> Result<String, Fail> {
+    let alloc = rt.alloc();
+    let words = words_in(alloc, words)?;
+    let mut files = files_of(alloc, plan, table, failing.0)?;
+    let mut out = MemSink::new(alloc, 1000, 4, Vec::from_slice(alloc, &[failing.1])?)?;
+    let mut err = MemSink::new(alloc, 1000, 7, Vec::new(alloc))?;
+    let (courier, meet) = (ReplayCourier::new(), NoMeet);
+    let status = run(
+        rt, alloc, &words, &mut files, &mut out, &mut err, &courier, &meet,
+    );
+    let written = str::from_utf8(out.written())?;
+    let told = str::from_utf8(err.written())?;
+    Ok(format!(in alloc; "{}|{written}|{told}", status.exit_code())?)
+}
+
+/// Whether a plan of this root over the table answers so.
+fn gives<R: Threads + Wait + Sync + RandomSource + AllocGlobal>(
+    rt: &R,
+    columns: &str,
+    output: &str,
+    root: &str,
+    table: &str,
+    expected: &str,
+) -> Result<bool, Fail> {
+    let plan = plan_of(rt.alloc(), columns, output, root)?;
+    let answer = answer_of(rt, WORDS, &plan, table, (0, 0))?;
+    Ok(answer.as_str() == expected)
+}
+
+/// Whether a run of a scan of `a` answers so.
+fn scan_gives<R: Threads + Wait + Sync + RandomSource + AllocGlobal>(
+    rt: &R,
+    words: &str,
+    table: &str,
+    failing: (u32, u32),
+    expected: &str,
+) -> Result<bool, Fail> {
+    let plan = plan_of(rt.alloc(), A, "\"a\"", SCAN)?;
+    let answer = answer_of(rt, words, &plan, table, failing)?;
+    Ok(answer.as_str() == expected)
 }
 
 #[test]
-fn answers_by_the_table(rt: HostRuntime) -> Result<(), Fail> {
-    let alloc = rt.alloc();
-    for (words, plan, table, failing_read, failing_write, most, answer, written) in CASES {
-        let line = words_in(alloc, words)?;
-        let mut files = files_of(alloc, plan, table, failing_read)?;
-        let failing = Vec::from_slice(alloc, &[failing_write])?;
-        let mut out = MemSink::new(alloc, 1000, most.max(1), failing)?;
-        let mut err = MemSink::new(alloc, 0, 1, Vec::new(alloc))?;
-        let status = run(
+fn scans_a_table(rt: HostRuntime) -> Result<(), Fail> {
+    let names = "\"a\",\"c\"";
+    let (table, answer) = ("a,c\n1,x\n2,\n\\N,\\N\n", "0|a,c\n1,x\n2,\n\\N,\\N\n|");
+    assert!(rt; gives(&rt, A_AND_C, names, SCAN_BOTH, table, answer)?);
+    let (table, answer) = (
+        "a,c\n1,\n2,\\\\N\n3,\\\\\\N\n",
+        "0|a,c\n1,\n2,\\\\N\n3,\\\\\\N\n|",
+    );
+    assert!(rt; gives(&rt, A_AND_C, names, SCAN_BOTH, table, answer)?);
+    assert!(rt; scan_gives(&rt, WORDS, "a\n", (0, 0), "0|a\n|")?);
+    assert!(rt; scan_gives(&rt, WORDS, "a\n+7\n-0\n\n", (0, 0), "0|a\n7\n0\n|")?);
+    Ok(())
+}
+
+#[test]
+fn keeps_the_rows_whose_predicate_is_true(rt: HostRuntime) -> Result<(), Fail> {
+    let root = "{\"id\":1,\"op\":\"filter\",\"predicate\":{\"call\":\">\",\"args\":[{\"col\":0},\
+        {\"lit\":\"1\",\"type\":\"bigint\"}]},\"input\":{\"id\":9,\"op\":\"scan\",\"table\":\"t\",\
+        \"columns\":[\"a\"]}}";
+    assert!(rt; gives(&rt, A, "\"a\"", root, "a\n1\n\\N\n2\n", "0|a\n2\n|")?);
+    Ok(())
+}
+
+/// A filter by two conditions on `a`: that it is not 0, and that 10 divided by it is above 1.
+fn divides(alloc: Global, is_guarded: bool) -> Result<String, Fail> {
+    let guard = "{\"call\":\"<>\",\"args\":[{\"col\":0},{\"lit\":\"0\",\"type\":\"bigint\"}]}";
+    let division = "{\"call\":\">\",\"args\":[{\"call\":\"/\",\"args\":[\
+        {\"lit\":\"10\",\"type\":\"bigint\"},{\"col\":0}]},{\"lit\":\"1\",\"type\":\"bigint\"}]}";
+    let (first, second) = if is_guarded {
+        (guard, division)
+    } else {
+        (division, guard)
+    };
+    Ok(format!(in alloc;
+        "{{\"id\":1,\"op\":\"filter\",\"predicate\":{{\"call\":\"and\",\
+        \"args\":[{first},{second}]}},\"input\":{SCAN}}}"
+    )?)
+}
+
+#[test]
+fn conditions_are_evaluated_from_the_left(rt: HostRuntime) -> Result<(), Fail> {
+    let guarded = divides(rt.alloc(), true)?;
+    assert!(rt; gives(&rt, A, "\"a\"", &guarded, "a\n0\n5\n", "0|a\n5\n|")?);
+    let unguarded = divides(rt.alloc(), false)?;
+    let answer = "6||trinorun: expression failed 2 at node 1\n";
+    assert!(rt; gives(&rt, A, "\"a\"", &unguarded, "a\n0\n", answer)?);
+    Ok(())
+}
+
+#[test]
+fn a_failed_expression_writes_nothing(rt: HostRuntime) -> Result<(), Fail> {
+    let root = "{\"id\":1,\"op\":\"project\",\"columns\":[{\"call\":\"+\",\"args\":[{\"col\":0},\
+        {\"lit\":\"1\",\"type\":\"bigint\"}]}],\"input\":{\"id\":9,\"op\":\"scan\",\"table\":\"t\",\
+        \"columns\":[\"a\"]}}";
+    let answer = "6||trinorun: expression failed 1 at node 1\n";
+    assert!(rt; gives(&rt, A, "\"a\"", root, "a\n1\n9223372036854775807\n", answer)?);
+    let kind = "{\"name\":\"a\",\"type\":\"decimal(38,0)\"}";
+    let root = "{\"id\":1,\"op\":\"project\",\"columns\":[{\"call\":\"*\",\"args\":[{\"col\":0},\
+        {\"lit\":\"10\",\"type\":\"decimal(2,0)\"}]}],\"input\":{\"id\":9,\"op\":\"scan\",\
+        \"table\":\"t\",\"columns\":[\"a\"]}}";
+    let table = "a\n99999999999999999999999999999999999999\n";
+    assert!(rt; gives(&rt, kind, "\"a\"", root, table, answer)?);
+    Ok(())
+}
+
+#[test]
+fn casts_round_half_away_from_zero(rt: HostRuntime) -> Result<(), Fail> {
+    let kind = "{\"name\":\"a\",\"type\":\"decimal(2,1)\"}";
+    let root = "{\"id\":1,\"op\":\"project\",\"columns\":[{\"cast\":{\"col\":0},\
+        \"type\":\"decimal(1,0)\"}],\"input\":{\"id\":9,\"op\":\"scan\",\"table\":\"t\",\
+        \"columns\":[\"a\"]}}";
+    assert!(rt; gives(&rt, kind, "\"a\"", root, "a\n0.5\n-0.5\n", "0|a\n1\n-1\n|")?);
+    Ok(())
+}
+
+#[test]
+fn words_that_are_no_command_line(rt: HostRuntime) -> Result<(), Fail> {
+    let answer = "2||trinorun: bad command line\n";
+    assert!(rt; scan_gives(&rt, "", "a\n", (0, 0), answer)?);
+    assert!(rt; scan_gives(&rt, "--plan p --plan q", "a\n", (0, 0), answer)?);
+    assert!(rt; scan_gives(&rt, "--plan p t=a t=b", "a\n", (0, 0), answer)?);
+    Ok(())
+}
+
+#[test]
+fn files_that_cannot_be_read(rt: HostRuntime) -> Result<(), Fail> {
+    let answer = "3||trinorun: cannot read p\n";
+    assert!(rt; scan_gives(&rt, WORDS, "a\n", (1, 0), answer)?);
+    let answer = "3||trinorun: cannot read t\n";
+    assert!(rt; scan_gives(&rt, WORDS, "a\n", (2, 0), answer)?);
+    let answer = "3||trinorun: cannot read z=z\n";
+    assert!(rt; scan_gives(&rt, "--plan p u=u t=z=z", "a\n", (0, 0), answer)?);
+    Ok(())
+}
+
+#[test]
+fn plans_that_are_refused(rt: HostRuntime) -> Result<(), Fail> {
+    let answer = answer_of(&rt, WORDS, "{\"version\":1", "a\n", (0, 0))?;
+    assert_eq!(rt; answer.as_str(), "4||trinorun: plan refused 1 at \n");
+    let answer = answer_of(&rt, WORDS, "{}", "a\n", (0, 0))?;
+    assert_eq!(rt; answer.as_str(), "4||trinorun: plan refused 2 at \n");
+    let answer = "4||trinorun: plan refused 4 at /tables/0/name\n";
+    assert!(rt; scan_gives(&rt, "--plan p u=t", "a\n", (0, 0), answer)?);
+    let root = "{\"id\":1,\"op\":\"filter\",\"predicate\":{\"col\":0},\"input\":{\"id\":9,\
+        \"op\":\"scan\",\"table\":\"t\",\"columns\":[\"a\"]}}";
+    let answer = "4||trinorun: plan refused 5 at /fragments/0/root/predicate\n";
+    assert!(rt; gives(&rt, A, "\"a\"", root, "a\n", answer)?);
+    Ok(())
+}
+
+#[test]
+fn tables_that_are_refused(rt: HostRuntime) -> Result<(), Fail> {
+    let answer = "5||trinorun: table t refused 2 at row 2 column 1\n";
+    assert!(rt;
+        gives(
             &rt,
-            alloc,
-            line.as_slice(),
-            &mut files,
-            &mut out,
-            &mut err,
-            &ReplayCourier::new(),
-            &NoMeet,
-        );
-        assert!(rt; told(alloc, &status, answer)?, "{words}: {status:?}");
-        assert!(rt; out.written() == written.as_bytes(), "{words}: {written}");
-    }
+            A_AND_C,
+            "\"a\",\"c\"",
+            SCAN_BOTH,
+            "a,c\n1,x\n2",
+            answer
+        )?
+    );
+    let answer = "5||trinorun: table t refused 4 at row 1 column 0\n";
+    assert!(rt; scan_gives(&rt, WORDS, "a\n1x\n", (0, 0), answer)?);
+    Ok(())
+}
+
+#[test]
+fn a_result_that_cannot_be_written_whole(rt: HostRuntime) -> Result<(), Fail> {
+    let answer = "7|a\n3\n1\n\\N|trinorun: cannot write\n";
+    assert!(rt; scan_gives(&rt, WORDS, "a\n3\n1\n\\N\n", (0, 3), answer)?);
     Ok(())
 }

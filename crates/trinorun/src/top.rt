@@ -1,23 +1,28 @@
-ghost use Rattle.std.specs.Prelude.{◌≡◌, ◌↔◌, ◌≤◌, [], ◌∷◌, None, Ok, Err, IfOk};
-ghost use Rattle.trinorun.specs.Answers.{Answered, IsComplete, IsTextOf, JobAnswered, status_of};
-ghost use Rattle.trinorun.specs.Words.{asked, job_of};
+ghost use Rattle.std.specs.Prelude.{◌≡◌, ◌↔◌, ◌≤◌, ℕ, [], map, None, Ok, Err, IfOk, MatchResult};
+ghost use Rattle.plan_docs.specs.Plans.{plan_view};
+ghost use Rattle.command_line.specs.Words.{asked, job_of};
+ghost use Rattle.tree_evaluator.specs.Fits.{TablesFit};
+ghost use Rattle.trinorun.specs.Answers.{Answered, IsComplete, IsTextOf, JobAnswered, PlanAnswered, RunFails, status_of};
+ghost use Rattle.trinorun.specs.Jobs.{Contents, rows_of};
 
-use crate::evaluate::evaluate;
-use crate::load::{load_plan, load_table};
+use crate::lines::tell;
+use crate::load::{files_of, load_plan, load_tables};
 use crate::status::Status;
-use crate::words::{Job, read_words};
+use command_line::{Job, read_words};
 use csv_tables::text_of;
-use first_plans::{Plan, tree};
+use plan_reader::{Plan, tree};
+use plan_trees::types_of_tree;
 use run_ports::{Courier, Files, Meet, Sink, write_whole};
-use sql_values::{Memory, Table, Text};
+use sql_values::{Table, Text};
 use std::alloc::Global;
 use std::random::RandomSource;
-use std::slice;
 use std::sync::Wait;
 use std::thread::Threads;
+use tree_evaluator::{EvalStop, evaluate};
 
 /// Runs the plan that the words name over the tables that they name, and writes the result's text
-/// to `out`.
+/// to `out`. For each answer but Ok it writes one line to `err`.
+
 #[tactic(auto, using(crate::proofs::CompletenessLemmas::complete))]
 pub fn run<R, F, O, E, C, M>(
     _rt: &R,
@@ -46,6 +51,11 @@ where
       written_after = O.written out.new;
       write_faults_before = O.faults out.old;
       write_faults_after = O.faults out.new;
+    }) (record {
+      told_before = E.written err.old;
+      told_after = E.written err.new;
+      faults_before = E.faults err.old;
+      faults_after = E.faults err.new;
     }) result }
     ensures complete { IsComplete (job_of words.now) (record {
       held = F.holds files.old;
@@ -57,24 +67,26 @@ where
       write_faults_before = O.faults out.old;
       write_faults_after = O.faults out.new;
     }) result }
-    ensures err { err.new ≡ err.old }
 {
     let Some(job) = read_words(words) else {
+        let none = Job {
+            plan: "",
+            files: &[],
+        };
+        tell(err, &none, &[], &Status::BadWords);
         return Status::BadWords;
     };
-    match run_job(alloc, &job, files, out) {
-        Ok(()) => Status::Ok,
-        Err(status) => status,
-    }
+    run_job(alloc, &job, files, out, err)
 }
 
 /// Does what the words ask for.
-fn run_job<F: Files, O: Sink>(
+fn run_job<F: Files, O: Sink, E: Sink>(
     alloc: Global,
     job: &Job<'_>,
     files: &mut F,
     out: &mut O,
-) -> Result<(), Status>
+    err: &mut E,
+) -> Status
     ensures answer { JobAnswered (asked job.now) (record {
       held = F.holds files.old;
       read_faults_before = F.faults files.old;
@@ -84,21 +96,76 @@ fn run_job<F: Files, O: Sink>(
       written_after = O.written out.new;
       write_faults_before = O.faults out.old;
       write_faults_after = O.faults out.new;
-    }) (status_of result) }
+    }) (record {
+      told_before = E.written err.old;
+      told_after = E.written err.new;
+      faults_before = E.faults err.old;
+      faults_after = E.faults err.new;
+    }) result }
 {
-    let plan = load_plan(alloc, job, files)?;
-    let table = load_table(alloc, job, &plan, files)?;
-    let text = result_of(alloc, &plan, &table)?;
+    let plan = match load_plan(alloc, job, files) {
+        Ok(plan) => plan,
+        Err(status) => {
+            tell(err, job, &[], &status);
+            return status;
+        }
+    };
+    let status = status_of(run_plan(alloc, job, &plan, files, out));
+    tell(err, job, plan.tables.as_slice(), &status);
+    status
+}
+
+/// The answer of what was done.
+fn status_of(done: Result<(), Status>) -> Status
+    ensures { result ≡ status_of done }
+{
+    match done {
+        Ok(()) => Status::Ok,
+        Err(status) => status,
+    }
+}
+
+/// Runs the plan over its tables.
+fn run_plan<F: Files, O: Sink>(
+    alloc: Global,
+    job: &Job<'_>,
+    plan: &Plan,
+    files: &mut F,
+    out: &mut O,
+) -> Result<(), Status>
+    ensures same { F.holds files.new ≡ F.holds files.old }
+    ensures later { F.faults files.old ≤ F.faults files.new }
+    ensures answer { (held : Contents) (before : ℕ) → F.holds files.old ≡ held → before ≤ F.faults files.old
+        → PlanAnswered (asked job.now) (plan_view plan.now) (record {
+          held = held;
+          read_faults_before = before;
+          read_faults_after = F.faults files.new;
+          refused = F.refused files.new;
+          written_before = O.written out.old;
+          written_after = O.written out.new;
+          write_faults_before = O.faults out.old;
+          write_faults_after = O.faults out.new;
+        }) (status_of result) }
+{
+    let found = files_of(alloc, job, plan.tables.as_slice())?;
+    let tables = load_tables(alloc, job, plan.tables.as_slice(), found.as_slice(), files)?;
+    let text = result_of(alloc, plan, tables.as_slice())?;
     write_whole(out, text.as_slice())?;
     Ok(())
 }
 
-/// The text of what the plan gives over its table.
-fn result_of(alloc: Global, plan: &Plan, table: &Table) -> Result<Vec<u8>, Memory>
-    ensures { IfOk result (λ text. IsTextOf plan.now (table.now.rows ∷ []) text.items) }
+/// The text of what the plan gives over its tables.
+fn result_of(alloc: Global, plan: &Plan, tables: &[Table]) -> Result<Vec<u8>, Status>
+    requires { TablesFit tables.now }
+    ensures { MatchResult result
+        (λ text. IsTextOf (plan_view plan.now) (map rows_of tables.now) text.items)
+        (RunFails (plan_view plan.now) (map rows_of tables.now)) }
 {
     let tree = tree(alloc, plan)?;
-    let types = tree.types(alloc, plan.tables.as_slice())?;
-    let rows = evaluate(alloc, &tree, slice::from_ref(table))?;
-    text_of(alloc, plan.output.as_slice(), types.as_slice(), &rows)
+    let types = types_of_tree(alloc, &tree)?;
+    match evaluate(alloc, &tree, tables) {
+        Ok(rows) => Ok(text_of(alloc, plan.output.as_slice(), types.as_slice(), &rows)?),
+        Err(EvalStop::ExprFailed { node, kind }) => Err(Status::ExprFailed { node, kind }),
+        Err(EvalStop::Memory) => Err(Status::Memory),
+    }
 }

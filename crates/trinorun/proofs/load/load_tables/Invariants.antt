@@ -1,0 +1,12 @@
+use Rattle.std.proofs.Common.{◌≡◌, ℕ, ◌+◌, ◌-◌, ◌*◌, ◌<◌, ◌≤◌, map, Some, take, drop}
+use Rattle.command_line.specs.Words.{asked, asked_file, file_of}
+use Rattle.trinorun.specs.Jobs.{AreTablesAsked, rows_of}
+use Rattle.tree_evaluator.specs.Fits.{TablesFit}
+use Rattle.trinorun.proofs.load.load_tables.Given as goal
+
+abbrev pub invariant-loop-place : goal.invariant-loop-place
+invariant-loop-place g l =
+    AreTablesAsked (g.F.Files.holds l.initial.files) (asked l.job) (take l.place l.docs) (map rows_of l.tables.items)
+    × (g.F.Files.holds l.files ≡ g.F.Files.holds l.initial.files)
+    × (g.F.Files.faults l.initial.files ≤ g.F.Files.faults l.files)
+    × TablesFit l.tables.items

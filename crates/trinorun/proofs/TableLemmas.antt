@@ -8,7 +8,7 @@ use Rattle.plan_docs.specs.declared.plan.TableDoc.{TableDoc}
 use Rattle.csv_tables.specs.Tables.{IsTable}
 use Rattle.csv_tables.specs.declared.fault.TableFault.TheVariants as table_fault
 use Rattle.command_line.specs.Words.{Job, file_of}
-use Rattle.trinorun.specs.Jobs.{AreTablesAsked, Contents, IsFileOf, IsTableAsked, Row, row_limit, rows_of}
+use Rattle.trinorun.specs.Jobs.{AreTablesAsked, Contents, first_without_file, IsFileOf, IsTableAsked, Row, row_limit, rows_of}
 use Rattle.sql_values.specs.declared.table.Table.{Table}
 use Rattle.std.proofs.lemmas.List.{map-append}
 use Rattle.std.proofs.lemmas.List.Elements.{All-push}
@@ -98,15 +98,19 @@ item_there (a ∷ more) (suc i) x h = let p : i < length more = omega (arith, h)
 -- a table that was not read, after those before it were
 pub table_fails : (held : Contents) (job : Job) (docs : List TableDoc) (place : ℕ) (doc : TableDoc) (tables : List (List Row))
     (before middle after : ℕ) (refused : Option (List ℕ)) (answer : Status)
+    → first_without_file job docs ≡ None
     → AreTablesAsked held job (take place docs) tables → slice_get docs place ≡ Some doc → before ≤ middle
     → TableFails held job doc place middle after refused answer → TablesFail held job docs before after refused answer
-table_fails held job docs place doc tables before middle after refused status.Ok done is le why = absurd why
-table_fails held job docs place doc tables before middle after refused status.Memory done is le why = tt
-table_fails held job docs place doc tables before middle after refused status.BadWords done is le why = absurd why
-table_fails held job docs place doc tables before middle after refused (status.ReadFault file) done is le why = record {
+table_fails held job docs place doc tables before middle after refused status.Ok all done is le why = absurd why
+table_fails held job docs place doc tables before middle after refused status.Memory all done is le why = tt
+table_fails held job docs place doc tables before middle after refused status.BadWords all done is le why = absurd why
+table_fails held job docs place doc tables before middle after refused (status.ReadFault file) all done is le why = record {
+  all_have_files = all;
   table = place;
   doc = doc;
   is_doc = is;
+  earlier = tables;
+  are_tables = done;
   unread = record {
     place = why.place;
     name = why.name;
@@ -115,8 +119,9 @@ table_fails held job docs place doc tables before middle after refused (status.R
     failed = record { rose = let rose = why.failed.rose in omega (arith, le, rose); is_name = why.failed.is_name };
   };
 }
-table_fails held job docs place doc tables before middle after refused (status.PlanRefused code path) done is le why = absurd why
-table_fails held job docs place doc tables before middle after refused (status.TableRefused table row column cause) done is le why = record {
+table_fails held job docs place doc tables before middle after refused (status.PlanRefused code path) all done is le why = absurd why
+table_fails held job docs place doc tables before middle after refused (status.TableRefused table row column cause) all done is le why = record {
+  all_have_files = all;
   place = place;
   is_number = why.0;
   doc = doc;
@@ -125,8 +130,8 @@ table_fails held job docs place doc tables before middle after refused (status.T
   are_tables = done;
   refused = why.1;
 }
-table_fails held job docs place doc tables before middle after refused (status.ExprFailed node kind) done is le why = absurd why
-table_fails held job docs place doc tables before middle after refused status.WriteFault done is le why = absurd why
+table_fails held job docs place doc tables before middle after refused (status.ExprFailed node kind) all done is le why = absurd why
+table_fails held job docs place doc tables before middle after refused status.WriteFault all done is le why = absurd why
 
 -- the tables up to the next place
 pub one_place_more : (held : Contents) (job : Job) (docs : List TableDoc) (tables : List (List Row)) (i : ℕ) (doc : TableDoc) (rows : List Row)

@@ -82,7 +82,7 @@ PlanAnswered job plan seen status.Ok = WroteResult job plan seen
 PlanAnswered job plan seen status.Memory = WroteNothing seen
 PlanAnswered job plan seen status.BadWords = ⊥
 PlanAnswered job plan seen (status.ReadFault file) = WroteNothing seen
-    × SomeTableIsUnread job plan.tables seen.read_faults_before seen.read_faults_after seen.refused file
+    × SomeTableIsUnread seen.held job plan.tables seen.read_faults_before seen.read_faults_after seen.refused file
 PlanAnswered job plan seen (status.PlanRefused code path) = WroteNothing seen × HasNoFile job plan.tables code path
 PlanAnswered job plan seen (status.TableRefused table row column why) =
     WroteNothing seen × FirstIsRefused seen.held job plan.tables table row column why

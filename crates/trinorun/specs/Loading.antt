@@ -1,5 +1,5 @@
 -- Why a plan or its tables were not read.
-use Rattle.std.specs.Prelude.{◌≡◌, ℕ, ◌+◌, ◌-◌, ◌^◌, min, List, [], ◌∷◌, take, Option, Some, slice_get}
+use Rattle.std.specs.Prelude.{◌≡◌, ℕ, ◌+◌, ◌-◌, ◌^◌, min, List, [], ◌∷◌, take, Option, Some, None, slice_get}
 use Rattle.run_ports.specs.Counts.{Rose}
 use Rattle.run_ports.specs.Reading.{AreBytesOf}
 use Rattle.plan_places.specs.Places.{pointer_text}
@@ -32,11 +32,15 @@ pub record TableIsUnread (job : Job) (doc : TableDoc) (before after : ℕ) (refu
   pub is_number : file ≡ as_number (place + 1)
   pub failed : ReadFailed before after refused name
 
--- the file of a table could not be read
-pub record SomeTableIsUnread (job : Job) (docs : List TableDoc) (before after : ℕ) (refused : Option (List ℕ)) (file : ℕ) : Type 0 where
+-- the first table whose file could not be read, where each has a file: the files of the tables before it
+-- are tables
+pub record SomeTableIsUnread (held : Contents) (job : Job) (docs : List TableDoc) (before after : ℕ) (refused : Option (List ℕ)) (file : ℕ) : Type 0 where
+  pub all_have_files : first_without_file job docs ≡ None
   pub table : ℕ
   pub doc : TableDoc
   pub is_doc : slice_get docs table ≡ Some doc
+  pub earlier : List (List Row)
+  pub are_tables : AreTablesAsked held job (take table docs) earlier
   pub unread : TableIsUnread job doc before after refused file
 
 -- the path of a table's name
@@ -65,8 +69,10 @@ pub record TableIsRefused (held : Contents) (job : Job) (doc : TableDoc) (row co
   pub are_bytes : AreBytesOf held file bytes
   pub refused : TableRefusedFor doc.columns row_limit bytes (table_fault.Refused row column why)
 
--- the first table whose file holds no table of the plan's: those of the tables before it do
+-- the first table whose file holds no table of the plan's, where each has a file: those of the tables
+-- before it do
 pub record FirstIsRefused (held : Contents) (job : Job) (docs : List TableDoc) (table row column why : ℕ) : Type 0 where
+  pub all_have_files : first_without_file job docs ≡ None
   pub place : ℕ
   pub is_number : table ≡ as_number place
   pub doc : TableDoc
@@ -105,6 +111,6 @@ TableFails held job doc place before after refused _ = ⊥
 -- why the tables were not read
 abbrev pub TablesFail : Contents → Job → List TableDoc → ℕ → ℕ → Option (List ℕ) → Status → Type 0
 TablesFail held job docs before after refused status.Memory = Unit {0}
-TablesFail held job docs before after refused (status.ReadFault file) = SomeTableIsUnread job docs before after refused file
+TablesFail held job docs before after refused (status.ReadFault file) = SomeTableIsUnread held job docs before after refused file
 TablesFail held job docs before after refused (status.TableRefused table row column why) = FirstIsRefused held job docs table row column why
 TablesFail held job docs before after refused _ = ⊥

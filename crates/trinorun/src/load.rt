@@ -1,4 +1,4 @@
-ghost use Rattle.std.specs.Prelude.{◌≡◌, ◌≤◌, IfOk, MatchResult, map, Some};
+ghost use Rattle.std.specs.Prelude.{◌≡◌, ◌≤◌, IfOk, MatchResult, map, None, Some};
 ghost use Rattle.run_ports.specs.Reading.{AreBytesOf};
 ghost use Rattle.plan_docs.specs.Plans.{plan_view};
 ghost use Rattle.command_line.specs.Words.{asked, asked_file, file_of};
@@ -61,7 +61,8 @@ pub fn files_of<'a>(
     job: &Job<'a>,
     docs: &[TableDoc],
 ) -> Result<Vec<TableFile<'a>>, Status>
-    ensures { MatchResult result
+    ensures all { IfOk result (λ _. first_without_file (asked job.now) docs.now ≡ None) }
+    ensures files { MatchResult result
         (λ found. map (λ file. Some (asked_file file)) found.items ≡ map (λ doc. file_of doc.name (asked job.now).files) docs.now)
         (FilesFail (asked job.now) docs.now) }
 {
@@ -105,7 +106,8 @@ pub fn load_tables<F: Files>(
     found: &[TableFile<'_>],
     files: &mut F,
 ) -> Result<Vec<Table>, Status>
-    requires { map (λ file. Some (asked_file file)) found.now ≡ map (λ doc. file_of doc.name (asked job.now).files) docs.now }
+    requires all { first_without_file (asked job.now) docs.now ≡ None }
+    requires files { map (λ file. Some (asked_file file)) found.now ≡ map (λ doc. file_of doc.name (asked job.now).files) docs.now }
     ensures fits { IfOk result (λ tables. TablesFit tables.items) }
     ensures same { F.holds files.new ≡ F.holds files.old }
     ensures later { F.faults files.old ≤ F.faults files.new }

@@ -43,12 +43,12 @@ fn main(rt: HostRuntime) -> ExitCode {
     ExitCode::from(status.exit_code())
 }
 
-/// The words after the program's name. With a word that is not UTF-8 they are no command line.
+/// The words after the program's name. Where one is not UTF-8 there are none, and so no command line.
 fn words_of<R: Env + AllocGlobal>(rt: &R) -> Result<Vec<Text>, Status> {
     let args = match env::args(rt) {
         Ok(args) => args,
         Err(fault) if fault.kind() == io::ErrorKind::OutOfMemory => return Err(Status::Memory),
-        Err(_) => return Err(Status::BadWords),
+        Err(_) => return Ok(Vec::new(rt.alloc())),
     };
     let mut words = Vec::new(rt.alloc());
     for word in args.skip(1) {

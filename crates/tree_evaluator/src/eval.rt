@@ -15,7 +15,8 @@ use sql_values::{RowList, Table};
 use std::alloc::Global;
 
 /// A list of rows that the tree allows over the tables. A tree that does not fit the tables, or
-/// whose expressions have no types, as that of no plan that was read, is answered `Memory`.
+/// whose expressions have no types, as that of no plan that was read, is answered `Memory`. So is
+/// one with a join, an aggregate, a sort or a top n: these are not built yet.
 pub fn evaluate(alloc: Global, tree: &Tree, tables: &[Table]) -> Result<RowList, EvalStop>
     requires { TablesFit tables.now }
     ensures { MatchResult result

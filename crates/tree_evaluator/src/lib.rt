@@ -5,6 +5,9 @@
 //! that the tree allows, and it stops only on a node that may fail so (`specs/Stops.antt`). The
 //! tables fit the tree and its expressions are typed (`specs/Fits.antt`).
 //!
+//! Scans, constants, filters, projects, limits and unions are built. A tree with a join, an
+//! aggregate, a sort or a top n is answered by want of memory; no plan with one is run today.
+//!
 //! - `eval`: `evaluate`
 //! - `fit`: whether a tree fits the tables
 //! - `stop`: why it stops

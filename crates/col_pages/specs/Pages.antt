@@ -31,7 +31,12 @@ pub record PageInMaking : Type 0 where
   pub room : ℕ
 
 abbrev pub in_making : TypedRows → ℕ → PageInMaking
-in_making held room = record { types = held.types; rows = held.rows; begun = held.begun; room = room }
+in_making held room = record {
+  types = held.types;
+  rows = held.rows;
+  begun = held.begun;
+  room = room;
+}
 
 pub record HasRoom (held : TypedRows) (room : ℕ) : Type 0 where
   pub within : length held.rows ≤ room
@@ -39,5 +44,6 @@ pub record HasRoom (held : TypedRows) (room : ℕ) : Type 0 where
 
 -- the columns of some rows, each of its type
 abbrev pub blocks_of : List SqlType → List ℕ → List (List Value) → List TypedCells
-blocks_of (kind ∷ kinds) (column ∷ columns) rows = record { kind = kind; cells = map (λ row. cell row column) rows } ∷ blocks_of kinds columns rows
+blocks_of (kind ∷ kinds) (column ∷ columns) rows =
+    record { kind = kind; cells = map (λ row. cell row column) rows } ∷ blocks_of kinds columns rows
 blocks_of kinds columns rows = []

@@ -39,14 +39,18 @@ impl Page {
         Page { held }
     }
 
-    /// Joins columns of one length.
-    pub fn of_blocks(alloc: Global, blocks: Vec<Block>) -> Result<Page, Memory>
+    /// Joins columns of these types and of one length, without taking memory.
+    pub fn of_blocks(types: Vec<SqlType>, blocks: Vec<Block>) -> Page
         requires some { 0 < length blocks.items }
+        requires kinds { kinds_of blocks.items ≡ types.items }
         requires level { AreFilled (common_length blocks.items) 0 blocks.items }
         requires few { common_length blocks.items ≤ most_rows }
-        ensures { IfOk result (λ p. p ≡ record { types = kinds_of blocks.items; rows = rows_of (common_length blocks.items) blocks.items }) }
+        ensures { result ≡ record {
+          types = types.items;
+          rows = rows_of (common_length blocks.items) blocks.items;
+        } }
     {
-        Ok(Page::of_columns(ColumnRows::of_columns(alloc, blocks)?))
+        Page::of_columns(ColumnRows::of_columns(types, blocks))
     }
 
     /// The columns, without taking memory.
@@ -73,9 +77,13 @@ impl Page {
         requires within { high ≤ length rows.now }
         requires few { high - low ≤ most_rows }
         requires fits { All (λ row. IsTrue (fits_row types.now (cut columns.now row))) rows.now }
-        ensures { IfOk result (λ p. p ≡ record { types = types.now; rows = map (cut columns.now) (take (high - low) (drop low rows.now)) }) }
+        ensures { IfOk result (λ p. p ≡ record {
+          types = types.now;
+          rows = map (cut columns.now) (take (high - low) (drop low rows.now));
+        }) }
     {
-        Page::of_blocks(alloc, blocks(alloc, rows, types, columns, low, high)?)
+        let blocks = blocks(alloc, rows, types, columns, low, high)?;
+        Ok(Page::of_blocks(Vec::from_slice(alloc, types)?, blocks))
     }
 
     /// How many rows there are.
@@ -125,7 +133,8 @@ impl Page {
     pub fn select(&self, alloc: Global, positions: &[u32]) -> Result<Page, Memory>
         requires within { All (λ p. p < length self.now.rows) positions.now }
         requires few { length positions.now ≤ most_rows }
-        ensures { IfOk result (λ p. p ≡ record self.now { rows = gather self.now.rows [] positions.now }) }
+        ensures { IfOk result (λ p.
+            p ≡ record self.now { rows = gather self.now.rows [] positions.now }) }
     {
         Ok(Page {
             held: self.held.select(alloc, positions)?,
@@ -136,7 +145,8 @@ impl Page {
     pub fn slice(&self, alloc: Global, from: u32, to: u32) -> Result<Page, Memory>
         requires order { from ≤ to }
         requires within { to ≤ length self.now.rows }
-        ensures { IfOk result (λ p. p ≡ record self.now { rows = take (to - from) (drop from self.now.rows) }) }
+        ensures { IfOk result (λ p.
+            p ≡ record self.now { rows = take (to - from) (drop from self.now.rows) }) }
     {
         Ok(Page {
             held: self.held.cut(alloc, from as usize, to as usize)?,
@@ -156,7 +166,8 @@ fn blocks(
     requires order { low ≤ high }
     requires within { high ≤ length rows.now }
     requires fits { All (λ row. IsTrue (fits_row types.now (cut columns.now row))) rows.now }
-    ensures { IfOk result (λ v. v.items ≡ blocks_of types.now columns.now (take (high - low) (drop low rows.now))) }
+    ensures { IfOk result (λ v. v.items
+        ≡ blocks_of types.now columns.now (take (high - low) (drop low rows.now))) }
 {
     let mut blocks = Vec::with_capacity(alloc, columns.len())?;
     for (place, column) in columns.iter().enumerate() {

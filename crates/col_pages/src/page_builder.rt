@@ -34,7 +34,8 @@ impl PageBuilder {
     pub fn new(alloc: Global, types: &[SqlType], room: u32) -> Result<PageBuilder, Memory>
         requires some { 0 < length types.now }
         requires room { room ≤ most_rows }
-        ensures { IfOk result (λ b. b ≡ record { types = types.now; rows = []; begun = []; room = room }) }
+        ensures { IfOk result (λ b.
+            b ≡ record { types = types.now; rows = []; begun = []; room = room }) }
     {
         Ok(PageBuilder {
             alloc,
@@ -47,7 +48,8 @@ impl PageBuilder {
     pub fn push_row(&mut self, row: &Row) -> Result<(), Memory>
         requires room { length self.old.rows < self.old.room }
         requires fits { IsTrue (fits_row self.old.types row.now) }
-        ensures ok { OnOk result (self.new ≡ record self.old { rows = self.old.rows ++ row.now ∷ []; begun = [] }) }
+        ensures ok { OnOk result
+            (self.new ≡ record self.old { rows = self.old.rows ++ row.now ∷ []; begun = [] }) }
         ensures err { OnErr result (self.new ≡ record self.old { begun = [] }) }
     {
         self.held.push(row)?;
@@ -57,8 +59,11 @@ impl PageBuilder {
     /// Puts the next cell of the row that is begun, or answers false where that row is full or the
     /// value has not the type of its column.
     pub fn put(&mut self, value: ValueRef<'_>) -> Result<bool, Memory>
-        ensures fits { IfOk result (λ taken. taken ≡ fits_at self.old.types (length self.old.begun) (lent_value value.entry)) }
-        ensures ok { IfOk result (λ taken. self.new ≡ record self.old { begun = offered taken self.old.begun (lent_value value.entry) }) }
+        ensures fits { IfOk result (λ taken.
+            taken ≡ fits_at self.old.types (length self.old.begun) (lent_value value.entry)) }
+        ensures ok { IfOk result (λ taken. self.new ≡ record self.old {
+          begun = offered taken self.old.begun (lent_value value.entry);
+        }) }
         ensures err { OnErr result (self.new ≡ self.old) }
     {
         self.held.put(value)
@@ -68,7 +73,9 @@ impl PageBuilder {
     pub fn end_row(&mut self) -> bool
         requires { length self.old.rows < self.old.room }
         ensures full { IsTrue result ↔ (length self.old.types ≤ length self.old.begun) }
-        ensures ok { self.new ≡ (if result then record self.old { rows = self.old.rows ++ self.old.begun ∷ []; begun = [] } else self.old) }
+        ensures ok { self.new ≡ (if result
+            then record self.old { rows = self.old.rows ++ self.old.begun ∷ []; begun = [] }
+            else self.old) }
     {
         self.held.end_row()
     }
@@ -95,7 +102,8 @@ impl PageBuilder {
 
     /// Gives the rows as a page and leaves the builder empty.
     pub fn build(&mut self) -> Result<Page, Memory>
-        ensures page { IfOk result (λ p. p ≡ record { types = self.old.types; rows = self.old.rows }) }
+        ensures page { IfOk result (λ p.
+            p ≡ record { types = self.old.types; rows = self.old.rows }) }
         ensures ok { OnOk result (self.new ≡ record self.old { rows = []; begun = [] }) }
         ensures err { OnErr result (self.new ≡ self.old) }
     {

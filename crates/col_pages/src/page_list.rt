@@ -40,7 +40,9 @@ impl PageList {
 
     /// Takes the first page, or none where there is none.
     pub fn take_first(&mut self) -> Option<Page>
-        ensures { MatchOption result ((self.old ≡ []) × (self.new ≡ [])) (λ p. self.old ≡ p ∷ self.new) }
+        ensures { MatchOption result
+            ((self.old ≡ []) × (self.new ≡ []))
+            (λ p. self.old ≡ p ∷ self.new) }
     {
         self.pages.pop_front()
     }

@@ -1,8 +1,8 @@
-ghost use Rattle.std.specs.Prelude.{◌≡◌, [], ◌∷◌, length, IfOk};
+ghost use Rattle.std.specs.Prelude.{◌≡◌, [], ◌∷◌, length, true, IfOk};
 ghost use Rattle.sql_values.specs.declared.value.Value.TheVariants.{Null};
 
 use crate::{Block, Page, PageBuilder, PageList};
-use sql_values::{Memory, Row, RowBuilder, SqlType, Value, ValueRef};
+use sql_values::{Memory, Row, RowList, SqlType, Value, ValueRef};
 use std::alloc::Global;
 
 const TYPES: [SqlType; 2] = [SqlType::Bigint, SqlType::Varchar];
@@ -92,18 +92,40 @@ fn builders_take_rows(rt: HostRuntime) -> Result<(), Memory> {
 fn blocks_become_pages_and_come_back(rt: HostRuntime) -> Result<(), Memory> {
     let blocks = page(rt.alloc())?.into_blocks();
     assert_eq!(rt; blocks.len(), 2);
+    let mut types = Vec::new(rt.alloc());
+    types.push(SqlType::Bigint)?;
     let mut one = Vec::new(rt.alloc());
     one.push(Block::of_values(rt.alloc(), SqlType::Bigint, &[])?)?;
-    let page = Page::of_blocks(rt.alloc(), one)?;
+    let page = Page::of_blocks(types, one);
     assert!(rt; page.is_empty());
+    assert_eq!(rt; page.types().len(), 1);
     Ok(())
+}
+
+/// A list of one row.
+fn list(alloc: Global) -> Result<RowList, Memory>
+    ensures { IfOk result (λ l. l ≡ (Null ∷ Value.Boolean true ∷ []) ∷ []) }
+{
+    let mut values = Vec::new(alloc);
+    values.push(Value::Null)?;
+    values.push(Value::Boolean(true))?;
+    let mut rows = RowList::new(alloc);
+    rows.push(Row::of(values))?;
+    Ok(rows)
+}
+
+/// The second column of a list.
+fn truths(alloc: Global, rows: &RowList) -> Result<Page, Memory>
+    requires { rows.now ≡ (Null ∷ Value.Boolean true ∷ []) ∷ [] }
+    ensures { IfOk result (λ p. length p.rows ≡ 1) }
+{
+    Page::of_rows(alloc, rows, &[SqlType::Boolean], &[1], 0, 1)
 }
 
 #[test]
 fn lists_give_pages(rt: HostRuntime) -> Result<(), Memory> {
-    let rows = RowBuilder::new(rt.alloc(), &TYPES)?.finish();
-    let page = Page::of_rows(rt.alloc(), &rows, &[SqlType::Varchar], &[1], 0, 0)?;
-    assert!(rt; page.is_empty());
+    let page = truths(rt.alloc(), &list(rt.alloc())?)?;
+    assert!(rt; matches!(page.cell(0, 0), ValueRef::Boolean(true)));
     let mut pages = PageList::new(rt.alloc());
     pages.push(page)?;
     assert_eq!(rt; pages.len(), 1);

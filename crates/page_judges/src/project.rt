@@ -1,5 +1,6 @@
 ghost use Rattle.std.specs.Prelude.{◌≡◌, ◌<◌, ◌≤◌, length, map, take, IfOk};
 ghost use Rattle.sql_values.specs.Blocks.{with_cells};
+ghost use Rattle.sql_values.specs.ColumnRows.{kinds_of};
 ghost use Rattle.sql_exprs.specs.Forms.{form_view};
 ghost use Rattle.sql_exprs.specs.Meaning.{kind_of};
 ghost use Rattle.plan_trees.specs.Judges.{project_judge};
@@ -12,7 +13,7 @@ use crate::judged::Judged;
 use crate::values::{all_positions, values_before};
 use col_pages::{Block, Page};
 use sql_exprs::Expr;
-use sql_values::{Fail, Memory};
+use sql_values::{Fail, Memory, SqlType};
 use std::alloc::Global;
 
 /// The columns' values on the rows before the first on which a column fails.
@@ -24,8 +25,9 @@ pub fn project_page(alloc: Global, columns: &[Expr], page: &Page) -> Result<Judg
     ensures judged { IfOk result (λ j. j ≡ judged (project_judge page.now.types (map form_view columns.now)) (map (kind_of page.now.types) (map form_view columns.now)) page.now.rows) }
 {
     let evaluated = evaluate_columns(alloc, columns, page)?;
+    let types = kinds(alloc, evaluated.blocks.as_slice())?;
     Ok(Judged {
-        page: Page::of_blocks(alloc, evaluated.blocks)?,
+        page: Page::of_blocks(types, evaluated.blocks),
         failure: evaluated.failure,
     })
 }
@@ -51,6 +53,16 @@ fn evaluate_columns(alloc: Global, columns: &[Expr], page: &Page) -> Result<Eval
     }
     truncate_each(&mut blocks, positions.len());
     Ok(Evaluated { blocks, failure })
+}
+
+fn kinds(alloc: Global, blocks: &[Block]) -> Result<Vec<SqlType>, Memory>
+    ensures { IfOk result (λ v. v.items ≡ kinds_of blocks.now) }
+{
+    let mut kinds = Vec::with_capacity(alloc, blocks.len())?;
+    for block in blocks {
+        kinds.push(block.kind())?;
+    }
+    Ok(kinds)
 }
 
 fn truncate_each(blocks: &mut Vec<Block>, len: usize)

@@ -40,15 +40,18 @@ abbrev mutual
   shown_type types (null kind) = Some kind
   shown_type types (call name args) = shown_by_call name (shown_in_args types args)
   shown_type types (cast arg kind) = Some kind
-  shown_type types (choice branches other) = option_or (shown_type types other) (shown_in_results types branches)
+  shown_type types (choice branches other) =
+      option_or (shown_type types other) (shown_in_results types branches)
 
   pub shown_in_args : List SqlType → Forms → Option SqlType
   shown_in_args types none = None
-  shown_in_args types (more form forms) = option_or (shown_type types form) (shown_in_args types forms)
+  shown_in_args types (more form forms) =
+      option_or (shown_type types form) (shown_in_args types forms)
 
   pub shown_in_results : List SqlType → Choices → Option SqlType
   shown_in_results types last = None
-  shown_in_results types (branch test result rest) = option_or (shown_type types result) (shown_in_results types rest)
+  shown_in_results types (branch test result rest) =
+      option_or (shown_type types result) (shown_in_results types rest)
 
 -- a cast to varchar, or of a type to itself
 abbrev pub is_own_type : Option SqlType → SqlType → Bool
@@ -73,7 +76,8 @@ abbrev mutual
 
   pub branches_are_calm : List SqlType → Choices → Bool
   branches_are_calm types last = true
-  branches_are_calm types (branch test result rest) = (is_calm types test && is_calm types result) && branches_are_calm types rest
+  branches_are_calm types (branch test result rest) =
+      (is_calm types test && is_calm types result) && branches_are_calm types rest
 
 -- of lists of expressions
 abbrev pub args_show : List SqlType → List Expr → Option SqlType
@@ -86,4 +90,5 @@ abbrev pub args_are_calm : List SqlType → List Expr → Bool
 args_are_calm types args = are_calm types (forms_of (map form_view args))
 
 abbrev pub all_branches_are_calm : List SqlType → List Branch → Bool
-all_branches_are_calm types branches = branches_are_calm types (choices_of (map branch_view branches))
+all_branches_are_calm types branches =
+    branches_are_calm types (choices_of (map branch_view branches))

@@ -37,9 +37,12 @@ abbrev mutual
   value_of types (column n) row = Ok (cell row n)
   value_of types (literal kind value) row = Ok value
   value_of types (null kind) row = Ok Null
-  value_of types (call name args) row = call_of name (kinds_of types args) (values_of types args row)
-  value_of types (cast arg kind) row = and_then (value_of types arg row) (cast_of (kind_of types arg) kind)
-  value_of types (choice branches other) row = case_of (branches_of types branches row) (value_of types other row)
+  value_of types (call name args) row =
+      call_of name (kinds_of types args) (values_of types args row)
+  value_of types (cast arg kind) row =
+      and_then (value_of types arg row) (cast_of (kind_of types arg) kind)
+  value_of types (choice branches other) row =
+      case_of (branches_of types branches row) (value_of types other row)
 
   pub values_of : List SqlType → Forms → List Value → List Outcome
   values_of types none row = []
@@ -47,7 +50,8 @@ abbrev mutual
 
   pub branches_of : List SqlType → Choices → List Value → List (Outcome × Outcome)
   branches_of types last row = []
-  branches_of types (branch test result rest) row = (value_of types test row, value_of types result row) ∷ branches_of types rest row
+  branches_of types (branch test result rest) row =
+      (value_of types test row, value_of types result row) ∷ branches_of types rest row
 
 -- of lists of expressions
 abbrev pub arg_kinds : List SqlType → List Expr → List SqlType

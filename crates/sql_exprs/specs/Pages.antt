@@ -18,18 +18,22 @@ in_block kind v = if fits kind v then v else Null
 -- the cell at a position, or its failure; past the last row all columns are NULL
 abbrev pub cell_at : List SqlType → Form → List (List Value) → ℕ → Outcome
 cell_at types form rows position =
-    and_then (value_of types form (slice_index_or rows position [])) (λ v. Ok (in_block (kind_of types form) v))
+    and_then (value_of types form (slice_index_or rows position []))
+    (λ v. Ok (in_block (kind_of types form) v))
 
 -- one more cell before the others, and the failure at the earlier position where there are two
-abbrev pub cell_before : ℕ → Outcome → Result (List Value) (ℕ × Fail) → Result (List Value) (ℕ × Fail)
+abbrev pub cell_before :
+    ℕ → Outcome → Result (List Value) (ℕ × Fail) → Result (List Value) (ℕ × Fail)
 cell_before position (Ok v) (Ok cells) = Ok (v ∷ cells)
 cell_before position (Ok v) (Err failure) = Err failure
 cell_before position (Err kind) rest = Err (position, kind)
 
 -- the cells at the positions, in their order, or the first position at which the form fails
-abbrev pub cells_at : List SqlType → Form → List (List Value) → List ℕ → Result (List Value) (ℕ × Fail)
+abbrev pub cells_at :
+    List SqlType → Form → List (List Value) → List ℕ → Result (List Value) (ℕ × Fail)
 cells_at types form rows [] = Ok []
-cells_at types form rows (position ∷ positions) = cell_before position (cell_at types form rows position) (cells_at types form rows positions)
+cells_at types form rows (position ∷ positions) =
+    cell_before position (cell_at types form rows position) (cells_at types form rows positions)
 
 -- the fault tells the position and its failure, or memory was wanting
 abbrev pub FailsAt : Result (List Value) (ℕ × Fail) → PageFault → Type 0

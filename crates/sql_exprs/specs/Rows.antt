@@ -22,7 +22,8 @@ with_value v (Err kind) = Err kind
 abbrev pub evaluated : (Value → Bool) → List Outcome → Result (List Value) Fail
 evaluated decides [] = Ok []
 evaluated decides (Err kind ∷ os) = Err kind
-evaluated decides (Ok v ∷ os) = if decides v then Ok (v ∷ []) else with_value v (evaluated decides os)
+evaluated decides (Ok v ∷ os) =
+    if decides v then Ok (v ∷ []) else with_value v (evaluated decides os)
 
 -- what a table makes of the evaluated values
 abbrev pub over : (List Value → Value) → Result (List Value) Fail → Outcome
@@ -31,11 +32,17 @@ over table (Err kind) = Err kind
 
 -- FALSE where a value is FALSE, else NULL where one is NULL, else TRUE
 abbrev pub all_of : List Value → Value
-all_of vs = if list_any is_false vs then Boolean false else if list_any is_null vs then Null else Boolean true
+all_of vs =
+    if list_any is_false vs then Boolean false
+    else if list_any is_null vs then Null
+    else Boolean true
 
 -- TRUE where a value is TRUE, else NULL where one is NULL, else FALSE
 abbrev pub any_of : List Value → Value
-any_of vs = if list_any is_true vs then Boolean true else if list_any is_null vs then Null else Boolean false
+any_of vs =
+    if list_any is_true vs then Boolean true
+    else if list_any is_null vs then Null
+    else Boolean false
 
 -- stops at the first FALSE
 abbrev pub and_of : List Outcome → Outcome

@@ -61,29 +61,35 @@ abbrev mutual
   form_type columns path (column n) = ok_or (slice_get columns n) path
   form_type columns path (literal kind value) = literal_row path kind value
   form_type columns path (null kind) = Ok kind
-  form_type columns path (call name args) = typed_then (form_types columns (under path key.Args) 0 args) (call_row path name)
-  form_type columns path (cast arg kind) = typed_then (form_type columns (under path key.Cast) arg) (λ from. cast_row path from kind)
+  form_type columns path (call name args) =
+      typed_then (form_types columns (under path key.Args) 0 args) (call_row path name)
+  form_type columns path (cast arg kind) =
+      typed_then (form_type columns (under path key.Cast) arg) (λ from. cast_row path from kind)
   form_type columns path (choice branches other) =
-      typed_then (branch_types columns (under path key.Case) 0 branches) (λ bs. typed_then (form_type columns (under path key.Else) other) (case_row path bs))
+      typed_then (branch_types columns (under path key.Case) 0 branches)
+      (λ bs. typed_then (form_type columns (under path key.Else) other) (case_row path bs))
 
   pub form_types : List SqlType → Path → ℕ → Forms → Result (List SqlType) Path
   form_types columns path i none = Ok []
   form_types columns path i (more form forms) =
-      typed_then (form_type columns (entry path i) form) (λ kind. typed_then (form_types columns path (i + 1) forms) (λ kinds. Ok (kind ∷ kinds)))
+      typed_then (form_type columns (entry path i) form)
+      (λ kind. typed_then (form_types columns path (i + 1) forms) (λ kinds. Ok (kind ∷ kinds)))
 
   pub branch_types : List SqlType → Path → ℕ → Choices → Result (List BranchType) Path
   branch_types columns path i last = Ok []
   branch_types columns path i (branch test result rest) =
       typed_then (form_type columns (under (entry path i) key.When) test)
       (λ t. typed_then (form_type columns (under (entry path i) key.Then) result)
-      (λ r. typed_then (branch_types columns path (i + 1) rest) (λ bs. Ok (record { test = t; result = r } ∷ bs))))
+      (λ r. typed_then (branch_types columns path (i + 1) rest)
+      (λ bs. Ok (record { test = t; result = r } ∷ bs))))
 
 -- of lists of expressions
 abbrev pub arg_types : List SqlType → Path → ℕ → List Expr → Result (List SqlType) Path
 arg_types columns path i args = form_types columns path i (forms_of (map form_view args))
 
 abbrev pub all_branch_types : List SqlType → Path → ℕ → List Branch → Result (List BranchType) Path
-all_branch_types columns path i branches = branch_types columns path i (choices_of (map branch_view branches))
+all_branch_types columns path i branches =
+    branch_types columns path i (choices_of (map branch_view branches))
 
 -- the fault tells the path, or memory was wanting
 abbrev pub MisfitAt : {A : Type 0} → Result A Path → Misfit → Type 0
@@ -97,5 +103,6 @@ StandsAt path misfit.Memory = Unit {0}
 
 -- the fault tells the path as a pointer, or memory was wanting
 abbrev pub RefusedFor : Result SqlType Path → TypeFault → Type 0
-RefusedFor typing (fault.Refused pointer) = (path : Path) × (typing ≡ Err path) × (pointer ≡ pointer_text path)
+RefusedFor typing (fault.Refused pointer) =
+    (path : Path) × (typing ≡ Err path) × (pointer ≡ pointer_text path)
 RefusedFor typing fault.Memory = Unit {0}

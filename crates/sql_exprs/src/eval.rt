@@ -24,7 +24,9 @@ pub fn eval_row(
     types: &[SqlType],
     row: &Row,
 ) -> Result<Value, EvalFault>
-    ensures { MatchResult result (λ v. value_of types.now (form_view expr.now) row.now ≡ Ok v) (FailsBy (value_of types.now (form_view expr.now) row.now)) }
+    ensures { MatchResult result
+        (λ v. value_of types.now (form_view expr.now) row.now ≡ Ok v)
+        (FailsBy (value_of types.now (form_view expr.now) row.now)) }
 {
     Ok(eval_cells(alloc, expr, types, row)?.into_value(alloc)?)
 }
@@ -38,7 +40,9 @@ pub fn eval_cells<'a, C: Cells>(
     types: &[SqlType],
     row: &'a C,
 ) -> Result<Held<'a>, EvalFault>
-    ensures { MatchResult result (λ h. value_of types.now (form_view expr.now) (C.values row.now) ≡ Ok (held_value h)) (FailsBy (value_of types.now (form_view expr.now) (C.values row.now))) }
+    ensures { MatchResult result
+        (λ h. value_of types.now (form_view expr.now) (C.values row.now) ≡ Ok (held_value h))
+        (FailsBy (value_of types.now (form_view expr.now) (C.values row.now))) }
 {
     match expr {
         Expr::Column(column) => Ok(Held::Lent(row.cell(*column))),
@@ -66,7 +70,11 @@ fn eval_call<'a, C: Cells>(
     types: &[SqlType],
     row: &'a C,
 ) -> Result<Held<'a>, EvalFault>
-    ensures { MatchResult result (λ h. call_of name (arg_kinds types.now args.now) (arg_values types.now args.now (C.values row.now)) ≡ Ok (held_value h)) (FailsBy (call_of name (arg_kinds types.now args.now) (arg_values types.now args.now (C.values row.now)))) }
+    ensures { MatchResult result
+        (λ h. call_of name (arg_kinds types.now args.now)
+        (arg_values types.now args.now (C.values row.now)) ≡ Ok (held_value h))
+        (FailsBy (call_of name (arg_kinds types.now args.now)
+        (arg_values types.now args.now (C.values row.now)))) }
 {
     match name {
         CallName::And => eval_and(alloc, args, types, row),
@@ -85,7 +93,9 @@ fn eval_and<'a, C: Cells>(
     types: &[SqlType],
     row: &'a C,
 ) -> Result<Held<'a>, EvalFault>
-    ensures { MatchResult result (λ h. and_of (arg_values types.now args.now (C.values row.now)) ≡ Ok (held_value h)) (FailsBy (and_of (arg_values types.now args.now (C.values row.now)))) }
+    ensures { MatchResult result
+        (λ h. and_of (arg_values types.now args.now (C.values row.now)) ≡ Ok (held_value h))
+        (FailsBy (and_of (arg_values types.now args.now (C.values row.now)))) }
 {
     let mut so_far = Value::Boolean(true);
     for arg in args {
@@ -107,7 +117,9 @@ fn eval_or<'a, C: Cells>(
     types: &[SqlType],
     row: &'a C,
 ) -> Result<Held<'a>, EvalFault>
-    ensures { MatchResult result (λ h. or_of (arg_values types.now args.now (C.values row.now)) ≡ Ok (held_value h)) (FailsBy (or_of (arg_values types.now args.now (C.values row.now)))) }
+    ensures { MatchResult result
+        (λ h. or_of (arg_values types.now args.now (C.values row.now)) ≡ Ok (held_value h))
+        (FailsBy (or_of (arg_values types.now args.now (C.values row.now)))) }
 {
     let mut so_far = Value::Boolean(false);
     for arg in args {
@@ -128,7 +140,9 @@ fn eval_coalesce<'a, C: Cells>(
     types: &[SqlType],
     row: &'a C,
 ) -> Result<Held<'a>, EvalFault>
-    ensures { MatchResult result (λ h. coalesce_of (arg_values types.now args.now (C.values row.now)) ≡ Ok (held_value h)) (FailsBy (coalesce_of (arg_values types.now args.now (C.values row.now)))) }
+    ensures { MatchResult result
+        (λ h. coalesce_of (arg_values types.now args.now (C.values row.now)) ≡ Ok (held_value h))
+        (FailsBy (coalesce_of (arg_values types.now args.now (C.values row.now)))) }
 {
     for arg in args {
         let value = eval_cells(alloc, arg, types, row)?;
@@ -149,7 +163,11 @@ fn eval_strict<'a, C: Cells>(
     types: &[SqlType],
     row: &'a C,
 ) -> Result<Held<'a>, EvalFault>
-    ensures { MatchResult result (λ h. strict_of name (arg_kinds types.now args.now) (arg_values types.now args.now (C.values row.now)) ≡ Ok (held_value h)) (FailsBy (strict_of name (arg_kinds types.now args.now) (arg_values types.now args.now (C.values row.now)))) }
+    ensures { MatchResult result
+        (λ h. strict_of name (arg_kinds types.now args.now)
+        (arg_values types.now args.now (C.values row.now)) ≡ Ok (held_value h))
+        (FailsBy (strict_of name (arg_kinds types.now args.now)
+        (arg_values types.now args.now (C.values row.now)))) }
 {
     match args {
         [arg] => {
@@ -176,7 +194,10 @@ fn eval_branches<'a, C: Cells>(
     types: &[SqlType],
     row: &'a C,
 ) -> Result<Option<Held<'a>>, EvalFault>
-    ensures { MatchResult result (λ o. chosen_of (branch_values types.now branches.now (C.values row.now)) ≡ option_map (λ h. Ok (held_value h)) o) (ChoiceFailsBy (chosen_of (branch_values types.now branches.now (C.values row.now)))) }
+    ensures { MatchResult result
+        (λ o. chosen_of (branch_values types.now branches.now (C.values row.now))
+        ≡ option_map (λ h. Ok (held_value h)) o)
+        (ChoiceFailsBy (chosen_of (branch_values types.now branches.now (C.values row.now)))) }
 {
     for branch in branches {
         let test = eval_cells(alloc, &branch.test, types, row)?;

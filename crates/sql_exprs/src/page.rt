@@ -44,7 +44,9 @@ pub fn eval_page(
     positions: &[u32],
 ) -> Result<Block, PageFault>
     ensures kind { IfOk result (λ b. b.kind ≡ kind_of page.now.types (form_view expr.now)) }
-    ensures cells { MatchResult result (λ b. cells_at page.now.types (form_view expr.now) page.now.rows positions.now ≡ Ok b.cells) (FailsAt (cells_at page.now.types (form_view expr.now) page.now.rows positions.now)) }
+    ensures cells { MatchResult result
+        (λ b. cells_at page.now.types (form_view expr.now) page.now.rows positions.now ≡ Ok b.cells)
+        (FailsAt (cells_at page.now.types (form_view expr.now) page.now.rows positions.now)) }
 {
     let types = page.types();
     let mut block = Block::new(alloc, kind_of(types, expr));
@@ -64,7 +66,11 @@ fn push_at(
     block: &mut Block,
 ) -> Result<(), PageFault>
     requires { block.old.kind ≡ kind_of types.now (form_view expr.now) }
-    ensures { MatchResult result (λ _. (v : Value) × (cell_at types.now (form_view expr.now) page.now.rows position ≡ Ok v) × (block.new ≡ with_cells block.old (block.old.cells ++ v ∷ []))) (FailsHere position (cell_at types.now (form_view expr.now) page.now.rows position)) }
+    ensures { MatchResult result
+        (λ _. (v : Value)
+        × (cell_at types.now (form_view expr.now) page.now.rows position ≡ Ok v)
+        × (block.new ≡ with_cells block.old (block.old.cells ++ v ∷ [])))
+        (FailsHere position (cell_at types.now (form_view expr.now) page.now.rows position)) }
 {
     let row = PageRow { page, position };
     match eval_cells(alloc, expr, types, &row) {
@@ -80,7 +86,8 @@ fn push_at(
 /// Appends the value, or NULL where it has another variant than the block.
 #[tactic(auto, using(sql_functions::proofs::FitLemmas::null_fits))]
 fn push_or_null(block: &mut Block, value: ValueRef<'_>) -> Result<(), Memory>
-    ensures { OnOk result (block.new ≡ with_cells block.old (block.old.cells ++ in_block block.old.kind (lent_value value.entry) ∷ [])) }
+    ensures { OnOk result (block.new ≡ with_cells block.old
+        (block.old.cells ++ in_block block.old.kind (lent_value value.entry) ∷ [])) }
 {
     if !block.push(value)? {
         block.push(ValueRef::Null)?;

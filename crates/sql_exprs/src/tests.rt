@@ -1,12 +1,12 @@
 //! Values from outside: those that PostgreSQL and Trino document, or computed by hand.
+mod cases;
+
 use crate::{Branch, CallName, Expr, PageFault, TypeFault, eval_page, eval_row, is_calm, typed};
-use CallName::{
-    Add, AddDays, And, Coalesce, Concat, Day, DaysBetween, Divide, Equal, GreaterEqual, IsDistinct,
-    IsNull, Length, Less, Like, Modulo, Month, Multiply, Neg, Not, Or, Subtract, Unequal, Year,
-};
+use CallName::{Add, And, Coalesce, DaysBetween, Divide, IsNull, Less, Like, Neg, Not, Or, Year};
+use cases::{CASTS, LIKES, PAIRS, SINGLES};
 use col_pages::{Page, PageBuilder};
 use sql_values::{
-    EvalFault, Fail, Memory, Row, SqlType, Text, Value, ValueRef, parse_value, print_value,
+    EvalFault, Fail, Memory, Row, SqlType, Value, ValueRef, parse_type, parse_value, print_value,
 };
 use std::alloc::Global;
 
@@ -14,39 +14,9 @@ const TRUTH: SqlType = SqlType::Boolean;
 
 const WHOLE: SqlType = SqlType::Bigint;
 
-const TEXT: SqlType = SqlType::Varchar;
-
 const DATE: SqlType = SqlType::Date;
 
-const DEC_1_0: SqlType = SqlType::Decimal { p: 1, s: 0 };
-
-const DEC_1_1: SqlType = SqlType::Decimal { p: 1, s: 1 };
-
-const DEC_2_0: SqlType = SqlType::Decimal { p: 2, s: 0 };
-
 const DEC_2_1: SqlType = SqlType::Decimal { p: 2, s: 1 };
-
-const DEC_3_1: SqlType = SqlType::Decimal { p: 3, s: 1 };
-
-const DEC_3_2: SqlType = SqlType::Decimal { p: 3, s: 2 };
-
-const DEC_4_1: SqlType = SqlType::Decimal { p: 4, s: 1 };
-
-const DEC_4_2: SqlType = SqlType::Decimal { p: 4, s: 2 };
-
-const DEC_4_3: SqlType = SqlType::Decimal { p: 4, s: 3 };
-
-const DEC_5_2: SqlType = SqlType::Decimal { p: 5, s: 2 };
-
-const DEC_12_2: SqlType = SqlType::Decimal { p: 12, s: 2 };
-
-const DEC_19_0: SqlType = SqlType::Decimal { p: 19, s: 0 };
-
-const DEC_20_1: SqlType = SqlType::Decimal { p: 20, s: 1 };
-
-const DEC_38_0: SqlType = SqlType::Decimal { p: 38, s: 0 };
-
-const DEC_38_38: SqlType = SqlType::Decimal { p: 38, s: 38 };
 
 /// NULL for the text NULL.
 fn literal(alloc: Global, kind: SqlType, text: &str) -> Result<Expr, Memory> {
@@ -104,259 +74,97 @@ fn gives(alloc: Global, expr: &Expr, wanted: &str) -> Result<bool, Memory> {
     }
 }
 
-const PAIRS: [(CallName, SqlType, &str, SqlType, &str, &str); 44] = [
-    (
-        Add,
-        WHOLE,
-        "9223372036854775806",
-        WHOLE,
-        "1",
-        "9223372036854775807",
-    ),
-    (Add, WHOLE, "9223372036854775807", WHOLE, "1", "OutOfRange"),
-    (
-        Subtract,
-        WHOLE,
-        "-9223372036854775808",
-        WHOLE,
-        "1",
-        "OutOfRange",
-    ),
-    (
-        Multiply,
-        WHOLE,
-        "4294967296",
-        WHOLE,
-        "2147483648",
-        "OutOfRange",
-    ),
-    (
-        Multiply,
-        WHOLE,
-        "-4294967296",
-        WHOLE,
-        "2147483648",
-        "-9223372036854775808",
-    ),
-    (Divide, WHOLE, "7", WHOLE, "-2", "-3"),
-    (Divide, WHOLE, "-7", WHOLE, "2", "-3"),
-    (
-        Divide,
-        WHOLE,
-        "-9223372036854775808",
-        WHOLE,
-        "-1",
-        "OutOfRange",
-    ),
-    (Divide, WHOLE, "1", WHOLE, "0", "DivisionByZero"),
-    (Divide, WHOLE, "NULL", WHOLE, "0", "NULL"),
-    (Modulo, WHOLE, "7", WHOLE, "-3", "1"),
-    (Modulo, WHOLE, "-7", WHOLE, "3", "-1"),
-    (Modulo, WHOLE, "-9223372036854775808", WHOLE, "-1", "0"),
-    (Modulo, WHOLE, "5", WHOLE, "0", "DivisionByZero"),
-    (Add, DEC_2_1, "9.9", DEC_2_1, "0.1", "10.0"),
-    (Add, DEC_3_2, "1.25", DEC_2_0, "10", "11.25"),
-    (Subtract, DEC_1_0, "1", DEC_4_2, "0.05", "0.95"),
-    (Multiply, DEC_12_2, "100.00", DEC_5_2, "0.95", "95.0000"),
-    (
-        Add,
-        DEC_38_0,
-        "99999999999999999999999999999999999999",
-        DEC_1_0,
-        "1",
-        "OutOfRange",
-    ),
-    (Add, DEC_38_0, "1", DEC_38_38, "0", "OutOfRange"),
-    (
-        Multiply,
-        DEC_38_0,
-        "99999999999999999999999999999999999999",
-        DEC_1_0,
-        "2",
-        "OutOfRange",
-    ),
-    (Multiply, DEC_38_38, "0", DEC_1_1, "0", "no type"),
-    (Add, WHOLE, "1", DEC_2_1, "1", "no type"),
-    (Less, WHOLE, "1", WHOLE, "2", "true"),
-    (Equal, WHOLE, "NULL", WHOLE, "1", "NULL"),
-    (Equal, DEC_3_1, "1.0", DEC_4_1, "1.0", "no type"),
-    (Less, TEXT, "Z", TEXT, "a", "true"),
-    (Less, TRUTH, "false", TRUTH, "true", "true"),
-    (
-        GreaterEqual,
-        DATE,
-        "2024-02-29",
-        DATE,
-        "2024-03-01",
-        "false",
-    ),
-    (Unequal, TEXT, "a", TEXT, "A", "true"),
-    (IsDistinct, WHOLE, "NULL", WHOLE, "NULL", "false"),
-    (IsDistinct, WHOLE, "1", WHOLE, "NULL", "true"),
-    (IsDistinct, TEXT, "a", TEXT, "a", "false"),
-    (IsDistinct, TEXT, "a", TEXT, "b", "true"),
-    (Concat, TEXT, "a", TEXT, "é", "aé"),
-    (Concat, TEXT, "NULL", TEXT, "é", "NULL"),
-    (AddDays, DATE, "2024-02-28", WHOLE, "2", "2024-03-01"),
-    (AddDays, DATE, "9999-12-31", WHOLE, "1", "OutOfRange"),
-    (AddDays, DATE, "0001-01-01", WHOLE, "-1", "OutOfRange"),
-    (AddDays, DATE, "2023-12-31", WHOLE, "-365", "2022-12-31"),
-    (
-        AddDays,
-        DATE,
-        "1970-01-01",
-        WHOLE,
-        "9223372036854775807",
-        "OutOfRange",
-    ),
-    (DaysBetween, DATE, "2024-01-01", DATE, "2025-01-01", "366"),
-    (DaysBetween, DATE, "2025-01-01", DATE, "2024-01-01", "-366"),
-    (Like, TEXT, "NULL", TEXT, "%", "NULL"),
-];
+/// The literal that a line writes as its type and its text.
+fn written(alloc: Global, text: &str) -> Result<Expr, Memory> {
+    let Some((kind, value)) = text.split_once(' ') else {
+        return Err(Memory);
+    };
+    match parse_type(kind) {
+        Some(kind) => literal(alloc, kind, value),
+        None => Err(Memory),
+    }
+}
+
+/// Whether a call of two arguments gives what the line wants.
+fn pair_holds(alloc: Global, name: CallName, line: &str) -> Result<bool, Memory> {
+    let Some((left, rest)) = line.split_once('|') else {
+        return Ok(false);
+    };
+    let Some((right, wanted)) = rest.split_once('|') else {
+        return Ok(false);
+    };
+    let expr = binary(alloc, name, written(alloc, left)?, written(alloc, right)?)?;
+    gives(alloc, &expr, wanted)
+}
 
 #[test]
 fn calls_of_two(rt: HostRuntime) -> Result<(), Memory> {
-    let alloc = rt.alloc();
-    for (name, left, a, right, b, wanted) in PAIRS {
-        let expr = binary(
-            alloc,
-            name,
-            literal(alloc, left, a)?,
-            literal(alloc, right, b)?,
-        )?;
-        assert!(rt; gives(alloc, &expr, wanted)?, "{name:?} of {a} and {b}");
+    for (name, lines) in PAIRS {
+        for line in lines.lines() {
+            assert!(rt; pair_holds(rt.alloc(), name, line)?, "{name:?} of {line}");
+        }
     }
     Ok(())
 }
 
-const SINGLES: [(CallName, SqlType, &str, &str); 14] = [
-    (Neg, WHOLE, "5", "-5"),
-    (Neg, WHOLE, "-9223372036854775808", "OutOfRange"),
-    (Neg, DEC_3_2, "-1.25", "1.25"),
-    (IsNull, WHOLE, "NULL", "true"),
-    (IsNull, TEXT, "", "false"),
-    (Not, TRUTH, "true", "false"),
-    (Not, TRUTH, "NULL", "NULL"),
-    (Length, TEXT, "日本", "2"),
-    (Length, TEXT, "", "0"),
-    (Year, DATE, "0001-01-01", "1"),
-    (Month, DATE, "9999-12-31", "12"),
-    (Day, DATE, "2024-02-29", "29"),
-    (Year, DATE, "NULL", "NULL"),
-    (Length, WHOLE, "1", "no type"),
-];
+/// Whether a call of one argument gives what the line wants.
+fn single_holds(alloc: Global, name: CallName, line: &str) -> Result<bool, Memory> {
+    let Some((arg, wanted)) = line.split_once('|') else {
+        return Ok(false);
+    };
+    gives(alloc, &unary(alloc, name, written(alloc, arg)?)?, wanted)
+}
 
 #[test]
 fn calls_of_one(rt: HostRuntime) -> Result<(), Memory> {
-    let alloc = rt.alloc();
-    for (name, kind, text, wanted) in SINGLES {
-        let expr = unary(alloc, name, literal(alloc, kind, text)?)?;
-        assert!(rt; gives(alloc, &expr, wanted)?, "{name:?} of {text}");
+    for (name, lines) in SINGLES {
+        for line in lines.lines() {
+            assert!(rt; single_holds(rt.alloc(), name, line)?, "{name:?} of {line}");
+        }
     }
     Ok(())
 }
 
-const CASTS: [(SqlType, &str, SqlType, &str); 32] = [
-    (WHOLE, "12", DEC_4_2, "12.00"),
-    (WHOLE, "100", DEC_4_2, "OutOfRange"),
-    (
-        WHOLE,
-        "-9223372036854775808",
-        DEC_19_0,
-        "-9223372036854775808",
-    ),
-    (DEC_3_1, "2.5", WHOLE, "3"),
-    (DEC_3_1, "-2.5", WHOLE, "-3"),
-    (DEC_3_1, "2.4", WHOLE, "2"),
-    (
-        DEC_20_1,
-        "9223372036854775807.4",
-        WHOLE,
-        "9223372036854775807",
-    ),
-    (DEC_20_1, "9223372036854775807.5", WHOLE, "OutOfRange"),
-    (DEC_38_0, "99999999999999999999", WHOLE, "OutOfRange"),
-    (DEC_4_3, "0.125", DEC_3_2, "0.13"),
-    (DEC_4_3, "-0.125", DEC_3_2, "-0.13"),
-    (DEC_4_3, "0.124", DEC_3_2, "0.12"),
-    (DEC_3_2, "9.99", DEC_2_1, "OutOfRange"),
-    (DEC_2_1, "1.5", DEC_3_2, "1.50"),
-    (TEXT, "12x", WHOLE, "BadCast"),
-    (TEXT, "9223372036854775808", WHOLE, "BadCast"),
-    (TEXT, "+5", WHOLE, "5"),
-    (TEXT, "", WHOLE, "BadCast"),
-    (TEXT, " 1", WHOLE, "BadCast"),
-    (TEXT, "1.5", DEC_2_1, "1.5"),
-    (TEXT, "1.55", DEC_3_1, "BadCast"),
-    (TEXT, "TRUE", TRUTH, "true"),
-    (TEXT, "yes", TRUTH, "BadCast"),
-    (TEXT, "2024-02-29", DATE, "2024-02-29"),
-    (TEXT, "2023-02-29", DATE, "BadCast"),
-    (WHOLE, "-5", TEXT, "-5"),
-    (DEC_3_2, "-0.05", TEXT, "-0.05"),
-    (TRUTH, "true", TEXT, "true"),
-    (DATE, "0001-01-01", TEXT, "0001-01-01"),
-    (DATE, "2024-02-29", WHOLE, "no type"),
-    (TRUTH, "true", WHOLE, "no type"),
-    (WHOLE, "NULL", DEC_1_0, "NULL"),
-];
+/// Whether a cast gives what the line wants.
+fn cast_holds(alloc: Global, line: &str) -> Result<bool, Memory> {
+    let Some((from, rest)) = line.split_once('|') else {
+        return Ok(false);
+    };
+    let Some((to, wanted)) = rest.split_once('|') else {
+        return Ok(false);
+    };
+    let Some(kind) = parse_type(to) else {
+        return Ok(false);
+    };
+    let arg = Box::new(alloc, written(alloc, from)?)?;
+    gives(alloc, &Expr::Cast { arg, kind }, wanted)
+}
 
 #[test]
 fn casts(rt: HostRuntime) -> Result<(), Memory> {
-    let alloc = rt.alloc();
-    for (from, text, to, wanted) in CASTS {
-        let arg = Box::new(alloc, literal(alloc, from, text)?)?;
-        let expr = Expr::Cast { arg, kind: to };
-        assert!(rt; gives(alloc, &expr, wanted)?, "{text} as {to:?}");
+    for line in CASTS.lines() {
+        assert!(rt; cast_holds(rt.alloc(), line)?, "{line}");
     }
     Ok(())
 }
 
-const LIKES: [(&str, &str, bool); 30] = [
-    ("", "", true),
-    ("", "%", true),
-    ("", "_", false),
-    ("%", "a%", false),
-    ("a", "_", true),
-    ("a", "%a%a%", false),
-    ("aaa", "%a%a%", true),
-    ("aaa", "___", true),
-    ("aaa", "__", false),
-    ("ab", "_b", true),
-    ("ab", "a", false),
-    ("ab", "A%", false),
-    ("abab", "%ab%", true),
-    ("abab", "%abab", true),
-    ("abab", "a%b", true),
-    ("abc", "%b", false),
-    ("abc", "%b%", true),
-    ("abc", "a_c", true),
-    ("aé", "a_", true),
-    ("aé", "_é", true),
-    ("aé", "__", true),
-    ("aé", "___", false),
-    ("é", "_", true),
-    ("é", "__", false),
-    ("é", "%é", true),
-    ("日本", "__", true),
-    ("日本", "日%", true),
-    ("日本", "______", false),
-    ("a\\b", "a\\b", true),
-    ("a\\b", "a\\%", true),
-];
+/// Whether a text is like a pattern where the line wants it.
+fn like_holds(alloc: Global, line: &str) -> Result<bool, Memory> {
+    let Some((text, rest)) = line.split_once('|') else {
+        return Ok(false);
+    };
+    let Some((pattern, wanted)) = rest.split_once('|') else {
+        return Ok(false);
+    };
+    let text = literal(alloc, SqlType::Varchar, text)?;
+    let pattern = literal(alloc, SqlType::Varchar, pattern)?;
+    gives(alloc, &binary(alloc, Like, text, pattern)?, wanted)
+}
 
 #[test]
 fn likes(rt: HostRuntime) -> Result<(), Memory> {
-    let alloc = rt.alloc();
-    for (text, pattern, wanted) in LIKES {
-        let wanted = if wanted { "true" } else { "false" };
-        let expr = binary(
-            alloc,
-            Like,
-            literal(alloc, TEXT, text)?,
-            literal(alloc, TEXT, pattern)?,
-        )?;
-        assert!(rt; gives(alloc, &expr, wanted)?, "{text} like {pattern}");
+    for line in LIKES.lines() {
+        assert!(rt; like_holds(rt.alloc(), line)?, "{line}");
     }
     Ok(())
 }

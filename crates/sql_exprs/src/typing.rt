@@ -84,7 +84,9 @@ pub struct BranchType {
 
 /// The type of an expression over columns of these types.
 pub fn typed(alloc: Global, expr: &Expr, columns: &[SqlType]) -> Result<SqlType, TypeFault>
-    ensures { MatchResult result (λ t. form_type columns.now [] (form_view expr.now) ≡ Ok t) (RefusedFor (form_type columns.now [] (form_view expr.now))) }
+    ensures { MatchResult result
+        (λ t. form_type columns.now [] (form_view expr.now) ≡ Ok t)
+        (RefusedFor (form_type columns.now [] (form_view expr.now))) }
 {
     match type_at(alloc, columns, &[], expr) {
         Ok(kind) => Ok(kind),
@@ -101,7 +103,9 @@ pub fn type_at(
     path: &[Step],
     expr: &Expr,
 ) -> Result<SqlType, Misfit>
-    ensures { MatchResult result (λ t. form_type columns.now path.now (form_view expr.now) ≡ Ok t) (MisfitAt (form_type columns.now path.now (form_view expr.now))) }
+    ensures { MatchResult result
+        (λ t. form_type columns.now path.now (form_view expr.now) ≡ Ok t)
+        (MisfitAt (form_type columns.now path.now (form_view expr.now))) }
 {
     match expr {
         Expr::Column(column) => column_type(alloc, columns, path, *column as usize),
@@ -134,7 +138,9 @@ fn arg_types(
     path: &[Step],
     args: &[Expr],
 ) -> Result<Vec<SqlType>, Misfit>
-    ensures { MatchResult result (λ ts. arg_types columns.now path.now 0 args.now ≡ Ok ts.items) (MisfitAt (arg_types columns.now path.now 0 args.now)) }
+    ensures { MatchResult result
+        (λ ts. arg_types columns.now path.now 0 args.now ≡ Ok ts.items)
+        (MisfitAt (arg_types columns.now path.now 0 args.now)) }
 {
     let mut kinds = Vec::with_capacity(alloc, args.len())?;
     for (at, arg) in args.iter().enumerate() {
@@ -151,7 +157,9 @@ fn branch_types(
     path: &[Step],
     branches: &[Branch],
 ) -> Result<Vec<BranchType>, Misfit>
-    ensures { MatchResult result (λ ts. all_branch_types columns.now path.now 0 branches.now ≡ Ok ts.items) (MisfitAt (all_branch_types columns.now path.now 0 branches.now)) }
+    ensures { MatchResult result
+        (λ ts. all_branch_types columns.now path.now 0 branches.now ≡ Ok ts.items)
+        (MisfitAt (all_branch_types columns.now path.now 0 branches.now)) }
 {
     let mut types = Vec::with_capacity(alloc, branches.len())?;
     for (at, branch) in branches.iter().enumerate() {
@@ -182,7 +190,9 @@ fn column_type(
     path: &[Step],
     at: usize,
 ) -> Result<SqlType, Misfit>
-    ensures { MatchResult result (λ t. ok_or (slice_get columns.now at) path.now ≡ Ok t) (MisfitAt (ok_or (slice_get columns.now at) path.now)) }
+    ensures { MatchResult result
+        (λ t. ok_or (slice_get columns.now at) path.now ≡ Ok t)
+        (MisfitAt (ok_or (slice_get columns.now at) path.now)) }
 {
     match columns.get(at) {
         Some(kind) => Ok(*kind),
@@ -196,7 +206,9 @@ fn literal_row(
     kind: SqlType,
     value: &Value,
 ) -> Result<SqlType, Misfit>
-    ensures { MatchResult result (λ t. literal_row path.now kind value.now ≡ Ok t) (MisfitAt (literal_row path.now kind value.now)) }
+    ensures { MatchResult result
+        (λ t. literal_row path.now kind value.now ≡ Ok t)
+        (MisfitAt (literal_row path.now kind value.now)) }
 {
     if !is_value_of(kind, value) {
         let inner = then(alloc, path, Step::Key(Key::Lit))?;
@@ -211,7 +223,9 @@ fn call_row(
     name: CallName,
     kinds: &[SqlType],
 ) -> Result<SqlType, Misfit>
-    ensures { MatchResult result (λ t. call_row path.now name kinds.now ≡ Ok t) (MisfitAt (call_row path.now name kinds.now)) }
+    ensures { MatchResult result
+        (λ t. call_row path.now name kinds.now ≡ Ok t)
+        (MisfitAt (call_row path.now name kinds.now)) }
 {
     if !takes_types(name, kinds) {
         return Err(refused_at(alloc, path));
@@ -230,7 +244,9 @@ fn type_in(kinds: &[SqlType], at: usize) -> SqlType
 }
 
 fn cast_row(alloc: Global, path: &[Step], from: SqlType, to: SqlType) -> Result<SqlType, Misfit>
-    ensures { MatchResult result (λ t. cast_row path.now from to ≡ Ok t) (MisfitAt (cast_row path.now from to)) }
+    ensures { MatchResult result
+        (λ t. cast_row path.now from to ≡ Ok t)
+        (MisfitAt (cast_row path.now from to)) }
 {
     if !can_cast(from, to) {
         return Err(refused_at(alloc, path));
@@ -261,7 +277,9 @@ fn case_row(
     branches: &[BranchType],
     other: SqlType,
 ) -> Result<SqlType, Misfit>
-    ensures { MatchResult result (λ t. case_row path.now branches.now other ≡ Ok t) (MisfitAt (case_row path.now branches.now other)) }
+    ensures { MatchResult result
+        (λ t. case_row path.now branches.now other ≡ Ok t)
+        (MisfitAt (case_row path.now branches.now other)) }
 {
     if !all_fit(other, branches) {
         return Err(refused_at(alloc, path));

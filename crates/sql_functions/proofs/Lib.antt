@@ -4,3 +4,4 @@ pub mod CastFitLemmas
 pub mod PrintLemmas
 pub mod TypeLemmas
 pub mod CalmCastLemmas
+pub mod DistinctLemmas

@@ -12,9 +12,15 @@ abbrev pub some_end : (List ℕ → Bool) → List ℕ → Bool
 some_end passes [] = passes []
 some_end passes (c ∷ cs) = passes (c ∷ cs) || some_end passes cs
 
+abbrev pub underscore : ℕ
+underscore = 95
+
+abbrev pub percent_sign : ℕ
+percent_sign = 37
+
 -- `_` takes each code point, and every other one itself
 abbrev pub takes : ℕ → ℕ → Bool
-takes p c = (p == 95) || (p == c)
+takes p c = (p == underscore) || (p == c)
 
 -- the first code point is taken and the rest passes
 abbrev pub after_first : ℕ → (List ℕ → Bool) → List ℕ → Bool
@@ -24,7 +30,8 @@ after_first p passes (c ∷ cs) = takes p c && passes cs
 -- after `%` the rest of the pattern matches some end of the text
 abbrev pub is_like : List ℕ → List ℕ → Bool
 is_like [] text = is_empty text
-is_like (p ∷ ps) text = if p == 37 then some_end (is_like ps) text else after_first p (is_like ps) text
+is_like (p ∷ ps) text =
+    if p == percent_sign then some_end (is_like ps) text else after_first p (is_like ps) text
 
 abbrev pub like_text : List ℕ → Value → Value
 like_text text (Varchar pattern) = Boolean (is_like (chars pattern) (chars text))

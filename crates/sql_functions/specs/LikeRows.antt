@@ -1,7 +1,7 @@
 -- The matcher's rows: whether each end of a text passes, from the empty end on. Texts and patterns
 -- stand here with their last code point first.
 use Rattle.std.specs.Prelude.{ℕ, List, [], ◌∷◌, Bool, false, ◌&&◌, ◌||◌, ◌==◌, if◌then◌else◌}
-use Rattle.sql_functions.specs.Like.{takes}
+use Rattle.sql_functions.specs.Like.{percent_sign, takes}
 
 -- the end that is there already, and then the ends that the further code points make
 abbrev pub ends_from : List ℕ → (List ℕ → Bool) → List ℕ → List Bool
@@ -21,4 +21,5 @@ moved p (c ∷ cs) (b ∷ bs) = (takes p c && b) ∷ moved p cs bs
 
 -- the row of a pattern that begins with one more code point
 abbrev pub next_row : ℕ → List ℕ → List Bool → List Bool
-next_row p text row = if p == 37 then set_from false row else false ∷ moved p text row
+next_row p text row =
+    if p == percent_sign then set_from false row else false ∷ moved p text row

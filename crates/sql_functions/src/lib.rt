@@ -34,6 +34,9 @@ mod truth;
 pub use call_types::{call_type, can_cast, same_type, takes_types};
 pub use calls::{binary, unary};
 pub use casts::cast;
-pub use laws::{cast_to_text_reads_back, null_is_distinct_from_values, nulls_are_unknown};
+pub use laws::{
+    cast_to_text_reads_back, comparisons_with_null_are_null, distinct_values_are_not_the_same,
+    opposites_of_truth,
+};
 pub use name::CallName;
 pub use truth::{is_false, is_null, is_true, truth_and, truth_or};

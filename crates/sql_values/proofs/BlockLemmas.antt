@@ -6,6 +6,8 @@ use Rattle.columns.specs.Present.{gather}
 use Rattle.sql_values.specs.declared.value.Value.{Value}
 use Rattle.sql_values.specs.declared.value.Value.TheVariants as value
 use Rattle.sql_values.specs.declared.types.SqlType.{SqlType}
+use Rattle.sql_values.specs.declared.types.SqlType.TheVariants.{Boolean, Bigint, Decimal, Varchar, Date}
+use Rattle.sql_values.specs.Types.{HasType}
 use Rattle.sql_values.specs.declared.block.Held.{Held}
 use Rattle.sql_values.specs.Blocks.{TypedCells, fits, offered, or_null, with_cells}
 use Rattle.sql_values.specs.Held.{typed}
@@ -32,6 +34,20 @@ of_values-more kind vs i block next taken v b e l t n f =
     let yes : taken ≡ true = t ∙ ap (λ (x : TypedCells). fits x.kind v) b ∙ ap (fits kind) e ∙ f in
     n ∙ ap (λ (x : Bool). with_cells block (offered x block.cells v)) yes ∙ ap (λ (x : TypedCells). with_cells x (x.cells ++ v ∷ [])) b
     ∙ ap (λ (x : Value). record { kind = kind; cells = take i vs ++ x ∷ [] }) e ∙ ap (λ (xs : List Value). record { kind = kind; cells = xs }) (sym (take_more vs i v l))
+
+-- a value of a type has its variant
+pub typed_fits : (kind : SqlType) (v : Value) → HasType kind v → fits kind v ≡ true
+typed_fits Boolean value.Null h = refl
+typed_fits Bigint value.Null h = refl
+typed_fits (Decimal p s) value.Null h = refl
+typed_fits Varchar value.Null h = refl
+typed_fits Date value.Null h = refl
+typed_fits Boolean (value.Boolean truth) h = refl
+typed_fits Bigint (value.Bigint n) h = refl
+typed_fits (Decimal p s) (value.Decimal unscaled) h = refl
+typed_fits Varchar (value.Varchar text) h = refl
+typed_fits Date (value.Date day) h = refl
+typed_fits kind v h = absurd h
 
 pub ruleset blocks = (length-map, take-map, drop-map, get_or-or_null, gather-or_null)
 

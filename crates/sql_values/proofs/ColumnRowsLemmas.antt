@@ -1,6 +1,7 @@
 -- Columns of one length and their rows: a cell more, a row more, rows cut out and read.
 use Rattle.std.proofs.Common.{◌≡◌, ℕ, ◌+◌, ◌-◌, ◌<◌, ◌≤◌, Bool, true, false, List, [], ◌∷◌, ◌++◌, length, get_or, set, take, drop, map, min, refl, ap, sym, ◌∙◌, append_assoc, length-append, length-drop, length-take, add-one, arith, zero, suc}
-use Rattle.std.specs.Prelude.{All, replicate, ◌&&◌, ◌↔◌, IsTrue}
+use Rattle.std.specs.Prelude.{All, replicate, ◌&&◌, ◌↔◌, IsTrue, Some, None, option_map, slice_get}
+use Rattle.std.proofs.lemmas.Option.{slice_get-map}
 use Rattle.std.proofs.lemmas.List.{length-map, length-set, length-replicate, get_or-replicate, take-replicate, drop-replicate, drop_all, drop_at, take_min, take_more, take-map, drop-map, take-take, nil_from_length}
 use Rattle.columns.specs.Present.{gather}
 use Rattle.sql_values.specs.declared.types.SqlType.{SqlType}
@@ -417,15 +418,12 @@ cells-cut n k low m cs j c f e l h =
     sym (sym (take-map one m (drop low (rows_of n cs))) ∙ ap (take m) (sym (drop-map one low (rows_of n cs))) ∙ ap (λ vs. take m (drop low vs)) (have-cells n cs j c (filled-have n k cs f) e l) ∙ take-within low m n c.cells h)
 
 -- columns handed in and out
-pub whole-columns : (ts : List SqlType) (cs : List TypedCells) (n : ℕ) → ts ≡ kinds_of cs → 0 < length cs → AreFilled n 0 cs → AreColumns ts cs n 0
-whole-columns ts cs n e l f = record { some = l; kinds = sym e; filled = f }
-
 pub first-common : (cs : List TypedCells) (c : TypedCells) → c ≡ get_or cs 0 c → 0 < length cs → length c.cells ≡ common_length cs
 first-common [] c e l = absurd (omega arith)
 first-common (b ∷ cs) c e l = ap (λ (x : TypedCells). length x.cells) e
 
-pub whole-seen : (ts : List SqlType) (cs : List TypedCells) (n : ℕ) → ts ≡ kinds_of cs → n ≡ common_length cs → AreFilled (common_length cs) 0 cs → seen ts n cs ≡ record { types = kinds_of cs; rows = rows_of (common_length cs) cs; begun = [] }
-whole-seen ts cs n e m f = rw (e, m) (ap (λ (vs : List Value). record { types = kinds_of cs; rows = rows_of (common_length cs) cs; begun = vs }) (begun-none (common_length cs) cs f))
+pub whole-seen : (ts : List SqlType) (cs : List TypedCells) (n : ℕ) → n ≡ common_length cs → AreFilled (common_length cs) 0 cs → seen ts n cs ≡ record { types = ts; rows = rows_of (common_length cs) cs; begun = [] }
+whole-seen ts cs n m f = rw m (ap (λ (vs : List Value). record { types = ts; rows = rows_of (common_length cs) cs; begun = vs }) (begun-none (common_length cs) cs f))
 
 pub none-begun : (ts : List SqlType) (cs : List TypedCells) (n k : ℕ) → AreColumns ts cs n k → begun_of n cs ≡ [] → AreFilled n 0 cs
 none-begun ts cs n k h e = let z : k ≡ 0 = sym (length-begun_of n k cs h.filled) ∙ ap length e in rw z at h.filled
@@ -469,3 +467,14 @@ row-ends (t ∷ ts) (suc n) ended h = row-ends ts n ended (λ x. omega (arith, h
 
 pub some-types : (t : TypedRows) (ts : List SqlType) (cs : List TypedCells) (n k : ℕ) → AreColumns ts cs n k → seen ts n cs ≡ t → 0 < length t.types
 some-types t ts cs n k h e = omega (arith, h.some, types-length ts cs n k h, ap (λ (x : TypedRows). length x.types) e)
+
+-- the type at the place of a column
+pub type-there : (t : TypedRows) (ts : List SqlType) (cs : List TypedCells) (n k j : ℕ) (c : TypedCells) → AreColumns ts cs n k → seen ts n cs ≡ t → slice_get cs j ≡ Some c → slice_get t.types j ≡ Some c.kind
+type-there t ts cs n k j c h e l =
+    ap (λ (x : TypedRows). slice_get x.types j) (sym e) ∙ ap (λ ks. slice_get ks j) (sym h.kinds) ∙ slice_get-map (λ (x : TypedCells). x.kind) cs j
+    ∙ ap (option_map (λ (x : TypedCells). x.kind)) l
+
+pub none-there : (t : TypedRows) (ts : List SqlType) (cs : List TypedCells) (n k j : ℕ) → AreColumns ts cs n k → seen ts n cs ≡ t → slice_get cs j ≡ None → slice_get t.types j ≡ None
+none-there t ts cs n k j h e l =
+    ap (λ (x : TypedRows). slice_get x.types j) (sym e) ∙ ap (λ ks. slice_get ks j) (sym h.kinds) ∙ slice_get-map (λ (x : TypedCells). x.kind) cs j
+    ∙ ap (option_map (λ (x : TypedCells). x.kind)) l

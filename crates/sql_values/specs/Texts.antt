@@ -21,7 +21,8 @@ abbrev pub value_of_text : SqlType → List ℕ → Option Value
 value_of_text Boolean text = option_map value.Boolean (boolean_of text)
 value_of_text Bigint text = option_map value.Bigint (bigint_of text)
 value_of_text (Decimal p s) text = option_map value.Decimal (decimal_of p s text)
-value_of_text Varchar text = if nat_le (length text) longest_text then Some (value.Varchar text) else None
+value_of_text Varchar text =
+    if nat_le (length text) longest_text then Some (value.Varchar text) else None
 value_of_text Date text = option_map value.Date (date_of text)
 
 -- how many digits of a decimal stand after the point

@@ -3,6 +3,7 @@ ghost use Rattle.columns.specs.Present.{gather};
 ghost use Rattle.sql_values.specs.declared.value.Value.TheVariants as value_is;
 ghost use Rattle.sql_values.specs.Cells.{lent_value};
 ghost use Rattle.sql_values.specs.Blocks.{fits, offered, with_cells};
+ghost use Rattle.sql_values.specs.Types.{HasType};
 
 use crate::block_cells::{
     bigint_or_null, boolean_or_null, date_or_null, decimal_or_null, push_bigint, push_boolean,
@@ -125,7 +126,8 @@ impl Block {
     /// Appends a value of the block's type, or answers false where it has another variant.
     pub fn push(&mut self, value: ValueRef<'_>) -> Result<bool, Memory>
         ensures taken { IfOk result (λ taken. taken ≡ fits self.old.kind (lent_value value.entry)) }
-        ensures ok { IfOk result (λ taken. self.new ≡ with_cells self.old (offered taken self.old.cells (lent_value value.entry))) }
+        ensures ok { IfOk result (λ taken. self.new ≡ with_cells self.old
+            (offered taken self.old.cells (lent_value value.entry))) }
         ensures err { OnErr result (self.new ≡ self.old) }
     {
         match &mut self.held {
@@ -156,7 +158,8 @@ impl Block {
     pub fn cut(&self, alloc: Global, low: usize, high: usize) -> Result<Block, Memory>
         requires order { low ≤ high }
         requires within { high ≤ length self.now.cells }
-        ensures { IfOk result (λ b. b ≡ with_cells self.now (take (high - low) (drop low self.now.cells))) }
+        ensures { IfOk result (λ b.
+            b ≡ with_cells self.now (take (high - low) (drop low self.now.cells))) }
     {
         let held = match &self.held {
             Held::Boolean(truths) => Held::Boolean(truths.cut(alloc, low, high)?),
@@ -176,7 +179,8 @@ impl Block {
     #[tactic(auto, using(crate::proofs::BlockLemmas::blocks))]
     pub fn select(&self, alloc: Global, places: &[u32]) -> Result<Block, Memory>
         requires { All (λ p. p < length self.now.cells) places.now }
-        ensures { IfOk result (λ b. b ≡ with_cells self.now (gather self.now.cells value_is.Null places.now)) }
+        ensures { IfOk result (λ b.
+            b ≡ with_cells self.now (gather self.now.cells value_is.Null places.now)) }
     {
         let held = match &self.held {
             Held::Boolean(truths) => Held::Boolean(truths.select(alloc, places)?),
@@ -213,7 +217,8 @@ impl Block {
     #[tactic(auto, using(crate::proofs::BlockLemmas::joins))]
     pub fn append(&mut self, other: &Block) -> Result<bool, Memory>
         ensures same { IfOk result (λ taken. IsTrue taken ↔ (self.old.kind ≡ other.now.kind)) }
-        ensures ok { IfOk result (λ taken. self.new ≡ with_cells self.old (if taken then self.old.cells ++ other.now.cells else self.old.cells)) }
+        ensures ok { IfOk result (λ taken. self.new ≡ with_cells self.old
+            (if taken then self.old.cells ++ other.now.cells else self.old.cells)) }
         ensures err { OnErr result (self.new ≡ self.old) }
     {
         if !self.kind().same(other.kind()) {
@@ -236,3 +241,10 @@ impl Block {
         Ok(true)
     }
 }
+
+/// The law that a value of a type may stand in a block of that type.
+#[tactic(auto, using(crate::proofs::BlockLemmas::typed_fits))]
+pub fn typed_values_fit_blocks(kind: SqlType, value: ValueRef<'_>)
+    requires { HasType kind (lent_value value) }
+    ensures { IsTrue (fits kind (lent_value value.entry)) }
+{}

@@ -11,7 +11,8 @@ use columns::{Nullable, Texts};
 
 pub fn push_boolean(column: &mut Nullable<bool>, value: ValueRef<'_>) -> Result<bool, Memory>
     ensures taken { IfOk result (λ taken. taken ≡ fits kind_is.Boolean (lent_value value.entry)) }
-    ensures ok { IfOk result (λ taken. map (or_null value_is.Boolean) column.new ≡ offered taken (map (or_null value_is.Boolean) column.old) (lent_value value.entry)) }
+    ensures ok { IfOk result (λ taken. map (or_null value_is.Boolean) column.new
+        ≡ offered taken (map (or_null value_is.Boolean) column.old) (lent_value value.entry)) }
     ensures err { OnErr result (column.new ≡ column.old) }
 {
     match value {
@@ -24,7 +25,8 @@ pub fn push_boolean(column: &mut Nullable<bool>, value: ValueRef<'_>) -> Result<
 
 pub fn push_bigint(column: &mut Nullable<i64>, value: ValueRef<'_>) -> Result<bool, Memory>
     ensures taken { IfOk result (λ taken. taken ≡ fits kind_is.Bigint (lent_value value.entry)) }
-    ensures ok { IfOk result (λ taken. map (or_null value_is.Bigint) column.new ≡ offered taken (map (or_null value_is.Bigint) column.old) (lent_value value.entry)) }
+    ensures ok { IfOk result (λ taken. map (or_null value_is.Bigint) column.new
+        ≡ offered taken (map (or_null value_is.Bigint) column.old) (lent_value value.entry)) }
     ensures err { OnErr result (column.new ≡ column.old) }
 {
     match value {
@@ -37,7 +39,8 @@ pub fn push_bigint(column: &mut Nullable<i64>, value: ValueRef<'_>) -> Result<bo
 
 pub fn push_decimal(column: &mut Nullable<i128>, value: ValueRef<'_>) -> Result<bool, Memory>
     ensures taken { IfOk result (λ taken. taken ≡ is_decimal (lent_value value.entry)) }
-    ensures ok { IfOk result (λ taken. map (or_null value_is.Decimal) column.new ≡ offered taken (map (or_null value_is.Decimal) column.old) (lent_value value.entry)) }
+    ensures ok { IfOk result (λ taken. map (or_null value_is.Decimal) column.new
+        ≡ offered taken (map (or_null value_is.Decimal) column.old) (lent_value value.entry)) }
     ensures err { OnErr result (column.new ≡ column.old) }
 {
     match value {
@@ -50,7 +53,8 @@ pub fn push_decimal(column: &mut Nullable<i128>, value: ValueRef<'_>) -> Result<
 
 pub fn push_varchar(column: &mut Texts, value: ValueRef<'_>) -> Result<bool, Memory>
     ensures taken { IfOk result (λ taken. taken ≡ fits kind_is.Varchar (lent_value value.entry)) }
-    ensures ok { IfOk result (λ taken. map (or_null value_is.Varchar) column.new ≡ offered taken (map (or_null value_is.Varchar) column.old) (lent_value value.entry)) }
+    ensures ok { IfOk result (λ taken. map (or_null value_is.Varchar) column.new
+        ≡ offered taken (map (or_null value_is.Varchar) column.old) (lent_value value.entry)) }
     ensures err { OnErr result (column.new ≡ column.old) }
 {
     match value {
@@ -63,7 +67,8 @@ pub fn push_varchar(column: &mut Texts, value: ValueRef<'_>) -> Result<bool, Mem
 
 pub fn push_date(column: &mut Nullable<i32>, value: ValueRef<'_>) -> Result<bool, Memory>
     ensures taken { IfOk result (λ taken. taken ≡ fits kind_is.Date (lent_value value.entry)) }
-    ensures ok { IfOk result (λ taken. map (or_null value_is.Date) column.new ≡ offered taken (map (or_null value_is.Date) column.old) (lent_value value.entry)) }
+    ensures ok { IfOk result (λ taken. map (or_null value_is.Date) column.new
+        ≡ offered taken (map (or_null value_is.Date) column.old) (lent_value value.entry)) }
     ensures err { OnErr result (column.new ≡ column.old) }
 {
     match value {

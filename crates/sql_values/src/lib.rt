@@ -38,7 +38,7 @@ mod types;
 mod value;
 mod value_texts;
 
-pub use block::Block;
+pub use block::{Block, typed_values_fit_blocks};
 pub use column_rows::ColumnRows;
 pub use decimals::{Decimal, OutOfRange};
 pub use fail::{EvalFault, Fail};

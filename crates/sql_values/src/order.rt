@@ -86,5 +86,6 @@ pub fn rows_are_ordered(keys: &[KeySpec])
 /// The law that two values are equal in the order exactly where they are the same value.
 #[tactic(auto, using(crate::proofs::OrderLemmas::equal_values))]
 pub fn equal_values_are_the_same(a: ValueRef<'_>, b: ValueRef<'_>)
-    ensures { (value_cmp (lent_value a.entry) (lent_value b.entry) ≡ Ordering.Equal) ↔ (lent_value a.entry ≡ lent_value b.entry) }
+    ensures { (value_cmp (lent_value a.entry) (lent_value b.entry) ≡ Ordering.Equal)
+        ↔ (lent_value a.entry ≡ lent_value b.entry) }
 {}

@@ -48,8 +48,11 @@ impl RowBuilder {
     /// Puts the next cell of the row that is begun, or answers false where that row is full or the
     /// value has not the type of its column.
     pub fn put(&mut self, value: ValueRef<'_>) -> Result<bool, Memory>
-        ensures fits { IfOk result (λ taken. taken ≡ fits_at self.old.types (length self.old.begun) (lent_value value.entry)) }
-        ensures ok { IfOk result (λ taken. self.new ≡ record self.old { begun = offered taken self.old.begun (lent_value value.entry) }) }
+        ensures fits { IfOk result (λ taken.
+            taken ≡ fits_at self.old.types (length self.old.begun) (lent_value value.entry)) }
+        ensures ok { IfOk result (λ taken. self.new ≡ record self.old {
+          begun = offered taken self.old.begun (lent_value value.entry);
+        }) }
         ensures err { OnErr result (self.new ≡ self.old) }
     {
         self.held.put(value)
@@ -58,7 +61,9 @@ impl RowBuilder {
     /// Ends the row that is begun, or answers false where cells are wanting.
     pub fn end_row(&mut self) -> bool
         ensures full { IsTrue result ↔ (length self.old.types ≤ length self.old.begun) }
-        ensures ok { self.new ≡ (if result then record { types = self.old.types; rows = self.old.rows ++ self.old.begun ∷ []; begun = [] } else self.old) }
+        ensures ok { self.new ≡ (if result
+            then record self.old { rows = self.old.rows ++ self.old.begun ∷ []; begun = [] }
+            else self.old) }
     {
         self.held.end_row()
     }

@@ -157,7 +157,10 @@ impl RowList {
         requires order { low ≤ high }
         requires within { high ≤ length self.now }
         requires fits { All (λ row. IsTrue (fits kind (cell row column))) self.now }
-        ensures { IfOk result (λ b. b ≡ record { kind = kind; cells = map (λ row. cell row column) (take (high - low) (drop low self.now)) }) }
+        ensures { IfOk result (λ b. b ≡ record {
+          kind = kind;
+          cells = map (λ row. cell row column) (take (high - low) (drop low self.now));
+        }) }
     {
         if let Kept::Columns(columns) = &self.kept {
             if let Some(block) = columns.column(alloc, kind, column, low, high)? {
@@ -178,7 +181,10 @@ impl RowList {
         requires order { low ≤ high }
         requires within { high ≤ length self.now }
         requires fits { All (λ row. IsTrue (fits kind (cell row column))) self.now }
-        ensures { IfOk result (λ b. b ≡ record { kind = kind; cells = map (λ row. cell row column) (take (high - low) (drop low self.now)) }) }
+        ensures { IfOk result (λ b. b ≡ record {
+          kind = kind;
+          cells = map (λ row. cell row column) (take (high - low) (drop low self.now));
+        }) }
     {
         let mut block = Block::new(alloc, kind);
         for place in low..high {

@@ -1,3 +1,5 @@
+ghost use Rattle.std.specs.Prelude.{◌≡◌, [], ◌∷◌, length, true, IfOk};
+
 use crate::{
     Block, Column, ColumnRows, Columns, Items, KeySpec, Memory, Order, ParseFault, Row, RowBuilder,
     RowList, SqlType, Table, Text, Value, ValueRef, bucket, compare_rows, parse_type, parse_value,
@@ -300,9 +302,11 @@ fn numbers(alloc: Global) -> Result<Block, Memory> {
 
 /// The rows of a column, without the first.
 fn cut_rows(alloc: Global, block: Block) -> Result<RowList, Memory> {
+    let mut types = Vec::new(alloc);
+    types.push(block.kind())?;
     let mut blocks = Vec::new(alloc);
     blocks.push(block)?;
-    let rows = ColumnRows::of_columns(alloc, blocks)?;
+    let rows = ColumnRows::of_columns(types, blocks);
     if rows.len() == 0 {
         return Ok(RowList::new(alloc));
     }
@@ -325,5 +329,35 @@ fn blocks_refuse_other_types(rt: HostRuntime) -> Result<(), Memory> {
     assert!(rt; !block.push(ValueRef::Date(1))?);
     assert!(rt; !block.append(&Block::new(rt.alloc(), SqlType::Date))?);
     assert_eq!(rt; block.len(), 6);
+    Ok(())
+}
+
+/// With a row of one value.
+fn with_a_truth(alloc: Global, mut rows: RowList) -> Result<RowList, Memory>
+    requires { rows ≡ [] }
+    ensures { IfOk result (λ l. l ≡ (Value.Boolean true ∷ []) ∷ []) }
+{
+    let mut values = Vec::new(alloc);
+    values.push(Value::Boolean(true))?;
+    rows.push(Row::of(values))?;
+    Ok(rows)
+}
+
+fn truths(alloc: Global, rows: &RowList) -> Result<Block, Memory>
+    requires { rows.now ≡ (Value.Boolean true ∷ []) ∷ [] }
+    ensures { IfOk result (λ b. length b.cells ≡ 1) }
+{
+    rows.block(alloc, SqlType::Boolean, 0, 0, 1)
+}
+
+#[test]
+fn lists_give_blocks(rt: HostRuntime) -> Result<(), Memory> {
+    let columns = RowList::of_types(rt.alloc(), &[SqlType::Boolean])?;
+    let columns = with_a_truth(rt.alloc(), columns)?;
+    let block = truths(rt.alloc(), &columns)?;
+    assert!(rt; matches!(block.cell(0), ValueRef::Boolean(true)));
+    let rows = with_a_truth(rt.alloc(), RowList::new(rt.alloc()))?;
+    let block = truths(rt.alloc(), &rows)?;
+    assert!(rt; matches!(block.cell(0), ValueRef::Boolean(true)));
     Ok(())
 }

@@ -63,7 +63,9 @@ impl<T: Drop> From<AllocFailed<T>> for ParseFault {
 
 /// The value of a type that a text writes. It is never NULL.
 pub fn parse_value(alloc: Global, kind: SqlType, text: &str) -> Result<Value, ParseFault>
-    ensures { MatchResult result (λ v. value_of_text kind text.now ≡ Some v) (FailsToParse (value_of_text kind text.now)) }
+    ensures { MatchResult result
+        (λ v. value_of_text kind text.now ≡ Some v)
+        (FailsToParse (value_of_text kind text.now)) }
 {
     let bytes = text.as_bytes();
     match kind {
@@ -92,8 +94,10 @@ fn found(value: Option<Value>) -> Result<Value, ParseFault>
 /// Appends the text of a value, and nothing for NULL. Where memory was wanting a beginning of
 /// the text may stand there.
 pub fn print_value(kind: SqlType, value: ValueRef<'_>, to: &mut Vec<u8>) -> Result<(), Memory>
-    ensures ok { OnOk result (to.new.items ≡ to.old.items ++ text_of_value kind (lent_value value.entry)) }
-    ensures err { OnErr result (AppendsStart (text_of_value kind (lent_value value.entry)) to.old.items to.new.items) }
+    ensures ok { OnOk result
+        (to.new.items ≡ to.old.items ++ text_of_value kind (lent_value value.entry)) }
+    ensures err { OnErr result
+        (AppendsStart (text_of_value kind (lent_value value.entry)) to.old.items to.new.items) }
 {
     match value {
         ValueRef::Null => {}
@@ -128,7 +132,8 @@ pub fn text_reads_back(kind: SqlType, value: ValueRef<'_>)
     requires is_type { IsType kind }
     requires not_null { lent_value value ≢ Value.Null }
     requires has_type { HasType kind (lent_value value) }
-    ensures { value_of_text kind (text_of_value kind (lent_value value.entry)) ≡ Some (lent_value value.entry) }
+    ensures { value_of_text kind (text_of_value kind (lent_value value.entry))
+        ≡ Some (lent_value value.entry) }
 {
     match value {
         ValueRef::Null | ValueRef::Varchar(_) => {}
@@ -142,7 +147,8 @@ pub fn text_reads_back(kind: SqlType, value: ValueRef<'_>)
 fn decimal_text_reads_back(kind: SqlType, unscaled: i128)
     requires is_type { IsType kind }
     requires has_type { HasType kind (Value.Decimal unscaled) }
-    ensures { value_of_text kind (text_of_value kind (Value.Decimal unscaled)) ≡ Some (Value.Decimal unscaled) }
+    ensures { value_of_text kind (text_of_value kind (Value.Decimal unscaled))
+        ≡ Some (Value.Decimal unscaled) }
 {
     if let SqlType::Decimal { p, s } = kind {
         decimal_reads_back(p, s, unscaled);

@@ -61,7 +61,8 @@ pub fn list_of(alloc: Global, mut rows: NodeRows) -> Result<RowList, Memory>
     while let Some(page) = rows.take_first() {
         append_each(&mut blocks, page.into_blocks())?;
     }
-    let columns = ColumnRows::of_columns(alloc, blocks)?;
+    let types = Vec::from_slice(alloc, rows.types())?;
+    let columns = ColumnRows::of_columns(types, blocks);
     Ok(RowList::of_columns(alloc, columns))
 }
 

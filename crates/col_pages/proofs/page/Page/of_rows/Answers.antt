@@ -6,6 +6,10 @@ pub of_blocks-requires-clause-some : goal.of_blocks-requires-clause-some
 of_blocks-requires-clause-some c =
     rw c.in_ok-blocks.ensures (omega (arith, c.requires.some, length-blocks _ _ (take (c.args.high - c.args.low) (drop c.args.low c.args.rows.now)) c.requires.beside))
 
+pub of_blocks-requires-clause-kinds : goal.of_blocks-requires-clause-kinds
+of_blocks-requires-clause-kinds c =
+    rw (c.in_ok-blocks.ensures, c.in_ok-from_slice.ensures.items) (kinds-blocks _ _ (take (c.args.high - c.args.low) (drop c.args.low c.args.rows.now)) c.requires.beside)
+
 pub of_blocks-requires-clause-level : goal.of_blocks-requires-clause-level
 of_blocks-requires-clause-level c =
     rw (c.in_ok-blocks.ensures, common-blocks _ _ (take (c.args.high - c.args.low) (drop c.args.low c.args.rows.now)) c.requires.some c.requires.beside) (filled-blocks _ _ _)
@@ -17,4 +21,4 @@ of_blocks-requires-clause-few c =
 
 pub returns : goal.returns
 returns c =
-    rw (c.in_ok-blocks.ensures, kinds-blocks _ _ (take (c.args.high - c.args.low) (drop c.args.low c.args.rows.now)) c.requires.beside, common-blocks _ _ (take (c.args.high - c.args.low) (drop c.args.low c.args.rows.now)) c.requires.some c.requires.beside, rows-blocks _ _ (take (c.args.high - c.args.low) (drop c.args.low c.args.rows.now)) c.requires.beside) at c.of_blocks.ensures
+    rw (c.in_ok-blocks.ensures, c.in_ok-from_slice.ensures.items, common-blocks _ _ (take (c.args.high - c.args.low) (drop c.args.low c.args.rows.now)) c.requires.some c.requires.beside, rows-blocks _ _ (take (c.args.high - c.args.low) (drop c.args.low c.args.rows.now)) c.requires.beside) at c.of_blocks.ensures

@@ -1,9 +1,0 @@
-use Rattle.std.proofs.Common.{◌≡◌, ◌-◌, [], take, drop, map}
-use Rattle.columns.specs.Present.{gather}
-use Rattle.sql_values.specs.declared.value.Value.TheVariants.{Null}
-use Rattle.sql_values.specs.Blocks.{with_cells}
-use Rattle.sql_values.specs.ColumnRows.{kinds_of}
-use Rattle.sql_values.proofs.column_rows.kinds.Given as goal
-
-abbrev pub invariant-loop-column : goal.invariant-loop-column
-invariant-loop-column l = l.kinds.items ≡ kinds_of (take l.column-index l.columns)

@@ -10,7 +10,7 @@ use futures::task::{Context, Poll, Source, Waker};
 pub struct BlockedOn {
     /// The number of the bell.
     pub bell: u32,
-    /// The count of the bell that was read before the look that found nothing.
+    /// A count that the bell showed.
     pub seen: u64,
     pub rung: bool,
     source: Source,
@@ -37,6 +37,7 @@ impl BlockedOn {
         ensures bell { self.new.bell ≡ self.old.bell }
         ensures seen { self.new.seen ≡ self.old.seen }
         ensures rung { self.new.rung ≡ true }
+        ensures source { self.new.source.id ≡ self.old.source.id }
     {
         self.rung = true;
         // A waker wakes its task when it is dropped.

@@ -1,6 +1,7 @@
 -- One stage: what each call leaves of what it took and gave, and what follows from it.
 use Rattle.std.proofs.Common.{◌≡◌, ◌↔◌, inl, inr, ℕ, List, [], ◌++◌, Bool, true, false, refl, sym, subst, ◌∙◌, append_assoc, append-nil}
 use Rattle.sql_values.specs.declared.fail.Fail.{Fail}
+use Rattle.col_pages.specs.Pages.{TypedPage}
 use Rattle.operator_core.specs.declared.operator.Operator.{Ghosts}
 use Rattle.operator_core.specs.Rows.{Row, Coming}
 use Rattle.operator_core.specs.Calls.{IsLawful, Took, Gave, Told, Looked, FailsNow}
@@ -36,10 +37,10 @@ module _ {S : Type 0} (g : Ghosts S) where
     idle = λ knows. subst (λ (m : S). g.went m [] []) e (laws.made_went s);
   }
 
-  pub Steps-took : (old new : S) (X Y P : List Row) → Took g old new P → Steps g old X Y → Steps g new (X ++ P) Y
-  Steps-took old new X Y P t s = record {
-    gives = λ Z B coming gives. rw (t.same.as_made, append_assoc X P Z) (s.gives (P ++ Z) B (Coming-untold _ _ t.untold) (t.gives Z B gives));
-    fails = λ Z node kind coming. rw (t.same.as_made, append_assoc X P Z) (iff-trans (t.fails Z node kind) (s.fails (P ++ Z) node kind (Coming-untold _ _ t.untold)));
+  pub Steps-took : (old new : S) (X Y : List Row) (page : TypedPage) → Took g old new page → Steps g old X Y → Steps g new (X ++ page.rows) Y
+  Steps-took old new X Y page t s = record {
+    gives = λ Z B coming gives. rw (t.same.as_made, append_assoc X page.rows Z) (s.gives (page.rows ++ Z) B (Coming-untold _ _ t.untold) (t.gives Z B gives));
+    fails = λ Z node kind coming. rw (t.same.as_made, append_assoc X page.rows Z) (iff-trans (t.fails Z node kind) (s.fails (page.rows ++ Z) node kind (Coming-untold _ _ t.untold)));
     idle = λ knows. let k = sym t.same.knows ∙ knows in t.went k X Y (s.idle k);
   }
 
@@ -95,7 +96,7 @@ module _ {S : Type 0} (g : Ghosts S) where
   finished-told laws s e = ((laws.finished s).0 e).0
 
   pub finished-gives : IsLawful g → (s : S) (B : List Row) → g.is_finished s ≡ true → g.may_give s [] B → B ≡ []
-  finished-gives laws s B e gives = let f = (laws.finished s).0 e in (laws.holds_rest s B f.0 gives).0 f.1
+  finished-gives laws s B e gives = let f = (laws.finished s).0 e in (laws.holds_rest s B (λ _. f.0) gives).0 f.1
 
   pub finished-gives_none : IsLawful g → (s : S) → g.is_finished s ≡ true → g.may_give s [] []
   finished-gives_none laws s e =

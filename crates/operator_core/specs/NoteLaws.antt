@@ -24,6 +24,10 @@ held-over true [] = ((λ e. (refl, refl, λ node kind f. f)), (λ h. refl))
 held-over true (row ∷ rows) = ((λ e. cc), (λ h. cc (h.1)))
 held-over false held = ((λ e. cc), (λ h. cc (h.0)))
 
+-- what needs something that does not hold does not hold
+pub none-without : (needed rest : Bool) → needed ≡ false → (needed && rest) ≡ false
+none-without needed rest e = rw e refl
+
 pub told-needs_none : (told : Bool) → not told ≡ true → told ≡ false
 told-needs_none true e = cc
 told-needs_none false e = refl
@@ -51,13 +55,9 @@ limit-needs_none false told held e = cc
 limit-needs_none true true held e = cc
 limit-needs_none true false held e = refl
 
-pub limit-needs : (known told held : Bool) → told ≡ false → held ≡ false → not known ≡ false → (known && not (told || held)) ≡ true
+pub limit-needs : (known told held : Bool) → told ≡ false → held ≡ false → known ≡ true → (known && not (told || held)) ≡ true
 limit-needs true told held t h w = rw (t, h) refl
 limit-needs false told held t h w = cc
-
-pub waits-unknowing : (known : Bool) → not known ≡ true → known ≡ false
-waits-unknowing true e = cc
-waits-unknowing false e = refl
 
 over-none : (told : Bool) (held Z : List Row) → Coming told Z → (told && not (has_row held)) ≡ true → (held ++ Z) ≡ []
 over-none true [] Z coming e = coming

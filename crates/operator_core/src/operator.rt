@@ -1,5 +1,6 @@
-ghost use Rattle.std.specs.Prelude.{◌≡◌, ℕ, ◌≤◌, List, [], ◌++◌, ◌↔◌, Bool, true, false, None, IfOk, IsOk, MatchOption};
+ghost use Rattle.std.specs.Prelude.{◌≡◌, ℕ, ◌≤◌, List, [], ◌++◌, ◌↔◌, Bool, true, false, None, IfOk, IfSome, IsOk, MatchOption};
 ghost use Rattle.sql_values.specs.declared.fail.Fail.{Fail as Kind};
+ghost use Rattle.sql_values.specs.declared.types.SqlType.{SqlType};
 ghost use Rattle.col_pages.specs.Pages.{TypedPage};
 ghost use Rattle.blocked.specs.Counts.{Rose};
 ghost use Rattle.operator_core.specs.Rows.{Row, Coming};
@@ -21,14 +22,20 @@ pub trait Operator {
     // fails so at this node.
     ghost may_still_fail: { Self → List Row → ℕ → Kind → Type 0 };
 
-    // It may be given this page: the page's types are those that it works on.
+    // It may be given this page.
     ghost takes: { Self → TypedPage → Type 0 };
+
+    // With pages of these types still to come it may give such a page.
+    ghost may_give_page: { Self → List SqlType → TypedPage → Type 0 };
 
     // The most rows of a page that it gives.
     ghost page_size: { Self → ℕ };
 
-    // It has rows of its own and needs no input.
-    ghost is_source: { Self → Bool };
+    // It makes nothing of rows that still come: it has rows of its own, or as many as it wants.
+    ghost is_full: { Self → Bool };
+
+    // It holds no row that it may give before it was told to finish.
+    ghost gives_late: { Self → Bool };
 
     ghost needs_input: { Self → Bool };
 
@@ -40,11 +47,14 @@ pub trait Operator {
 
     ghost is_finished: { Self → Bool };
 
+    // It takes nothing in before its note knows what it looks for.
+    ghost waits: { Self → Bool };
+
+    // The number of the bell of what its note looks for.
+    ghost bell: { Self → ℕ };
+
     // Its note knows what it looks for; also where it has no note.
     ghost knows: { Self → Bool };
-
-    // Its note does not know the value for which it waits.
-    ghost is_waiting: { Self → Bool };
 
     // How many looks of its note found nothing.
     ghost empty_looks: { Self → ℕ };
@@ -79,9 +89,14 @@ pub trait Operator {
         ensures told { is_told self.new ≡ is_told self.old }
         ensures knows { knows self.new ≡ knows self.old }
         ensures looks { empty_looks self.new ≡ empty_looks self.old }
-        ensures takes { (page : TypedPage) → takes self.old page → takes self.new page }
+        ensures takes { (p : TypedPage) → p.types ≡ page.types → takes self.old p
+            → takes self.new p }
+        ensures pages { NotMemory result → (p : TypedPage) → may_give_page self.new page.types p
+            → may_give_page self.old page.types p }
+        ensures full { is_full self.old ≡ true → is_full self.new ≡ true }
         ensures constant { (page_size self.new ≡ page_size self.old)
-            × (is_source self.new ≡ is_source self.old) };
+            × (gives_late self.new ≡ gives_late self.old) × (waits self.new ≡ waits self.old)
+            × (bell self.new ≡ bell self.old) };
 
     /// Gives a page, or none where it holds no row that it may give yet.
     fn get_output(&mut self) -> Result<Option<Page>, OpFault>
@@ -104,8 +119,14 @@ pub trait Operator {
         ensures knows { knows self.new ≡ knows self.old }
         ensures looks { empty_looks self.new ≡ empty_looks self.old }
         ensures takes { (page : TypedPage) → takes self.old page → takes self.new page }
+        ensures page { IfOk result (λ o. IfSome o (λ page. (types : List SqlType)
+            → may_give_page self.old types page)) }
+        ensures pages { NotMemory result → (types : List SqlType) (page : TypedPage)
+            → may_give_page self.new types page → may_give_page self.old types page }
+        ensures full { is_full self.old ≡ true → is_full self.new ≡ true }
         ensures constant { (page_size self.new ≡ page_size self.old)
-            × (is_source self.new ≡ is_source self.old) };
+            × (gives_late self.new ≡ gives_late self.old) × (waits self.new ≡ waits self.old)
+            × (bell self.new ≡ bell self.old) };
 
     /// Tells it that no page comes any more.
     fn finish(&mut self)
@@ -120,8 +141,12 @@ pub trait Operator {
         ensures knows { knows self.new ≡ knows self.old }
         ensures looks { empty_looks self.new ≡ empty_looks self.old }
         ensures takes { (page : TypedPage) → takes self.old page → takes self.new page }
+        ensures pages { (types : List SqlType) (page : TypedPage)
+            → may_give_page self.new types page → may_give_page self.old types page }
+        ensures full { is_full self.old ≡ true → is_full self.new ≡ true }
         ensures constant { (page_size self.new ≡ page_size self.old)
-            × (is_source self.new ≡ is_source self.old) };
+            × (gives_late self.new ≡ gives_late self.old) × (waits self.new ≡ waits self.old)
+            × (bell self.new ≡ bell self.old) };
 
     /// Whether it was told to finish and has nothing left to give or to fail on.
     fn is_finished(&self) -> bool
@@ -138,8 +163,10 @@ pub trait Operator {
         ensures fails { IsOk result → (X : List Row) (node : ℕ) (kind : Kind)
             → Coming (is_told self.old) X
             → may_still_fail self.new X node kind ↔ may_still_fail self.old X node kind }
-        ensures answer { IfOk result (λ on. MatchOption on (is_waiting self.new ≡ false)
-            (λ on. (is_waiting self.new ≡ true) × Rose (empty_looks self.old) (empty_looks self.new)
+        ensures answer { IfOk result (λ on. MatchOption on
+            (waits self.old ≡ true → knows self.new ≡ true)
+            (λ on. (waits self.old ≡ true) × (knows self.new ≡ false)
+            × Rose (empty_looks self.old) (empty_looks self.new) × (on.bell ≡ bell self.old)
             × B.shown bells.new on.bell on.seen × (on.rung ≡ false))) }
         ensures known { knows self.old ≡ true → knows self.new ≡ true }
         ensures same { IsOk result → knows self.new ≡ knows self.old
@@ -159,8 +186,12 @@ pub trait Operator {
         ensures ended { is_finished self.old ≡ true → is_finished self.new ≡ true }
         ensures looks { empty_looks self.old ≤ empty_looks self.new }
         ensures takes { (page : TypedPage) → takes self.old page → takes self.new page }
+        ensures pages { IsOk result → (types : List SqlType) (page : TypedPage)
+            → may_give_page self.new types page → may_give_page self.old types page }
+        ensures full { is_full self.old ≡ true → is_full self.new ≡ true }
         ensures constant { (page_size self.new ≡ page_size self.old)
-            × (is_source self.new ≡ is_source self.old) }
+            × (gives_late self.new ≡ gives_late self.old) × (waits self.new ≡ waits self.old)
+            × (bell self.new ≡ bell self.old) }
         ensures bells { (bell count : ℕ) → B.shown bells.old bell count
             → B.shown bells.new bell count };
 
@@ -168,9 +199,13 @@ pub trait Operator {
     ghost some_rows: { (s : Self) (X : List Row) → Coming (is_told s) X
         → (B : List Row) × may_give s X B };
 
-    // Once it was told, it holds a row that it may give exactly where it has any left to give.
-    ghost holds_rest: { (s : Self) (B : List Row) → is_told s ≡ true → may_give s [] B
-        → (holds_row s ≡ false) ↔ (B ≡ []) };
+    // It holds a row that it may give exactly where it has any left to give for no more rows; one
+    // that gives late once it was told, and until then it holds none.
+    ghost holds_rest: { (s : Self) (B : List Row) → (gives_late s ≡ true → is_told s ≡ true)
+        → may_give s [] B → (holds_row s ≡ false) ↔ (B ≡ []) };
+
+    ghost late_holds_none: { (s : Self) → gives_late s ≡ true → is_told s ≡ false
+        → holds_row s ≡ false };
 
     // It is finished exactly where it was told, holds nothing and nothing may fail.
     ghost finished: { (s : Self) → (is_finished s ≡ true) ↔ ((is_told s ≡ true)
@@ -180,15 +215,26 @@ pub trait Operator {
     // Once it was told, it needs no input.
     ghost needs_untold: { (s : Self) → needs_input s ≡ true → is_told s ≡ false };
 
-    // A source never takes input.
-    ghost source_needs_none: { (s : Self) → is_source s ≡ true → needs_input s ≡ false };
+    // Where it is full it needs no input, and rows that still come change nothing.
+    ghost full_needs_none: { (s : Self) → is_full s ≡ true → needs_input s ≡ false };
 
-    // Until then it refuses input only where it holds a row to give, waits, or is a source.
-    ghost needs: { (s : Self) → is_told s ≡ false → holds_row s ≡ false → is_waiting s ≡ false
-        → is_source s ≡ false → needs_input s ≡ true };
+    ghost full_gives: { (s : Self) (X B : List Row) → is_full s ≡ true
+        → may_give s X B → may_give s [] B };
 
-    // It waits only for what its note does not know.
-    ghost waits_unknowing: { (s : Self) → is_waiting s ≡ true → knows s ≡ false };
+    ghost full_fails: { (s : Self) (X : List Row) (node : ℕ) (kind : Kind) → is_full s ≡ true
+        → may_still_fail s X node kind → may_still_fail s [] node kind };
+
+    // While it waits for what its note does not know it needs no input, and has taken and given
+    // nothing.
+    ghost waiting_needs_none: { (s : Self) → waits s ≡ true → knows s ≡ false
+        → needs_input s ≡ false };
+
+    ghost waiting_went: { (s : Self) (T G : List Row) → waits s ≡ true → went s T G
+        → (T ≡ []) × (G ≡ []) };
+
+    // It refuses input only where it was told, holds a row to give, waits or is full.
+    ghost needs: { (s : Self) → is_told s ≡ false → holds_row s ≡ false
+        → (waits s ≡ true → knows s ≡ true) → is_full s ≡ false → needs_input s ≡ true };
 
     // As it was made, it was not told, it had taken and given nothing, and it was so made.
     ghost made_untold: { (s : Self) → is_told (as_made s) ≡ false };

@@ -1,5 +1,5 @@
 //! A scan of a table: the rows of the splits that its seat draws, in pages.
-ghost use Rattle.std.specs.Prelude.{◌≡◌, ◌++◌, ◌^◌, ◌<◌, ◌≤◌, true, false, length, All};
+ghost use Rattle.std.specs.Prelude.{◌≡◌, ◌++◌, ◌^◌, ◌<◌, ◌≤◌, true, false, None, length, All};
 ghost use Rattle.std.specs.Prelude.{IfOk, IfSome, IsNone, OnErr};
 ghost use Rattle.split_source.specs.Splits.{split_count};
 ghost use Rattle.split_source.specs.Scans.{types_at, given, AreReadable, GaveNext, IsOver};
@@ -75,7 +75,9 @@ impl<'w> ScanSource<'w> {
         ensures seat { self.new.seat.claims ≡ self.old.seat.claims }
         ensures page { IfOk result (λ o. IfSome o (λ p. GaveNext self.old p.rows self.new)) }
         ensures types { IfOk result (λ o. IfSome o (λ p. p.types ≡ self.old.types)) }
-        ensures going { IfOk result (λ o. IfSome o (λ p. self.new.seat.is_ended ≡ false)) }
+        ensures going { IfOk result (λ o. IfSome o (λ p. (self.old.seat.is_ended ≡ false)
+            × (self.new.seat.is_ended ≡ false))) }
+        ensures ended { self.old.seat.is_ended ≡ true → (result ≡ Ok None) × (self.new ≡ self.old) }
         ensures none { IfOk result (λ o. IsNone o → IsOver self.old self.new) }
         ensures err { OnErr result (given self.new ≡ given self.old) }
     {
@@ -113,7 +115,9 @@ impl<'w> ScanSource<'w> {
         ensures same { self.new ≡ record self.old { seat = self.new.seat; left = self.new.left } }
         ensures seat { self.new.seat.claims ≡ self.old.seat.claims }
         ensures given { given self.new ≡ given self.old }
-        ensures found { result ≡ true → (0 < self.new.left) × (self.new.seat.is_ended ≡ false) }
+        ensures found { result ≡ true → (0 < self.new.left) × (self.old.seat.is_ended ≡ false)
+            × (self.new.seat.is_ended ≡ false) }
+        ensures ended { self.old.seat.is_ended ≡ true → (result ≡ false) × (self.new ≡ self.old) }
         ensures none { result ≡ false → (self.new.left ≡ 0) × (self.new.seat.is_ended ≡ true) }
     {
         if self.low < self.high {
@@ -128,7 +132,9 @@ impl<'w> ScanSource<'w> {
         ensures same { self.new ≡ record self.old { seat = self.new.seat; left = self.new.left } }
         ensures seat { self.new.seat.claims ≡ self.old.seat.claims }
         ensures given { given self.new ≡ given self.old }
-        ensures found { result ≡ true → (0 < self.new.left) × (self.new.seat.is_ended ≡ false) }
+        ensures found { result ≡ true → (0 < self.new.left) × (self.old.seat.is_ended ≡ false)
+            × (self.new.seat.is_ended ≡ false) }
+        ensures ended { self.old.seat.is_ended ≡ true → (result ≡ false) × (self.new ≡ self.old) }
         ensures none { result ≡ false → (self.new.left ≡ 0) × (self.new.seat.is_ended ≡ true) }
     {
         let Some(number) = self.seat.claim() else {

@@ -1,5 +1,8 @@
-ghost use Rattle.std.specs.Prelude.{◌≡◌, ◌↔◌, List};
+ghost use Rattle.std.specs.Prelude.{◌≡◌, ◌↔◌, ℕ, List, true, false};
+ghost use Rattle.sql_values.specs.declared.fail.Fail.{Fail as Kind};
+ghost use Rattle.col_pages.specs.Pages.{TypedPage, most_rows};
 ghost use Rattle.operator_core.specs.Rows.{Row};
+ghost use Rattle.operator_core.specs.Calls.{IsFresh};
 
 use crate::{HeldPages, OpFault, Operator};
 use blocked::{Bells, BlockedOn};
@@ -18,8 +21,17 @@ pub struct AtEnd {
 
 impl AtEnd {
     pub fn new(alloc: Global) -> AtEnd
-        ensures made { ⟦<AtEnd as Operator>⟧.as_made result ≡ result }
+        ensures fresh { IsFresh ⟦<AtEnd as Operator>⟧ result }
         ensures gives { (X B : List Row) → ⟦<AtEnd as Operator>⟧.may_give result X B ↔ (B ≡ X) }
+        ensures fails { (X : List Row) (node : ℕ) (kind : Kind)
+            → ⟦<AtEnd as Operator>⟧.may_still_fail result X node kind → ⊥ }
+        ensures takes { (page : TypedPage) → ⟦<AtEnd as Operator>⟧.takes result page }
+        ensures open { (⟦<AtEnd as Operator>⟧.is_full result ≡ false)
+            × (⟦<AtEnd as Operator>⟧.page_size result ≡ most_rows) }
+        ensures late { ⟦<AtEnd as Operator>⟧.gives_late result ≡ true }
+        ensures waits { ⟦<AtEnd as Operator>⟧.waits result ≡ false }
+        ensures knows { ⟦<AtEnd as Operator>⟧.knows result ≡ true }
+        ensures learns { (m : _) → ⟦<AtEnd as Operator>⟧.may_learn result m → ⊥ }
     {
         AtEnd {
             held: HeldPages::new(alloc),
@@ -32,7 +44,7 @@ impl Operator for AtEnd {
     ghost use Rattle.std.specs.Prelude.{◌≡◌, ◌++◌, [], true, false, not, ◌&&◌, refl};
     ghost use Rattle.col_pages.specs.Pages.{most_rows};
     ghost use Rattle.operator_core.specs.Samples.{has_row};
-    ghost use Rattle.operator_core.specs.NoteLaws.{held-rest, held-finished, told-needs_none, told-needs};
+    ghost use Rattle.operator_core.specs.NoteLaws.{held-rest, held-finished, none-without, told-needs_none, told-needs};
 
     ghost may_give = { λ s X B. B ≡ s.held ++ X };
 
@@ -40,9 +52,13 @@ impl Operator for AtEnd {
 
     ghost takes = { λ _ _. Unit {0} };
 
+    ghost may_give_page = { λ _ _ _. Unit {0} };
+
     ghost page_size = { λ _. most_rows };
 
-    ghost is_source = { λ _. false };
+    ghost is_full = { λ _. false };
+
+    ghost gives_late = { λ _. true };
 
     ghost needs_input = { λ s. not s.is_told };
 
@@ -52,9 +68,11 @@ impl Operator for AtEnd {
 
     ghost is_finished = { λ s. s.is_told && not (has_row s.held) };
 
-    ghost knows = { λ _. true };
+    ghost waits = { λ _. false };
 
-    ghost is_waiting = { λ _. false };
+    ghost bell = { λ _. 0 };
+
+    ghost knows = { λ _. true };
 
     ghost empty_looks = { λ _. 0 };
 
@@ -102,17 +120,25 @@ impl Operator for AtEnd {
 
     ghost some_rows = { λ s X coming. (_, refl) };
 
-    ghost holds_rest = { λ s B told e. held-rest s.is_told s.held B told e };
+    ghost holds_rest = { λ s B told e. held-rest s.is_told s.held B (told refl) e };
+
+    ghost late_holds_none = { λ s late told. none-without s.is_told (has_row s.held) told };
 
     ghost finished = { λ s. held-finished s.is_told s.held };
 
     ghost needs_untold = { λ s. told-needs_none s.is_told };
 
-    ghost source_needs_none = { λ s e. Prim.cc };
+    ghost full_needs_none = { λ s full. Prim.cc };
+
+    ghost full_gives = { λ s X B full gives. Prim.cc };
+
+    ghost full_fails = { λ s X node kind full fails. Prim.cc };
+
+    ghost waiting_needs_none = { λ s waits unknown. Prim.cc };
+
+    ghost waiting_went = { λ s T G waits went. Prim.cc };
 
     ghost needs = { λ s told _ _ _. told-needs s.is_told told };
-
-    ghost waits_unknowing = { λ s e. Prim.cc };
 
     ghost made_untold = { λ s. refl };
 

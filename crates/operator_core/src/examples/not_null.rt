@@ -1,6 +1,8 @@
 ghost use Rattle.std.specs.Prelude.{◌≡◌, ◌≤◌, [], false, true, length, take, MatchOption, ◌↔◌, ℕ, List};
 ghost use Rattle.sql_values.specs.declared.fail.Fail.{Fail as Kind};
+ghost use Rattle.col_pages.specs.Pages.{TypedPage, most_rows};
 ghost use Rattle.operator_core.specs.Rows.{Row};
+ghost use Rattle.operator_core.specs.Calls.{IsFresh};
 ghost use Rattle.operator_core.specs.Samples.{before_null, has_null};
 
 use crate::{HeldPages, OpFault, Operator};
@@ -24,12 +26,19 @@ pub struct NotNull {
 
 impl NotNull {
     pub fn new(alloc: Global, node: u32, column: u32) -> NotNull
-        ensures made { ⟦<NotNull as Operator>⟧.as_made result ≡ result }
+        ensures fresh { IsFresh ⟦<NotNull as Operator>⟧ result }
         ensures gives { (X B : List Row)
             → ⟦<NotNull as Operator>⟧.may_give result X B ↔ (B ≡ before_null column X) }
         ensures fails { (X : List Row) (at : ℕ) (kind : Kind)
             → ⟦<NotNull as Operator>⟧.may_still_fail result X at kind
             ↔ ((at ≡ node) × (kind ≡ Fail.BadCast) × (has_null column X ≡ true)) }
+        ensures takes { (page : TypedPage) → ⟦<NotNull as Operator>⟧.takes result page }
+        ensures open { (⟦<NotNull as Operator>⟧.is_full result ≡ false)
+            × (⟦<NotNull as Operator>⟧.page_size result ≡ most_rows) }
+        ensures late { ⟦<NotNull as Operator>⟧.gives_late result ≡ false }
+        ensures waits { ⟦<NotNull as Operator>⟧.waits result ≡ false }
+        ensures knows { ⟦<NotNull as Operator>⟧.knows result ≡ true }
+        ensures learns { (m : _) → ⟦<NotNull as Operator>⟧.may_learn result m → ⊥ }
     {
         NotNull {
             alloc,
@@ -85,9 +94,13 @@ impl Operator for NotNull {
 
     ghost takes = { λ _ _. Unit {0} };
 
+    ghost may_give_page = { λ _ _ _. Unit {0} };
+
     ghost page_size = { λ _. most_rows };
 
-    ghost is_source = { λ _. false };
+    ghost is_full = { λ _. false };
+
+    ghost gives_late = { λ _. false };
 
     ghost needs_input = { λ s. not (s.is_told || has_row s.held) };
 
@@ -97,9 +110,11 @@ impl Operator for NotNull {
 
     ghost is_finished = { λ s. s.is_told && not (s.has_failed || has_row s.held) };
 
-    ghost knows = { λ _. true };
+    ghost waits = { λ _. false };
 
-    ghost is_waiting = { λ _. false };
+    ghost bell = { λ _. 0 };
+
+    ghost knows = { λ _. true };
 
     ghost empty_looks = { λ _. 0 };
 
@@ -163,15 +178,23 @@ impl Operator for NotNull {
 
     ghost holds_rest = { λ s B told e. not_null-rest s.has_failed s.held B e };
 
+    ghost late_holds_none = { λ s late told. Prim.cc };
+
     ghost finished = { λ s. not_null-finished s.is_told s.has_failed s.held s.node };
 
     ghost needs_untold = { λ s. needs-untold s.is_told (has_row s.held) };
 
-    ghost source_needs_none = { λ s e. Prim.cc };
+    ghost full_needs_none = { λ s full. Prim.cc };
+
+    ghost full_gives = { λ s X B full gives. Prim.cc };
+
+    ghost full_fails = { λ s X node kind full fails. Prim.cc };
+
+    ghost waiting_needs_none = { λ s waits unknown. Prim.cc };
+
+    ghost waiting_went = { λ s T G waits went. Prim.cc };
 
     ghost needs = { λ s told held _ _. needs-open s.is_told (has_row s.held) told held };
-
-    ghost waits_unknowing = { λ s e. Prim.cc };
 
     ghost made_untold = { λ s. refl };
 

@@ -1,5 +1,9 @@
-ghost use Rattle.std.specs.Prelude.{◌≡◌, ◌↔◌, ◌+◌, ◌-◌, ◌^◌, ◌<◌, List, [], unwrap_or};
+ghost use Rattle.std.specs.Prelude.{◌≡◌, ◌↔◌, ◌+◌, ◌-◌, ◌^◌, ◌<◌, ℕ, List, [], Some, true, false};
+ghost use Rattle.std.specs.Prelude.{is_some, unwrap_or};
+ghost use Rattle.sql_values.specs.declared.fail.Fail.{Fail as Kind};
+ghost use Rattle.col_pages.specs.Pages.{TypedPage, most_rows};
 ghost use Rattle.operator_core.specs.Rows.{Row};
+ghost use Rattle.operator_core.specs.Calls.{IsFresh};
 ghost use Rattle.operator_core.specs.Samples.{LimitGives};
 
 use crate::examples::Note;
@@ -25,9 +29,21 @@ pub struct NotedLimit {
 impl NotedLimit {
     pub fn new(alloc: Global, bell: u32, note: Note) -> NotedLimit
         requires { note.empty_looks ≡ 0 }
-        ensures made { ⟦<NotedLimit as Operator>⟧.as_made result ≡ result }
+        ensures fresh { IsFresh ⟦<NotedLimit as Operator>⟧ result }
         ensures gives { (X B : List Row) → ⟦<NotedLimit as Operator>⟧.may_give result X B
             ↔ LimitGives note.known 0 [] X B }
+        ensures fails { (X : List Row) (node : ℕ) (kind : Kind)
+            → ⟦<NotedLimit as Operator>⟧.may_still_fail result X node kind → ⊥ }
+        ensures takes { (page : TypedPage) → ⟦<NotedLimit as Operator>⟧.takes result page }
+        ensures open { (⟦<NotedLimit as Operator>⟧.is_full result ≡ false)
+            × (⟦<NotedLimit as Operator>⟧.page_size result ≡ most_rows) }
+        ensures late { ⟦<NotedLimit as Operator>⟧.gives_late result ≡ false }
+        ensures waits { ⟦<NotedLimit as Operator>⟧.waits result ≡ true }
+        ensures knows { ⟦<NotedLimit as Operator>⟧.knows result ≡ is_some note.known }
+        ensures bell { ⟦<NotedLimit as Operator>⟧.bell result ≡ bell }
+        ensures learns { (m : _) → ⟦<NotedLimit as Operator>⟧.may_learn result m → (n : ℕ)
+            × ((X B : List Row) → ⟦<NotedLimit as Operator>⟧.may_give m X B
+            ↔ LimitGives (Some n) 0 [] X B) }
     {
         NotedLimit {
             alloc,
@@ -37,6 +53,18 @@ impl NotedLimit {
             held: HeldPages::new(alloc),
             is_told: false,
         }
+    }
+
+    /// Gives its note back, as it stands.
+    pub fn into_note(self) -> Note
+        ensures knows { is_some result.known ≡ ⟦<NotedLimit as Operator>⟧.knows self }
+        ensures looks { result.empty_looks ≡ ⟦<NotedLimit as Operator>⟧.empty_looks self }
+        ensures known { (X B : List Row)
+            → ⟦<NotedLimit as Operator>⟧.may_give (⟦<NotedLimit as Operator>⟧.as_made self) X B
+            ↔ LimitGives result.known 0 [] X B }
+    {
+        let NotedLimit { note, .. } = self;
+        note
     }
 
     /// How many rows are still wanted.
@@ -56,7 +84,7 @@ impl Operator for NotedLimit {
     ghost use Rattle.std.specs.Prelude.{◌≡◌, ℕ, [], Some, true, false, not, ◌&&◌, ◌||◌, refl, is_some};
     ghost use Rattle.col_pages.specs.Pages.{most_rows};
     ghost use Rattle.operator_core.specs.Samples.{has_row, unlooked, LimitGives};
-    ghost use Rattle.operator_core.specs.NoteLaws.{limit-some, limit-rest, limit-needs_none, limit-needs, waits-unknowing, held-over, limit-goes_on};
+    ghost use Rattle.operator_core.specs.NoteLaws.{limit-some, limit-rest, limit-needs_none, limit-needs, none-without, held-over, limit-goes_on};
 
     ghost may_give = { λ s X B. LimitGives s.note.known s.passed s.held X B };
 
@@ -64,9 +92,13 @@ impl Operator for NotedLimit {
 
     ghost takes = { λ _ _. Unit {0} };
 
+    ghost may_give_page = { λ _ _ _. Unit {0} };
+
     ghost page_size = { λ _. most_rows };
 
-    ghost is_source = { λ _. false };
+    ghost is_full = { λ _. false };
+
+    ghost gives_late = { λ _. false };
 
     ghost needs_input = { λ s. is_some s.note.known && not (s.is_told || has_row s.held) };
 
@@ -76,9 +108,11 @@ impl Operator for NotedLimit {
 
     ghost is_finished = { λ s. s.is_told && not (has_row s.held) };
 
-    ghost knows = { λ s. is_some s.note.known };
+    ghost waits = { λ _. true };
 
-    ghost is_waiting = { λ s. not (is_some s.note.known) };
+    ghost bell = { λ s. s.bell };
+
+    ghost knows = { λ s. is_some s.note.known };
 
     ghost empty_looks = { λ s. s.note.empty_looks };
 
@@ -133,17 +167,26 @@ impl Operator for NotedLimit {
 
     ghost holds_rest = { λ s B told e. limit-rest s.note.known s.passed s.held B e };
 
+    ghost late_holds_none = { λ s late told. Prim.cc };
+
     ghost finished = { λ s. held-over s.is_told s.held };
 
     ghost needs_untold = { λ s.
         limit-needs_none (is_some s.note.known) s.is_told (has_row s.held) };
 
-    ghost source_needs_none = { λ s e. Prim.cc };
+    ghost full_needs_none = { λ s full. Prim.cc };
 
-    ghost needs = { λ s told held waits _.
-        limit-needs (is_some s.note.known) s.is_told (has_row s.held) told held waits };
+    ghost full_gives = { λ s X B full gives. Prim.cc };
 
-    ghost waits_unknowing = { λ s. waits-unknowing (is_some s.note.known) };
+    ghost full_fails = { λ s X node kind full fails. Prim.cc };
+
+    ghost waiting_needs_none = { λ s waits unknown. none-without (is_some s.note.known)
+        (not (s.is_told || has_row s.held)) unknown };
+
+    ghost waiting_went = { λ s T G waits went. (went.0, went.1) };
+
+    ghost needs = { λ s told held knows _.
+        limit-needs (is_some s.note.known) s.is_told (has_row s.held) told held (knows refl) };
 
     ghost made_untold = { λ s. refl };
 

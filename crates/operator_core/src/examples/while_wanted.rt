@@ -1,5 +1,8 @@
-ghost use Rattle.std.specs.Prelude.{◌≡◌, ◌↔◌, List, []};
+ghost use Rattle.std.specs.Prelude.{◌≡◌, ◌↔◌, ℕ, List, [], Some, true, false, is_some};
+ghost use Rattle.sql_values.specs.declared.fail.Fail.{Fail as Kind};
+ghost use Rattle.col_pages.specs.Pages.{TypedPage, most_rows};
 ghost use Rattle.operator_core.specs.Rows.{Row};
+ghost use Rattle.operator_core.specs.Calls.{IsFresh};
 ghost use Rattle.operator_core.specs.Samples.{WantedGives};
 
 use crate::examples::Note;
@@ -23,15 +26,38 @@ pub struct WhileWanted {
 impl WhileWanted {
     pub fn new(alloc: Global, note: Note) -> WhileWanted
         requires { note.empty_looks ≡ 0 }
-        ensures made { ⟦<WhileWanted as Operator>⟧.as_made result ≡ result }
+        ensures fresh { IsFresh ⟦<WhileWanted as Operator>⟧ result }
         ensures gives { (X B : List Row) → ⟦<WhileWanted as Operator>⟧.may_give result X B
             ↔ WantedGives note.known [] X B }
+        ensures fails { (X : List Row) (node : ℕ) (kind : Kind)
+            → ⟦<WhileWanted as Operator>⟧.may_still_fail result X node kind → ⊥ }
+        ensures takes { (page : TypedPage) → ⟦<WhileWanted as Operator>⟧.takes result page }
+        ensures open { (⟦<WhileWanted as Operator>⟧.is_full result ≡ false)
+            × (⟦<WhileWanted as Operator>⟧.page_size result ≡ most_rows) }
+        ensures late { ⟦<WhileWanted as Operator>⟧.gives_late result ≡ false }
+        ensures waits { ⟦<WhileWanted as Operator>⟧.waits result ≡ false }
+        ensures knows { ⟦<WhileWanted as Operator>⟧.knows result ≡ is_some note.known }
+        ensures learns { (m : _) → ⟦<WhileWanted as Operator>⟧.may_learn result m → (n : ℕ)
+            × ((X B : List Row) → ⟦<WhileWanted as Operator>⟧.may_give m X B
+            ↔ WantedGives (Some n) [] X B) }
     {
         WhileWanted {
             note,
             held: HeldPages::new(alloc),
             is_told: false,
         }
+    }
+
+    /// Gives its note back, as it stands.
+    pub fn into_note(self) -> Note
+        ensures knows { is_some result.known ≡ ⟦<WhileWanted as Operator>⟧.knows self }
+        ensures looks { result.empty_looks ≡ ⟦<WhileWanted as Operator>⟧.empty_looks self }
+        ensures known { (X B : List Row)
+            → ⟦<WhileWanted as Operator>⟧.may_give (⟦<WhileWanted as Operator>⟧.as_made self) X B
+            ↔ WantedGives result.known [] X B }
+    {
+        let WhileWanted { note, .. } = self;
+        note
     }
 }
 
@@ -48,9 +74,13 @@ impl Operator for WhileWanted {
 
     ghost takes = { λ _ _. Unit {0} };
 
+    ghost may_give_page = { λ _ _ _. Unit {0} };
+
     ghost page_size = { λ _. most_rows };
 
-    ghost is_source = { λ _. false };
+    ghost is_full = { λ _. false };
+
+    ghost gives_late = { λ _. false };
 
     ghost needs_input = { λ s. not (s.is_told || has_row s.held) };
 
@@ -60,9 +90,11 @@ impl Operator for WhileWanted {
 
     ghost is_finished = { λ s. s.is_told && not (has_row s.held) };
 
-    ghost knows = { λ s. is_some s.note.known };
+    ghost waits = { λ _. false };
 
-    ghost is_waiting = { λ _. false };
+    ghost bell = { λ _. 0 };
+
+    ghost knows = { λ s. is_some s.note.known };
 
     ghost empty_looks = { λ s. s.note.empty_looks };
 
@@ -114,15 +146,23 @@ impl Operator for WhileWanted {
 
     ghost holds_rest = { λ s B told e. wanted-rest s.note.known s.held B e };
 
+    ghost late_holds_none = { λ s late told. Prim.cc };
+
     ghost finished = { λ s. held-over s.is_told s.held };
 
     ghost needs_untold = { λ s. needs-untold s.is_told (has_row s.held) };
 
-    ghost source_needs_none = { λ s e. Prim.cc };
+    ghost full_needs_none = { λ s full. Prim.cc };
+
+    ghost full_gives = { λ s X B full gives. Prim.cc };
+
+    ghost full_fails = { λ s X node kind full fails. Prim.cc };
+
+    ghost waiting_needs_none = { λ s waits unknown. Prim.cc };
+
+    ghost waiting_went = { λ s T G waits went. Prim.cc };
 
     ghost needs = { λ s told held _ _. needs-open s.is_told (has_row s.held) told held };
-
-    ghost waits_unknowing = { λ s e. Prim.cc };
 
     ghost made_untold = { λ s. refl };
 

@@ -25,9 +25,10 @@
 //!
 //! `get_output` gives none exactly where it holds no row that it may give now and, once it was
 //! told, nothing of it may fail. It refuses input before `finish` only where it holds such a row,
-//! waits, or has rows of its own and never takes any. It says that it must wait only where a look
-//! found nothing after the bell's count was read. A page that it gives has a row, and no more than
-//! its page size. Want of memory is never tied to a cause.
+//! waits, or is full: what still comes changes nothing. It says that it must wait only where a look
+//! of the call found nothing, and names its own bell with a count which that bell showed. A page
+//! that it gives has a row, no more than its page size, and is one that may come of pages of the
+//! types that went in. Want of memory is never tied to a cause.
 //!
 //! An operator with a note also says what it took and gave while the note knew nothing (`went`).
 //! When it learns its value, it is from then on as if it had been made with it (`as_made`), and

@@ -1,0 +1,7 @@
+use Rattle.std.proofs.Common.{drop, map}
+use Rattle.sql_exprs.specs.Forms.{form_view}
+use Rattle.page_judges.specs.Typed.{AllTyped}
+use Rattle.row_ops.proofs.typing.are_columns_typed.Given as goal
+
+abbrev pub invariant-loop-column : goal.invariant-loop-column
+invariant-loop-column l = AllTyped l.types (map form_view (drop l.column-index l.columns)) → AllTyped l.types (map form_view l.columns)

@@ -1,0 +1,3 @@
+pub mod RowJudges
+pub mod RowsHeld
+pub mod RowLaws

@@ -1,0 +1,40 @@
+-- What a predicate, where there is one, and then columns say of a row, and of which pages they can.
+use Rattle.std.specs.Prelude.{◌≡◌, ◌<◌, List, map, length, Option, Some, None}
+use Rattle.sql_values.specs.declared.types.SqlType.{SqlType}
+use Rattle.sql_values.specs.declared.value.Value.{Value}
+use Rattle.col_pages.specs.Pages.{TypedPage}
+use Rattle.sql_exprs.specs.Forms.{Form}
+use Rattle.sql_exprs.specs.Meaning.{kind_of}
+use Rattle.relations.specs.Verdicts.{Verdict, keeps, drops, fails}
+use Rattle.plan_trees.specs.Judges.{filter_judge, project_judge}
+use Rattle.page_judges.specs.Typed.{AllFit, AllTyped, IsTyped}
+
+-- a verdict, and for a row that is kept the next one
+abbrev pub and_then : Verdict → (List Value → Verdict) → Verdict
+and_then (keeps row) next = next row
+and_then drops next = drops
+and_then (fails kind) next = fails kind
+
+-- what the predicate, where there is one, and then the columns say of a row
+abbrev pub row_judge : List SqlType → Option Form → List Form → List Value → Verdict
+row_judge types None columns row = project_judge types columns row
+row_judge types (Some predicate) columns row = and_then (filter_judge types predicate row) (project_judge types columns)
+
+-- the types of the columns
+abbrev pub kinds : List SqlType → List Form → List SqlType
+kinds types columns = map (kind_of types) columns
+
+abbrev pub IsTypedIf : List SqlType → Option Form → Type 0
+IsTypedIf types None = Unit {0}
+IsTypedIf types (Some predicate) = IsTyped types predicate
+
+-- there are columns, and each expression is typed over input of these types
+pub record AreTyped (types : List SqlType) (predicate : Option Form) (columns : List Form) : Type 0 where
+  pub some : 0 < length columns
+  pub typed_if : IsTypedIf types predicate
+  pub all_typed : AllTyped types columns
+
+-- a page of these types, whose rows fit them
+pub record IsOf (types : List SqlType) (page : TypedPage) : Type 0 where
+  pub of_types : page.types ≡ types
+  pub fit : AllFit types page.rows

@@ -1,0 +1,57 @@
+ghost use Rattle.std.specs.Prelude.{◌≡◌, Some, IfOk, map, option_map};
+ghost use Rattle.sql_exprs.specs.Forms.{form_view};
+ghost use Rattle.page_judges.specs.Judged.{judged};
+ghost use Rattle.page_judges.specs.Typed.{AllFit};
+ghost use Rattle.row_ops.specs.RowJudges.{AreTyped, kinds, row_judge};
+
+use col_pages::Page;
+use page_judges::{Judged, filter_page, project_page};
+use sql_exprs::Expr;
+use sql_values::Memory;
+use std::alloc::Global;
+
+/// What a predicate and then columns make of a page, up to the first row that fails.
+pub(crate) fn judge_page(
+    alloc: Global,
+    predicate: &Option<Expr>,
+    columns: &[Expr],
+    page: Page,
+) -> Result<Judged, Memory>
+    requires typed { AreTyped page.types (option_map form_view predicate.now)
+        (map form_view columns.now) }
+    requires fits { AllFit page.types page.rows }
+    ensures fits { IfOk result (λ j.
+        AllFit (kinds page.types (map form_view columns.now)) j.page.rows) }
+    ensures judged { IfOk result (λ j. j ≡ judged
+        (row_judge page.types (option_map form_view predicate.now) (map form_view columns.now))
+        (kinds page.types (map form_view columns.now)) page.rows) }
+{
+    match predicate {
+        None => project_page(alloc, columns, &page),
+        Some(predicate) => filter_and_project(alloc, predicate, columns, page),
+    }
+}
+
+/// The failure of a column on the rows that the filter kept comes before the filter's own.
+fn filter_and_project(
+    alloc: Global,
+    predicate: &Expr,
+    columns: &[Expr],
+    page: Page,
+) -> Result<Judged, Memory>
+    requires typed { AreTyped page.types (Some (form_view predicate.now))
+        (map form_view columns.now) }
+    requires fits { AllFit page.types page.rows }
+    ensures fits { IfOk result (λ j.
+        AllFit (kinds page.types (map form_view columns.now)) j.page.rows) }
+    ensures judged { IfOk result (λ j. j ≡ judged
+        (row_judge page.types (Some (form_view predicate.now)) (map form_view columns.now))
+        (kinds page.types (map form_view columns.now)) page.rows) }
+{
+    let kept = filter_page(alloc, predicate, page)?;
+    let mapped = project_page(alloc, columns, &kept.page)?;
+    Ok(Judged {
+        page: mapped.page,
+        failure: mapped.failure.or(kept.failure),
+    })
+}

@@ -1,0 +1,17 @@
+pub mod CalmLemmas
+pub mod ReadLemmas
+pub mod PieceLemmas
+pub mod ColumnLemmas
+pub mod EdgeSteps
+pub mod JudgeSteps
+pub mod BelowLemmas
+pub mod JoinSteps
+pub mod GroupSteps
+pub mod FirstSteps
+pub mod UnionSteps
+pub mod ComposeLemmas
+pub mod LaneLemmas
+pub mod WireLemmas
+pub mod DealLemmas
+pub mod ExtendLemmas
+pub mod WorkedRun

@@ -1,0 +1,6 @@
+pub mod RunPlans
+pub mod Spreads
+pub mod Placements
+pub mod Runs
+pub mod Nets
+pub mod Stops

@@ -1,0 +1,14 @@
+//! How the pieces of a run make the answer of its plan, as laws of plain lists: no code, no thread and
+//! no operator.
+//!
+//! - `specs/RunPlans.antt`: a plan as it runs, with the edges between tasks, and the tree that it means
+//! - `specs/Spreads.antt`: how a node's rows are spread over tasks, and what these then say of the tree
+//! - `specs/Placements.antt`: which spread a node has, rule by rule
+//! - `specs/Runs.antt`: what the tasks gave at each node
+//! - `specs/Nets.antt`: the drivers of the tasks, their stages, and what passes between them
+//! - `laws`: what follows
+#![tactic(auto)]
+
+mod laws;
+
+pub use laws::{drivers_compose, spreads_hold, tasks_compose};

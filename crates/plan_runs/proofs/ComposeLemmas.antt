@@ -27,7 +27,7 @@ use Rattle.plan_runs.proofs.ReadLemmas.{read}
 use Rattle.plan_runs.proofs.UnionSteps.{union_any_step, union_every_step, union_whole_step}
 
 -- there is a task where a fragment is read
-some_tasks : (m : ℕ) (s : Spread) → IsRead m s → 0 < m
+pub some_tasks : (m : ℕ) (s : Spread) → IsRead m s → 0 < m
 some_tasks m whole one = omega arith
 some_tasks m any some = some
 some_tasks m (by columns) some = some

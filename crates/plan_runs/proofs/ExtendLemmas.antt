@@ -69,7 +69,7 @@ module _ (tables : List (List (List Value))) where
       (g.rest, ((o.0, o.1, g.chain), g.none))) in
       record { rest = all.0; chains = λ k d lt less. (all.1 k d lt less).0; none = λ k d lt less. (all.1 k d lt less).1 }
 
-  rest_went : (n w : ℕ) (node : RunPlan) (builds : List TaskRows) (took gave : Lanes) (done : Flags) (r : Rest [] n w node builds took gave done)
+  pub rest_went : (n w : ℕ) (node : RunPlan) (builds : List TaskRows) (took gave : Lanes) (done : Flags) (r : Rest [] n w node builds took gave done)
       → Went skipping n w node builds took (longer gave r.rest)
   rest_went n w node builds took gave done r k d lt less =
       let c = r.chains k d lt less in

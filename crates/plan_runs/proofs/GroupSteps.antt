@@ -89,6 +89,10 @@ module _ (mode : Mode) (tables : List (List (List Value))) (id source m : ℕ) (
   remote_below : Together mode (remote source t) tables m ins
   remote_below = record { rows = below.rows; given = given_remote mode t tables source below.rows below.given; same = below.same }
 
+  -- what the one task finds are the groups of such a list
+  pub same_final : Passed single m 1 parts got → SameWeights (finals_of (types_of t) (length keys) calls (got 0)) (groups_of (types_of t) keys calls below.rows)
+  same_final passed = same-trans (same-finals_of (types_of t) calls (length keys) (same-sym (passed 0 (omega arith)))) same_merged
+
   pub final_whole_step : Passed single m 1 parts got → ((k : ℕ) → k < 1 → Taken mode (finals_of (types_of t) (length keys) calls (got k)) (out k))
       → Says whole mode (aggregate id keys calls (remote source t)) tables 1 out
   unfolding remote_below
@@ -96,7 +100,7 @@ module _ (mode : Mode) (tables : List (List (List Value))) (id source m : ℕ) (
     below.rows,
     remote_below.given,
     taken-same mode (finals_of (types_of t) (length keys) calls (got 0)) (groups_of (types_of t) keys calls below.rows) (out 0)
-        (same-trans (same-finals_of (types_of t) calls (length keys) (same-sym (passed 0 (omega arith)))) same_merged) (taken 0 (omega arith)),
+        (same_final passed) (taken 0 (omega arith)),
   )
 
   -- the partial rows reach behind their keys, also when they have passed
@@ -124,6 +128,13 @@ module _ (mode : Mode) (tables : List (List (List Value))) (id source m : ℕ) (
   sit_finals n columns zero some among reach sits = absurd (omega (arith, some))
   sit_finals n columns (suc w) some among reach sits = sit-finals_of (types_of t) w calls n columns among got reach sits
 
+  -- what all tasks find, each in its bucket
+  pub same_finals : (n : ℕ) (columns : List ℕ) → 0 < n → 0 < length keys → AllBelow (length keys) columns → Passed (hashed columns) m n parts got
+      → SameWeights (gather n (λ k. finals_of (types_of t) (length keys) calls (got k))) (groups_of (types_of t) keys calls below.rows)
+  same_finals n columns lt some among passed =
+      same-trans (finals-by_columns (types_of t) (length keys) calls columns n some lt among got (sit-passed n m columns parts got passed))
+      (same-trans (same-finals_of (types_of t) calls (length keys) (same-passed n m columns parts got lt passed)) same_merged)
+
   pub final_by_step : (n : ℕ) (columns : List ℕ) → 0 < n → 0 < length keys → AllBelow (length keys) columns → Passed (hashed columns) m n parts got
       → ((k : ℕ) → k < n → Taken mode (finals_of (types_of t) (length keys) calls (got k)) (out k))
       → Says (by columns) mode (aggregate id keys calls (remote source t)) tables n out
@@ -132,7 +143,6 @@ module _ (mode : Mode) (tables : List (List (List Value))) (id source m : ℕ) (
       let verdicts : ℕ → List Verdict = λ k. finals_of (types_of t) (length keys) calls (got k) in
       let sits : SitByBucket (key_bucket n columns) n got = sit-passed n m columns parts got passed in (
         given_together mode tables id calls (remote source t) ins out keys n verdicts taken m ins remote_below
-            (same-trans (finals-by_columns (types_of t) (length keys) calls columns n some lt among got sits)
-            (same-trans (same-finals_of (types_of t) calls (length keys) (same-passed n m columns parts got lt passed)) same_merged)),
+            (same_finals n columns lt some among passed),
         sit_taken mode tables id calls t ins out n columns verdicts taken (sit_finals n columns (length keys) some among (got_reach n columns passed) sits),
       )

@@ -14,4 +14,7 @@ pub mod LaneLemmas
 pub mod WireLemmas
 pub mod DealLemmas
 pub mod ExtendLemmas
+pub mod AmongLemmas
+pub mod FaultLemmas
+pub mod FailedLemmas
 pub mod WorkedRun

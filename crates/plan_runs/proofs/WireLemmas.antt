@@ -45,7 +45,7 @@ module _ (mode : Mode) (tables : List (List (List Value))) where
       (λ k d lt less. let h = went k d lt less in before_last mode input builds k stage h.0 (took k d) (gave k d) h.1 h.2)
 
   -- a task's drivers cut its rows into pieces
-  in_pieces : (Gave : List (List Value) → List (List Value) → Type 0) (m v : ℕ) (between gave : Lanes)
+  pub in_pieces : (Gave : List (List Value) → List (List Value) → Type 0) (m v : ℕ) (between gave : Lanes)
       → ((k d : ℕ) → k < m → d < v → Gave (between k d) (gave k d)) → AllInPieces Gave m (tasks v between) (tasks v gave)
   in_pieces Gave m v between gave each j lt = record {
     drivers = v;

@@ -4,3 +4,4 @@ pub mod Placements
 pub mod Runs
 pub mod Nets
 pub mod Stops
+pub mod Faults

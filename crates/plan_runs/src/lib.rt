@@ -6,9 +6,10 @@
 //! - `specs/Placements.antt`: which spread a node has, rule by rule
 //! - `specs/Runs.antt`: what the tasks gave at each node
 //! - `specs/Nets.antt`: the drivers of the tasks, their stages, and what passes between them
+//! - `specs/Stops.antt`, `specs/Faults.antt`: a run that something stopped, and a driver that failed in it
 //! - `laws`: what follows
 #![tactic(auto)]
 
 mod laws;
 
-pub use laws::{drivers_compose, spreads_hold, tasks_compose};
+pub use laws::{drivers_compose, failures_compose, spreads_hold, tasks_compose};

@@ -11,11 +11,11 @@ use Rattle.bag_laws.specs.Weights.{SameWeights}
 use Rattle.bag_laws.proofs.BagLemmas.{same-append, same-exchange, same-filter, same-from_equal, same-refl, same-sym, same-trans}
 use Rattle.bag_laws.proofs.GatherLemmas.{gather-none, same-gather, same-gather_append}
 use Rattle.plan_trees.specs.Allowed.{skipping}
-use Rattle.plan_runs.specs.Nets.{AreFor, Below, Chain, Lanes, Stage, Went, WentInto, limit, partial, tasks, topn}
+use Rattle.plan_runs.specs.Nets.{AreFor, Below, Pipe, Chain, Lanes, Stage, Went, WentInto, limit, partial, tasks, topn}
 use Rattle.plan_runs.specs.RunPlans.{Output, RunPlan, single, hashed, broadcast}
 use Rattle.plan_runs.specs.RunPlans as plan
 use Rattle.plan_runs.specs.Runs.{Passed, sent}
-use Rattle.plan_runs.specs.Stops.{AllSet, AreNoted, AreOpen, Flags, Givers, IsNoted, MayCome, Notes, PassedSoFar, Stops}
+use Rattle.plan_runs.specs.Stops.{AllSet, AreNoted, AreOpen, Flags, StoppedPipe, IsNoted, MayCome, Notes, PassedSoFar, Stops}
 use Rattle.plan_runs.proofs.DealLemmas.{Fed, deal_out, fed, longer}
 use Rattle.plan_runs.proofs.LaneLemmas.{chosen_lanes}
 use Rattle.plan_runs.proofs.WireLemmas.{into_last}
@@ -90,7 +90,7 @@ module _ (tables : List (List (List Value))) where
   task_nothing w k done rest none all = gather-none w (rest k) (λ d less. none d less (all d less))
 
   -- over an edge: what the givers still give reaches drivers that have not ended
-  passed_on : (output : Output) (m n : ℕ) (g : Givers) (w : ℕ) (took : Lanes) (ended : Flags) → PassedSoFar output m n g w took ended
+  passed_on : (output : Output) (m n : ℕ) (g : StoppedPipe) (w : ℕ) (took : Lanes) (ended : Flags) → PassedSoFar output m n g w took ended
       → (rest : Lanes) → ((k d : ℕ) → k < m → d < g.drivers → MayCome (g.done k d) (rest k d))
       → Fed n w took ended (λ k. sent output n k (gather m (tasks g.drivers g.gave))) (λ k. sent output n k (gather m (tasks g.drivers rest)))
   passed_on output m n g w took ended passed rest none =
@@ -98,7 +98,7 @@ module _ (tables : List (List (List Value))) where
       (λ k. AllSet m g.drivers g.done) passed
       (λ k lt all. sent-none output n k (gather m (tasks g.drivers rest)) (rest_nothing m g.drivers g.done rest none all))
 
-  all_passed : (output : Output) (m n : ℕ) (g : Givers) (w : ℕ) (took : Lanes) (ended : Flags) (rest : Lanes)
+  all_passed : (output : Output) (m n : ℕ) (g : StoppedPipe) (w : ℕ) (took : Lanes) (ended : Flags) (rest : Lanes)
       (f : Fed n w took ended (λ k. sent output n k (gather m (tasks g.drivers g.gave))) (λ k. sent output n k (gather m (tasks g.drivers rest))))
       → Passed output m n (tasks g.drivers (longer g.gave rest)) (tasks w (longer took f.more))
   all_passed output m n g w took ended rest f k lt =
@@ -117,15 +117,18 @@ module _ (tables : List (List (List Value))) where
 
   -- where there are no notes, no build is known
   none_noted : (notes : Notes) → notes ≡ [] → (k d : ℕ) → AreNoted notes [] k d
-  none_noted notes e k d = subst (λ ns. AreNoted ns [] k d) (sym e) tt
+  none_noted notes e k d = subst (λ ns. AreNoted ns [] k d) (sym e) tt  -- a pipeline that others take from, gone on to its end
+
+  abbrev pipe_of : StoppedPipe → List TaskRows → Lanes → Lanes → Pipe
+  pipe_of g builds more rest = record { drivers = g.drivers; builds = builds; took = longer g.took more; gave = longer g.gave rest }
 
   -- an edge below a node with no joins, extended
-  record Edge (output : Output) (m n w : ℕ) (input : RunPlan) (g : Givers) (took : Lanes) (ended : Flags) (last : List Stage) : Type 0 where
+  record Edge (output : Output) (m n w : ℕ) (input : RunPlan) (g : StoppedPipe) (took : Lanes) (ended : Flags) (last : List Stage) : Type 0 where
     pub whole : Whole tables m g.drivers input g.notes g.took g.ended
     pub given : Rest last m g.drivers input whole.builds (longer g.took whole.more) g.gave g.done
     pub fed : Fed n w took ended (λ k. sent output n k (gather m (tasks g.drivers g.gave))) (λ k. sent output n k (gather m (tasks g.drivers given.rest)))
 
-  edge : (output : Output) (m n w : ℕ) (input : RunPlan) (g : Givers) (took : Lanes) (ended : Flags) (last : List Stage) → Whole tables m g.drivers input g.notes g.took g.ended
+  edge : (output : Output) (m n w : ℕ) (input : RunPlan) (g : StoppedPipe) (took : Lanes) (ended : Flags) (last : List Stage) → Whole tables m g.drivers input g.notes g.took g.ended
       → AreOpen last m g.drivers input g.notes g.took g.gave g.ended g.done → PassedSoFar output m n g w took ended → Edge output m n w input g took ended last
   edge output m n w input g took ended last whole opened passed =
       let given = rest_of last m g.drivers input g.notes g.took g.gave g.ended g.done opened whole in
@@ -156,10 +159,7 @@ module _ (tables : List (List (List Value))) where
         more = e.fed.more;
         builds = [];
         below = (
-          g.drivers,
-          e.whole.builds,
-          longer g.took e.whole.more,
-          longer g.gave e.given.rest,
+          pipe_of g e.whole.builds e.whole.more e.given.rest,
           e.whole.below,
           rest_went m g.drivers input e.whole.builds (longer g.took e.whole.more) g.gave g.done e.given,
           all_passed output m n g w took ended e.given.rest e.fed,
@@ -182,10 +182,7 @@ module _ (tables : List (List (List Value))) where
         more = whole.more;
         builds = tasks g.drivers (longer g.gave given.rest) ∷ whole.builds;
         below = (
-          g.drivers,
-          built.builds,
-          longer g.took built.more,
-          longer g.gave given.rest,
+          pipe_of g built.builds built.more given.rest,
           built.below,
           rest_went n g.drivers right built.builds (longer g.took built.more) g.gave g.done given,
           λ k lt. same-refl (tasks g.drivers (longer g.gave given.rest) k),
@@ -203,10 +200,7 @@ module _ (tables : List (List (List Value))) where
         more = e.fed.more;
         builds = [];
         below = (
-          g.drivers,
-          e.whole.builds,
-          longer g.took e.whole.more,
-          longer g.gave e.given.rest,
+          pipe_of g e.whole.builds e.whole.more e.given.rest,
           one,
           e.whole.below,
           rest_into (partial keys calls) m g.drivers input e.whole.builds (longer g.took e.whole.more) g.gave g.done e.given,
@@ -227,10 +221,7 @@ module _ (tables : List (List (List Value))) where
         more = e.fed.more;
         builds = [];
         below = (
-          g.drivers,
-          e.whole.builds,
-          longer g.took e.whole.more,
-          longer g.gave e.given.rest,
+          pipe_of g e.whole.builds e.whole.more e.given.rest,
           one,
           e.whole.below,
           rest_into (topn count keys) m g.drivers input e.whole.builds (longer g.took e.whole.more) g.gave g.done e.given,
@@ -248,10 +239,7 @@ module _ (tables : List (List (List Value))) where
         more = e.fed.more;
         builds = [];
         below = (
-          g.drivers,
-          e.whole.builds,
-          longer g.took e.whole.more,
-          longer g.gave e.given.rest,
+          pipe_of g e.whole.builds e.whole.more e.given.rest,
           one,
           e.whole.below,
           rest_into (limit count) m g.drivers input e.whole.builds (longer g.took e.whole.more) g.gave g.done e.given,
@@ -273,14 +261,8 @@ module _ (tables : List (List (List Value))) where
         more = f.more;
         builds = [];
         below = (
-          g.drivers,
-          h.drivers,
-          first.builds,
-          second.builds,
-          longer g.took first.more,
-          longer g.gave one.rest,
-          longer h.took second.more,
-          longer h.gave two.rest,
+          pipe_of g first.builds first.more one.rest,
+          pipe_of h second.builds second.more two.rest,
           first.below,
           rest_went n g.drivers left first.builds (longer g.took first.more) g.gave g.done one,
           second.below,

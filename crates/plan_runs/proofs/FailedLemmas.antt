@@ -22,9 +22,9 @@ module _ (tables : List (List (List Value))) (node : ℕ) (kind : Fail) where
   failed lt fits scan_any w notes took ended none = absurd none
   failed lt fits values_whole w notes took ended none = absurd none
   failed lt fits values_every w notes took ended none = absurd none
-  failed lt fits (remote_whole {m = m} {s = s} r d) w notes took ended (v, known, entered, over, f) = failed (some_tasks m s r) fits d v known entered over f
-  failed lt fits (remote_by {m = m} {s = s} below r d) w notes took ended (v, known, entered, over, f) = failed (some_tasks m s r) fits d v known entered over f
-  failed lt fits (remote_every {m = m} {s = s} r d) w notes took ended (v, known, entered, over, f) = failed (some_tasks m s r) fits d v known entered over f
+  failed lt fits (remote_whole {m = m} {s = s} r d) w notes took ended (p, f) = failed (some_tasks m s r) fits d p.drivers p.notes p.took p.ended f
+  failed lt fits (remote_by {m = m} {s = s} below r d) w notes took ended (p, f) = failed (some_tasks m s r) fits d p.drivers p.notes p.took p.ended f
+  failed lt fits (remote_every {m = m} {s = s} r d) w notes took ended (p, f) = failed (some_tasks m s r) fits d p.drivers p.notes p.took p.ended f
   failed lt fits (filter_stays {predicate = predicate} {input = input} d) w notes took ended (inl (is, f)) =
       inl (is, row_failed tables (filter_judge (types_of (tree_of_run input)) predicate) kind w notes took ended lt fits d f)
   failed lt fits (filter_stays d) w notes took ended (inr f) = inr (failed lt fits d w notes took ended f)
@@ -42,13 +42,13 @@ module _ (tables : List (List (List Value))) (node : ℕ) (kind : Fail) where
   failed lt fits (project_every d) w notes took ended (inr f) = inr (failed lt fits d w notes took ended f)
   failed lt fits (join_whole d e) w [] took ended none = absurd none
   failed lt fits (join_whole d e) w (note ∷ notes) took ended (inl f) = inl (failed lt fits.0 d w notes took ended f)
-  failed lt fits (join_whole d e) w (note ∷ notes) took ended (inr (v, known, entered, over, f)) = inr (failed lt fits.1 e v known entered over f)
+  failed lt fits (join_whole d e) w (note ∷ notes) took ended (inr (p, f)) = inr (failed lt fits.1 e p.drivers p.notes p.took p.ended f)
   failed lt fits (join_right_every d e) w [] took ended none = absurd none
   failed lt fits (join_right_every d e) w (note ∷ notes) took ended (inl f) = inl (failed lt fits.0 d w notes took ended f)
-  failed lt fits (join_right_every d e) w (note ∷ notes) took ended (inr (v, known, entered, over, f)) = inr (failed lt fits.1 e v known entered over f)
+  failed lt fits (join_right_every d e) w (note ∷ notes) took ended (inr (p, f)) = inr (failed lt fits.1 e p.drivers p.notes p.took p.ended f)
   failed lt fits (join_by pairs among d e) w [] took ended none = absurd none
   failed lt fits (join_by pairs among d e) w (note ∷ notes) took ended (inl f) = inl (failed lt fits.0 d w notes took ended f)
-  failed lt fits (join_by pairs among d e) w (note ∷ notes) took ended (inr (v, known, entered, over, f)) = inr (failed lt fits.1 e v known entered over f)
+  failed lt fits (join_by pairs among d e) w (note ∷ notes) took ended (inr (p, f)) = inr (failed lt fits.1 e p.drivers p.notes p.took p.ended f)
   failed lt fits (aggregate_whole {keys = keys} {calls = calls} d) w notes took ended (inl (is, one, f)) =
       inl (is, single_whole tables keys calls kind w notes took ended fits d one f)
   failed lt fits (aggregate_whole d) w notes took ended (inr f) = inr (failed lt fits d w notes took ended f)
@@ -57,19 +57,19 @@ module _ (tables : List (List (List Value))) (node : ℕ) (kind : Fail) where
   failed lt fits (aggregate_by some below d) w notes took ended (inr f) = inr (failed lt fits d w notes took ended f)
   failed lt fits (final_whole {id = id} {source = source} {keys = keys} {calls = calls} r d) w notes took ended (inl (is, f)) =
       inl (is, final_whole_failed tables kind w id source keys calls notes took ended r fits d f)
-  failed lt fits (final_whole {m = m} {s = s} r d) w notes took ended (inr (v, known, entered, over, f)) = inr (failed (some_tasks m s r) fits d v known entered over f)
+  failed lt fits (final_whole {m = m} {s = s} r d) w notes took ended (inr (p, f)) = inr (failed (some_tasks m s r) fits d p.drivers p.notes p.took p.ended f)
   failed lt fits (final_by {id = id} {source = source} {keys = keys} {columns = columns} {calls = calls} some below r d) w notes took ended (inl (is, f)) =
       inl (is, final_by_failed tables kind w id source keys columns calls notes took ended lt some below r fits d f)
-  failed lt fits (final_by {m = m} {s = s} some below r d) w notes took ended (inr (v, known, entered, over, f)) = inr (failed (some_tasks m s r) fits d v known entered over f)
+  failed lt fits (final_by {m = m} {s = s} some below r d) w notes took ended (inr (p, f)) = inr (failed (some_tasks m s r) fits d p.drivers p.notes p.took p.ended f)
   failed lt fits (sort_whole d) w notes took ended f = failed lt fits d w notes took ended f
   failed lt fits (topn_whole d) w notes took ended f = failed lt fits d w notes took ended f
-  failed lt fits (topn_parts_whole {m = m} {s = s} r d) w notes took ended (v, known, entered, over, f) = failed (some_tasks m s r) fits d v known entered over f
+  failed lt fits (topn_parts_whole {m = m} {s = s} r d) w notes took ended (p, f) = failed (some_tasks m s r) fits d p.drivers p.notes p.took p.ended f
   failed lt fits (limit_whole d) w notes took ended f = failed lt fits d w notes took ended f
-  failed lt fits (limit_parts_whole {m = m} {s = s} r d) w notes took ended (v, known, entered, over, f) = failed (some_tasks m s r) fits d v known entered over f
-  failed lt fits (union_whole d e) w notes took ended (v, known, entered, over, inl f) = inl (failed lt fits.0 d v known entered over f)
-  failed lt fits (union_whole d e) w notes took ended (v, known, entered, over, inr f) = inr (failed lt fits.1 e v known entered over f)
-  failed lt fits (union_any d e) w notes took ended (v, known, entered, over, inl f) = inl (failed lt fits.0 d v known entered over f)
-  failed lt fits (union_any d e) w notes took ended (v, known, entered, over, inr f) = inr (failed lt fits.1 e v known entered over f)
-  failed lt fits (union_every d e) w notes took ended (v, known, entered, over, inl f) = inl (failed lt fits.0 d v known entered over f)
-  failed lt fits (union_every d e) w notes took ended (v, known, entered, over, inr f) = inr (failed lt fits.1 e v known entered over f)
+  failed lt fits (limit_parts_whole {m = m} {s = s} r d) w notes took ended (p, f) = failed (some_tasks m s r) fits d p.drivers p.notes p.took p.ended f
+  failed lt fits (union_whole d e) w notes took ended (p, inl f) = inl (failed lt fits.0 d p.drivers p.notes p.took p.ended f)
+  failed lt fits (union_whole d e) w notes took ended (p, inr f) = inr (failed lt fits.1 e p.drivers p.notes p.took p.ended f)
+  failed lt fits (union_any d e) w notes took ended (p, inl f) = inl (failed lt fits.0 d p.drivers p.notes p.took p.ended f)
+  failed lt fits (union_any d e) w notes took ended (p, inr f) = inr (failed lt fits.1 e p.drivers p.notes p.took p.ended f)
+  failed lt fits (union_every d e) w notes took ended (p, inl f) = inl (failed lt fits.0 d p.drivers p.notes p.took p.ended f)
+  failed lt fits (union_every d e) w notes took ended (p, inr f) = inr (failed lt fits.1 e p.drivers p.notes p.took p.ended f)
   failed lt fits (any_from_by d) w notes took ended f = failed lt fits d w notes took ended f

@@ -180,19 +180,19 @@ module _ (tables : List (List (List Value))) where
       → IsRead m s → FitsWidths (tree_of_run input) → Placed m input s
       → Below skipping tables n w (plan.aggregate_parts id source output m keys calls input) builds took
       → Came output m n s (tree_of_run input) keys calls (tasks w took)
-  came {m = m} {input = input} {s = s} n w id source output keys calls builds took r fits d (v, others, entered, gave, one, below, (between, under, makes), passed) =
+  came {m = m} {input = input} {s = s} n w id source output keys calls builds took r fits d (p, one, below, (between, under, makes), passed) =
       record {
-        ins = tasks v between;
-        parts = tasks v gave;
-        below = read skipping (tree_of_run input) tables m s (tasks v between) r
-            (composed skipping tables (some_tasks m s r) fits d (tasks v between) (wired skipping tables m v input others entered between below under));
-        each = in_pieces skipping tables (ArePartialsOf keys calls) m v between gave makes;
+        ins = tasks p.drivers between;
+        parts = tasks p.drivers p.gave;
+        below = read skipping (tree_of_run input) tables m s (tasks p.drivers between) r
+            (composed skipping tables (some_tasks m s r) fits d (tasks p.drivers between) (wired skipping tables m p.drivers input p.builds p.took between below under));
+        each = in_pieces skipping tables (ArePartialsOf keys calls) m p.drivers between p.gave makes;
         passed = passed;
       }
 
   alone_below : (m : ℕ) (input : RunPlan) (n w id source : ℕ) (output : Output) (keys : List ℕ) (calls : List Call) (builds : List TaskRows) (took : Lanes)
       → Below skipping tables n w (plan.aggregate_parts id source output m keys calls input) builds took → w ≡ 1
-  alone_below m input n w id source output keys calls builds took (v, others, entered, gave, one, below, into, passed) = one
+  alone_below m input n w id source output keys calls builds took (p, one, below, into, passed) = one
 
   -- the stage of a FINAL node failed on the rows that came so far, and on all that would come
   came_whole : {m : ℕ} {input : RunPlan} {s : Spread} (verdicts : List (List Value) → List Verdict) (kind : Fail) (n w id source : ℕ) (output : Output) (keys : List ℕ)

@@ -18,3 +18,4 @@ pub mod AmongLemmas
 pub mod FaultLemmas
 pub mod FailedLemmas
 pub mod WorkedRun
+pub mod WorkedStop

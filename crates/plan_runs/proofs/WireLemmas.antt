@@ -87,8 +87,8 @@ module _ (mode : Mode) (tables : List (List (List Value))) where
       same-trans (same-from_equal (sym (gather-agree n (tasks w took) (tasks w gave) (passed_on n w took gave went)))) below
   wired n w (plan.values id types rows) builds took gave below went =
       λ k lt. same-trans (same-from_equal (sym (passed_on n w took gave went k lt))) (below k lt)
-  wired n w (plan.remote id output m input) builds took gave (v, others, entered, sent, below, under, passed) went =
-      (tasks v sent, wired m v input others entered sent below under, λ k lt. same-trans (passed k lt) (same-from_equal (passed_on n w took gave went k lt)))
+  wired n w (plan.remote id output m input) builds took gave (p, below, under, passed) went =
+      (tasks p.drivers p.gave, wired m p.drivers input p.builds p.took p.gave below under, λ k lt. same-trans (passed k lt) (same-from_equal (passed_on n w took gave went k lt)))
   wired n w (plan.filter id predicate input) builds took gave below went =
       let types = types_of (tree_of_run input) in
       let b = into_last n w input builds (filter types predicate) took gave went in
@@ -98,13 +98,14 @@ module _ (mode : Mode) (tables : List (List (List Value))) where
       let b = into_last n w input builds (project types columns) took gave went in
       (tasks w b.0, wired n w input builds took b.0 below b.1, λ k lt. judged_drivers mode (project_judge types columns) w (b.0 k) (gave k) (λ d less. b.2 k d lt less))
   wired n w (plan.join id kind on left right) [] took gave none went = absurd none
-  wired n w (plan.join id kind on left right) (build ∷ builds) took gave (v, others, entered, built, under, made, fed, below) went =
+  wired n w (plan.join id kind on left right) (build ∷ builds) took gave (p, under, made, fed, below) went =
       let b = probed n w kind on left right build builds took gave went in (
         tasks w b.0,
-        tasks v built,
+        tasks p.drivers p.gave,
         wired n w left builds took b.0 below b.1,
-        wired n v right others entered built under made,
-        λ k lt. joined_drivers kind on (width_of (tree_of_run left)) (width_of (tree_of_run right)) w (b.0 k) (gave k) (build k) (tasks v built k) (fed k lt)
+        wired n p.drivers right p.builds p.took p.gave under made,
+        λ k lt. joined_drivers kind on (width_of (tree_of_run left)) (width_of (tree_of_run right)) w (b.0 k) (gave k) (build k)
+            (tasks p.drivers p.gave k) (fed k lt)
             (λ d less. b.2 k d lt less),
       )
   wired n w (plan.aggregate id keys calls input) builds took gave (one, below) went =
@@ -114,13 +115,13 @@ module _ (mode : Mode) (tables : List (List (List Value))) where
         wired n w input builds took b.0 below b.1,
         one_driver (λ rows given. Taken mode (groups_of types keys calls rows) given) (grouping types keys calls) n w one b.0 gave (λ x y h. h) b.2,
       )
-  wired n w (plan.aggregate_parts id source output m keys calls input) builds took gave (v, others, entered, sent, one, below, (between, under, makes), passed) went =
+  wired n w (plan.aggregate_parts id source output m keys calls input) builds took gave (p, one, below, (between, under, makes), passed) went =
       let stage = final (types_of (tree_of_run input)) (length keys) calls in (
-        tasks v between,
-        tasks v sent,
+        tasks p.drivers between,
+        tasks p.drivers p.gave,
         tasks w took,
-        wired m v input others entered between below under,
-        in_pieces (ArePartialsOf keys calls) m v between sent makes,
+        wired m p.drivers input p.builds p.took between below under,
+        in_pieces (ArePartialsOf keys calls) m p.drivers between p.gave makes,
         passed,
         one_driver (λ rows given. Taken mode (finals_of (types_of (tree_of_run input)) (length keys) calls rows) given) stage n w one took gave (λ x y h. h)
             (only_stages n w stage took gave went),
@@ -131,32 +132,32 @@ module _ (mode : Mode) (tables : List (List (List Value))) where
   wired n w (plan.topn id count keys input) builds took gave (one, below) went =
       let b = into_last n w input builds (topn count keys) took gave went in
       (tasks w b.0, wired n w input builds took b.0 below b.1, one_driver (IsTopOf keys count) (topn count keys) n w one b.0 gave (λ x y h. h) b.2)
-  wired n w (plan.topn_parts id source output m count keys input) builds took gave (v, others, entered, sent, one, below, (between, under, makes), passed) went = (
-    tasks v between,
-    tasks v sent,
+  wired n w (plan.topn_parts id source output m count keys input) builds took gave (p, one, below, (between, under, makes), passed) went = (
+    tasks p.drivers between,
+    tasks p.drivers p.gave,
     tasks w took,
-    wired m v input others entered between below under,
-    in_pieces (IsTopOf keys count) m v between sent makes,
+    wired m p.drivers input p.builds p.took between below under,
+    in_pieces (IsTopOf keys count) m p.drivers between p.gave makes,
     passed,
     one_driver (IsTopOf keys count) (topn count keys) n w one took gave (λ x y h. h) (only_stages n w (topn count keys) took gave went),
   )
   wired n w (plan.limit id count input) builds took gave (one, below) went =
       let b = into_last n w input builds (limit count) took gave went in
       (tasks w b.0, wired n w input builds took b.0 below b.1, one_driver (λ rows given. given ≡ take count rows) (limit count) n w one b.0 gave (λ x y h. h) b.2)
-  wired n w (plan.limit_parts id source output m count input) builds took gave (v, others, entered, sent, one, below, (between, under, makes), passed) went = (
-    tasks v between,
-    tasks v sent,
+  wired n w (plan.limit_parts id source output m count input) builds took gave (p, one, below, (between, under, makes), passed) went = (
+    tasks p.drivers between,
+    tasks p.drivers p.gave,
     tasks w took,
-    wired m v input others entered between below under,
-    in_pieces (IsFirstOf count) m v between sent
+    wired m p.drivers input p.builds p.took between below under,
+    in_pieces (IsFirstOf count) m p.drivers between p.gave
         (λ k d lt less. record { order = between k d; same = same-refl (between k d); is = makes k d lt less }),
     passed,
     one_driver (λ rows given. given ≡ take count rows) (limit count) n w one took gave (λ x y h. h) (only_stages n w (limit count) took gave went),
   )
-  wired n w (plan.union id left right) builds took gave (v, u, lefts, rights, entered, first, came, second, below, went_left, under, went_right, put) went = (
-    tasks v first,
-    tasks u second,
-    wired n v left lefts entered first below went_left,
-    wired n u right rights came second under went_right,
+  wired n w (plan.union id left right) builds took gave (p, q, below, went_left, under, went_right, put) went = (
+    tasks p.drivers p.gave,
+    tasks q.drivers q.gave,
+    wired n p.drivers left p.builds p.took p.gave below went_left,
+    wired n q.drivers right q.builds q.took q.gave under went_right,
     λ k lt. same-trans (put k lt) (same-from_equal (passed_on n w took gave went k lt)),
   )

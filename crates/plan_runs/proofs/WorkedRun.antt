@@ -66,10 +66,7 @@ answer k d = row 3 ∷ []
 
 below : Below strict tables 1 1 plan [] got
 below = (
-  2,
-  [],
-  claimed,
-  counted,
+  record { drivers = 2; builds = []; took = claimed; gave = counted },
   refl,
   claimed_all,
   (claimed, λ k d lt less. ([], refl, refl), λ k d lt less. same-refl (counted k d)),

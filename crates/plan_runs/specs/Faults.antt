@@ -11,7 +11,7 @@ use Rattle.plan_runs.specs.Nets.{Lanes}
 use Rattle.plan_runs.specs.RunPlans.{RunPlan, tree_of_run}
 use Rattle.plan_runs.specs.RunPlans as plan
 use Rattle.plan_runs.specs.Spreads.{Tables}
-use Rattle.plan_runs.specs.Stops.{AreOpen, Flags, MayCome, Notes, Stops}
+use Rattle.plan_runs.specs.Stops.{AreOpen, Flags, MayCome, Notes, StoppedPipe, Stops}
 
 -- a row among these fails so
 abbrev pub FailsOnOneOf : (List Value → Verdict) → Fail → List (List Value) → Type 0
@@ -21,9 +21,9 @@ FailsOnOneOf judge kind rows = (row : List Value) × Contains rows row × (judge
 abbrev pub FailsOnGroupOf : (List (List Value) → List Verdict) → Fail → List (List Value) → Type 0
 FailsOnGroupOf verdicts kind rows = Contains (verdicts rows) (fails kind)
 
--- a driver's stage over the input failed: what it took fails, whatever it would still take
-pub record FailedOver (Fails : List (List Value) → Type 0) (tables : Tables) (n w : ℕ) (input : RunPlan) (notes : Notes)
-    (took : Lanes) (ended : Flags) : Type 0 where
+-- a driver's stage over the input failed: what it took fails, with whatever it would still take
+pub record FailedOver (Fails : List (List Value) → Type 0) (tables : Tables) (n w : ℕ)
+    (input : RunPlan) (notes : Notes) (took : Lanes) (ended : Flags) : Type 0 where
   pub stops : Stops tables n w input notes took ended
   -- what the stages before gave in each driver, and in which of them they give no more
   pub gave : Lanes
@@ -34,52 +34,61 @@ pub record FailedOver (Fails : List (List Value) → Type 0) (tables : Tables) (
   pub driver : ℕ
   pub in_tasks : task < n
   pub in_drivers : driver < w
-  pub failed : (more : List (List Value)) → MayCome (done task driver) more → Fails (gave task driver ++ more)
+  pub failed : (more : List (List Value)) → MayCome (done task driver) more
+      → Fails (gave task driver ++ more)
 
 -- a FINAL stage failed over what came from its edge
-pub record FailedFinal (Fails : List (List Value) → Type 0) (tables : Tables) (n w : ℕ) (node : RunPlan) (notes : Notes)
-    (took : Lanes) (ended : Flags) : Type 0 where
+pub record FailedFinal (Fails : List (List Value) → Type 0) (tables : Tables) (n w : ℕ)
+    (node : RunPlan) (notes : Notes) (took : Lanes) (ended : Flags) : Type 0 where
   pub stops : Stops tables n w node notes took ended
   pub task : ℕ
   pub driver : ℕ
   pub in_tasks : task < n
   pub in_drivers : driver < w
-  pub failed : (more : List (List Value)) → MayCome (ended task driver) more → Fails (took task driver ++ more)
+  pub failed : (more : List (List Value)) → MayCome (ended task driver) more
+      → Fails (took task driver ++ more)
 
--- a driver failed so at the node of the id
+-- a driver failed so at the node of the id, in the node's pipeline or in one below
 abbrev pub Failed : Tables → ℕ → ℕ → RunPlan → Notes → Lanes → Flags → ℕ → Fail → Type 0
 Failed tables n w (plan.scan id table columns types) notes took ended node kind = ⊥
 Failed tables n w (plan.values id types rows) notes took ended node kind = ⊥
 Failed tables n w (plan.remote id output m input) notes took ended node kind =
-    (v : ℕ) × (known : Notes) × (entered : Lanes) × (over : Flags) × Failed tables m v input known entered over node kind
+    (p : StoppedPipe) × Failed tables m p.drivers input p.notes p.took p.ended node kind
 Failed tables n w (plan.filter id predicate input) notes took ended node kind =
     ((id ≡ node)
-    × FailedOver (FailsOnOneOf (filter_judge (types_of (tree_of_run input)) predicate) kind) tables n w input notes took ended)
+    × FailedOver (FailsOnOneOf (filter_judge (types_of (tree_of_run input)) predicate) kind)
+    tables n w input notes took ended)
     ⊎ Failed tables n w input notes took ended node kind
 Failed tables n w (plan.project id columns input) notes took ended node kind =
     ((id ≡ node)
-    × FailedOver (FailsOnOneOf (project_judge (types_of (tree_of_run input)) columns) kind) tables n w input notes took ended)
+    × FailedOver (FailsOnOneOf (project_judge (types_of (tree_of_run input)) columns) kind)
+    tables n w input notes took ended)
     ⊎ Failed tables n w input notes took ended node kind
 Failed tables n w (plan.join id how on left right) [] took ended node kind = ⊥
 Failed tables n w (plan.join id how on left right) (note ∷ notes) took ended node kind =
     Failed tables n w left notes took ended node kind
-    ⊎ (v : ℕ) × (known : Notes) × (entered : Lanes) × (over : Flags) × Failed tables n v right known entered over node kind
+    ⊎ (p : StoppedPipe) × Failed tables n p.drivers right p.notes p.took p.ended node kind
 Failed tables n w (plan.aggregate id keys calls input) notes took ended node kind =
     ((id ≡ node) × (w ≡ 1)
-    × FailedOver (FailsOnGroupOf (groups_of (types_of (tree_of_run input)) keys calls) kind) tables n w input notes took ended)
+    × FailedOver (FailsOnGroupOf (groups_of (types_of (tree_of_run input)) keys calls) kind)
+    tables n w input notes took ended)
     ⊎ Failed tables n w input notes took ended node kind
 Failed tables n w (plan.aggregate_parts id source output m keys calls input) notes took ended node kind =
     ((id ≡ node)
-    × FailedFinal (FailsOnGroupOf (finals_of (types_of (tree_of_run input)) (length keys) calls) kind) tables n w
-    (plan.aggregate_parts id source output m keys calls input) notes took ended)
-    ⊎ (v : ℕ) × (known : Notes) × (entered : Lanes) × (over : Flags) × Failed tables m v input known entered over node kind
-Failed tables n w (plan.sort id keys input) notes took ended node kind = Failed tables n w input notes took ended node kind
-Failed tables n w (plan.topn id count keys input) notes took ended node kind = Failed tables n w input notes took ended node kind
+    × FailedFinal (FailsOnGroupOf (finals_of (types_of (tree_of_run input)) (length keys) calls) kind)
+    tables n w (plan.aggregate_parts id source output m keys calls input) notes took ended)
+    ⊎ (p : StoppedPipe) × Failed tables m p.drivers input p.notes p.took p.ended node kind
+Failed tables n w (plan.sort id keys input) notes took ended node kind =
+    Failed tables n w input notes took ended node kind
+Failed tables n w (plan.topn id count keys input) notes took ended node kind =
+    Failed tables n w input notes took ended node kind
 Failed tables n w (plan.topn_parts id source output m count keys input) notes took ended node kind =
-    (v : ℕ) × (known : Notes) × (entered : Lanes) × (over : Flags) × Failed tables m v input known entered over node kind
-Failed tables n w (plan.limit id count input) notes took ended node kind = Failed tables n w input notes took ended node kind
+    (p : StoppedPipe) × Failed tables m p.drivers input p.notes p.took p.ended node kind
+Failed tables n w (plan.limit id count input) notes took ended node kind =
+    Failed tables n w input notes took ended node kind
 Failed tables n w (plan.limit_parts id source output m count input) notes took ended node kind =
-    (v : ℕ) × (known : Notes) × (entered : Lanes) × (over : Flags) × Failed tables m v input known entered over node kind
+    (p : StoppedPipe) × Failed tables m p.drivers input p.notes p.took p.ended node kind
 Failed tables n w (plan.union id left right) notes took ended node kind =
-    (v : ℕ) × (known : Notes) × (entered : Lanes) × (over : Flags)
-    × (Failed tables n v left known entered over node kind ⊎ Failed tables n v right known entered over node kind)
+    (p : StoppedPipe)
+    × (Failed tables n p.drivers left p.notes p.took p.ended node kind
+    ⊎ Failed tables n p.drivers right p.notes p.took p.ended node kind)

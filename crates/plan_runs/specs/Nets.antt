@@ -22,8 +22,8 @@ use Rattle.plan_runs.specs.RunPlans as plan
 use Rattle.plan_runs.specs.Runs.{Passed}
 use Rattle.plan_runs.specs.Spreads.{Tables}
 
--- the stages of a driver: types of rows where expressions and calls need them, the widths of both sides
--- of a join and the rows that its build gave
+-- the stages of a driver. Where expressions and calls need them they have the types of the rows that
+-- they take; a probe has the widths of both sides, and the rows that its task built
 pub data Stage : Type 0 where
   filter : List SqlType → Form → Stage
   project : List SqlType → List Form → Stage
@@ -39,7 +39,8 @@ pub data Stage : Type 0 where
 abbrev pub Makes : Mode → Stage → List (List Value) → List (List Value) → Type 0
 Makes mode (filter types predicate) took gave = Judged mode (filter_judge types predicate) took gave
 Makes mode (project types columns) took gave = Judged mode (project_judge types columns) took gave
-Makes mode (probe kind on left right built) took gave = SameWeights (join_of kind on left right took built) gave
+Makes mode (probe kind on left right built) took gave =
+    SameWeights (join_of kind on left right took built) gave
 Makes mode (grouping types keys calls) took gave = Taken mode (groups_of types keys calls took) gave
 Makes mode (partial keys calls) took gave = SameWeights (partials_of keys calls took) gave
 Makes mode (final types width calls) took gave = Taken mode (finals_of types width calls took) gave
@@ -50,7 +51,8 @@ Makes mode (limit count) took gave = gave ≡ take count took
 -- one stage after the other
 abbrev pub Chain : Mode → List Stage → List (List Value) → List (List Value) → Type 0
 Chain mode [] took gave = took ≡ gave
-Chain mode (stage ∷ stages) took gave = (between : List (List Value)) × Makes mode stage took between × Chain mode stages between gave
+Chain mode (stage ∷ stages) took gave =
+    (between : List (List Value)) × Makes mode stage took between × Chain mode stages between gave
 
 -- the rows of each driver of each task
 abbrev pub Lanes : Type 0
@@ -60,12 +62,13 @@ Lanes = ℕ → ℕ → List (List Value)
 abbrev pub tasks : ℕ → Lanes → TaskRows
 tasks drivers lanes k = gather drivers (lanes k)
 
--- the stages end with one of this kind, behind stages that are for the input
+-- the stages end with this one, behind stages that are for the input
 abbrev pub EndsWith : (List Stage → Type 0) → Stage → List Stage → Type 0
-EndsWith IsForInput stage stages = (rest : List Stage) × (stages ≡ rest ++ stage ∷ []) × IsForInput rest
+EndsWith IsForInput stage stages =
+    (rest : List Stage) × (stages ≡ rest ++ stage ∷ []) × IsForInput rest
 
--- the stages of the pipeline of a node in task k. The builds are the rows that the builders of the joins
--- along the left sides took in each task, from the node down; a probe has them in any order
+-- the stages of the pipeline of a node in task k. The builds are the rows that the joins along the left
+-- sides built in each task, from the node down; a probe has them in any order
 abbrev pub AreFor : RunPlan → List TaskRows → ℕ → List Stage → Type 0
 AreFor (plan.scan id table columns types) builds k stages = stages ≡ []
 AreFor (plan.values id types rows) builds k stages = stages ≡ []
@@ -77,60 +80,89 @@ AreFor (plan.project id columns input) builds k stages =
 AreFor (plan.join id kind on left right) [] k stages = ⊥
 AreFor (plan.join id kind on left right) (build ∷ builds) k stages =
     (built : List (List Value)) × SameWeights (build k) built
-    × EndsWith (AreFor left builds k) (probe kind on (width_of (tree_of_run left)) (width_of (tree_of_run right)) built) stages
+    × EndsWith (AreFor left builds k)
+    (probe kind on (width_of (tree_of_run left)) (width_of (tree_of_run right)) built) stages
 AreFor (plan.aggregate id keys calls input) builds k stages =
     EndsWith (AreFor input builds k) (grouping (types_of (tree_of_run input)) keys calls) stages
 AreFor (plan.aggregate_parts id source output m keys calls input) builds k stages =
     stages ≡ final (types_of (tree_of_run input)) (length keys) calls ∷ []
-AreFor (plan.sort id keys input) builds k stages = EndsWith (AreFor input builds k) (sort keys) stages
-AreFor (plan.topn id count keys input) builds k stages = EndsWith (AreFor input builds k) (topn count keys) stages
-AreFor (plan.topn_parts id source output m count keys input) builds k stages = stages ≡ topn count keys ∷ []
-AreFor (plan.limit id count input) builds k stages = EndsWith (AreFor input builds k) (limit count) stages
+AreFor (plan.sort id keys input) builds k stages =
+    EndsWith (AreFor input builds k) (sort keys) stages
+AreFor (plan.topn id count keys input) builds k stages =
+    EndsWith (AreFor input builds k) (topn count keys) stages
+AreFor (plan.topn_parts id source output m count keys input) builds k stages =
+    stages ≡ topn count keys ∷ []
+AreFor (plan.limit id count input) builds k stages =
+    EndsWith (AreFor input builds k) (limit count) stages
 AreFor (plan.limit_parts id source output m count input) builds k stages = stages ≡ limit count ∷ []
 AreFor (plan.union id left right) builds k stages = stages ≡ []
 
 -- each driver of the node's pipeline gave what its stages make of the rows that it took
 abbrev pub Went : Mode → ℕ → ℕ → RunPlan → List TaskRows → Lanes → Lanes → Type 0
-Went mode n drivers node builds took gave = (k d : ℕ) → k < n → d < drivers
+Went mode n drivers node builds took gave =
+    (k d : ℕ) → k < n → d < drivers
     → (stages : List Stage) × AreFor node builds k stages × Chain mode stages (took k d) (gave k d)
 
--- the same with one more stage, the PARTIAL one that is the fragment's root
+-- the same with one more stage, of the PARTIAL node that is the fragment's root
 abbrev pub WentInto : Stage → Mode → ℕ → ℕ → RunPlan → List TaskRows → Lanes → Lanes → Type 0
 WentInto stage mode n drivers node builds took gave =
     (between : Lanes) × Went mode n drivers node builds took between
     × ((k d : ℕ) → k < n → d < drivers → Makes mode stage (between k d) (gave k d))
 
--- what the sources of the node's pipeline gave its drivers, and all pipelines below. The pipelines of
--- nodes that see all rows of a task have one driver
+-- the pipeline of a node, in all tasks of its fragment: its drivers in each task, the builds, and what
+-- each driver took and gave
+pub record Pipe : Type 0 where
+  pub drivers : ℕ
+  pub builds : List TaskRows
+  pub took : Lanes
+  pub gave : Lanes
+
+-- what the sources of a node's pipeline, with `w` drivers in each of `n` tasks, gave these drivers, and
+-- all pipelines below. Where a node has to see all rows of its task there is one driver
 abbrev pub Below : Mode → Tables → ℕ → ℕ → RunPlan → List TaskRows → Lanes → Type 0
 Below mode tables n w (plan.scan id table columns types) builds took =
     SameWeights (gather n (tasks w took)) (scanned tables table columns)
-Below mode tables n w (plan.values id types rows) builds took = (k : ℕ) → k < n → SameWeights (tasks w took k) rows
+Below mode tables n w (plan.values id types rows) builds took =
+    (k : ℕ) → k < n → SameWeights (tasks w took k) rows
 Below mode tables n w (plan.remote id output m input) builds took =
-    (v : ℕ) × (others : List TaskRows) × (entered : Lanes) × (gave : Lanes) × Below mode tables m v input others entered
-    × Went mode m v input others entered gave × Passed output m n (tasks v gave) (tasks w took)
-Below mode tables n w (plan.filter id predicate input) builds took = Below mode tables n w input builds took
-Below mode tables n w (plan.project id columns input) builds took = Below mode tables n w input builds took
+    (p : Pipe) × Below mode tables m p.drivers input p.builds p.took
+    × Went mode m p.drivers input p.builds p.took p.gave
+    × Passed output m n (tasks p.drivers p.gave) (tasks w took)
+Below mode tables n w (plan.filter id predicate input) builds took =
+    Below mode tables n w input builds took
+Below mode tables n w (plan.project id columns input) builds took =
+    Below mode tables n w input builds took
 Below mode tables n w (plan.join id kind on left right) [] took = ⊥
 Below mode tables n w (plan.join id kind on left right) (build ∷ builds) took =
-    (v : ℕ) × (others : List TaskRows) × (entered : Lanes) × (gave : Lanes) × Below mode tables n v right others entered
-    × Went mode n v right others entered gave × ((k : ℕ) → k < n → SameWeights (tasks v gave k) (build k))
+    (p : Pipe) × Below mode tables n p.drivers right p.builds p.took
+    × Went mode n p.drivers right p.builds p.took p.gave
+    × ((k : ℕ) → k < n → SameWeights (tasks p.drivers p.gave k) (build k))
     × Below mode tables n w left builds took
-Below mode tables n w (plan.aggregate id keys calls input) builds took = (w ≡ 1) × Below mode tables n w input builds took
+Below mode tables n w (plan.aggregate id keys calls input) builds took =
+    (w ≡ 1) × Below mode tables n w input builds took
 Below mode tables n w (plan.aggregate_parts id source output m keys calls input) builds took =
-    (v : ℕ) × (others : List TaskRows) × (entered : Lanes) × (gave : Lanes) × (w ≡ 1) × Below mode tables m v input others entered
-    × WentInto (partial keys calls) mode m v input others entered gave × Passed output m n (tasks v gave) (tasks w took)
-Below mode tables n w (plan.sort id keys input) builds took = (w ≡ 1) × Below mode tables n w input builds took
-Below mode tables n w (plan.topn id count keys input) builds took = (w ≡ 1) × Below mode tables n w input builds took
+    (p : Pipe) × (w ≡ 1) × Below mode tables m p.drivers input p.builds p.took
+    × WentInto (partial keys calls) mode m p.drivers input p.builds p.took p.gave
+    × Passed output m n (tasks p.drivers p.gave) (tasks w took)
+Below mode tables n w (plan.sort id keys input) builds took =
+    (w ≡ 1) × Below mode tables n w input builds took
+Below mode tables n w (plan.topn id count keys input) builds took =
+    (w ≡ 1) × Below mode tables n w input builds took
 Below mode tables n w (plan.topn_parts id source output m count keys input) builds took =
-    (v : ℕ) × (others : List TaskRows) × (entered : Lanes) × (gave : Lanes) × (w ≡ 1) × Below mode tables m v input others entered
-    × WentInto (topn count keys) mode m v input others entered gave × Passed output m n (tasks v gave) (tasks w took)
-Below mode tables n w (plan.limit id count input) builds took = (w ≡ 1) × Below mode tables n w input builds took
+    (p : Pipe) × (w ≡ 1) × Below mode tables m p.drivers input p.builds p.took
+    × WentInto (topn count keys) mode m p.drivers input p.builds p.took p.gave
+    × Passed output m n (tasks p.drivers p.gave) (tasks w took)
+Below mode tables n w (plan.limit id count input) builds took =
+    (w ≡ 1) × Below mode tables n w input builds took
 Below mode tables n w (plan.limit_parts id source output m count input) builds took =
-    (v : ℕ) × (others : List TaskRows) × (entered : Lanes) × (gave : Lanes) × (w ≡ 1) × Below mode tables m v input others entered
-    × WentInto (limit count) mode m v input others entered gave × Passed output m n (tasks v gave) (tasks w took)
+    (p : Pipe) × (w ≡ 1) × Below mode tables m p.drivers input p.builds p.took
+    × WentInto (limit count) mode m p.drivers input p.builds p.took p.gave
+    × Passed output m n (tasks p.drivers p.gave) (tasks w took)
 Below mode tables n w (plan.union id left right) builds took =
-    (v : ℕ) × (u : ℕ) × (lefts : List TaskRows) × (rights : List TaskRows) × (entered : Lanes) × (gave : Lanes) × (came : Lanes) × (brought : Lanes)
-    × Below mode tables n v left lefts entered × Went mode n v left lefts entered gave
-    × Below mode tables n u right rights came × Went mode n u right rights came brought
-    × ((k : ℕ) → k < n → SameWeights (tasks v gave k ++ tasks u brought k) (tasks w took k))
+    (p : Pipe) × (q : Pipe)
+    × Below mode tables n p.drivers left p.builds p.took
+    × Went mode n p.drivers left p.builds p.took p.gave
+    × Below mode tables n q.drivers right q.builds q.took
+    × Went mode n q.drivers right q.builds q.took q.gave
+    × ((k : ℕ) → k < n
+    → SameWeights (tasks p.drivers p.gave k ++ tasks q.drivers q.gave k) (tasks w took k))

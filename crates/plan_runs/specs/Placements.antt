@@ -21,14 +21,19 @@ IsRead tasks every = ⊥
 -- the expressions at the places are plain columns
 abbrev pub AreColumnsAt : List Form → List ℕ → List ℕ → Type 0
 AreColumnsAt forms places columns =
-    AllBelow (length forms) places × (map (λ place. get_or forms place (column 0)) places ≡ map column columns)
+    AllBelow (length forms) places
+    × (map (λ place. get_or forms place (column 0)) places ≡ map column columns)
 
 -- node by node. Where one task runs a fragment, each node is allowed; where several do, these are:
 pub data Placed : ℕ → RunPlan → Spread → Type 0 where
-  scan_whole : {id table : ℕ} {columns : List ℕ} {types : List SqlType} → Placed 1 (scan id table columns types) whole
-  scan_any : {n id table : ℕ} {columns : List ℕ} {types : List SqlType} → Placed n (scan id table columns types) any
-  values_whole : {id : ℕ} {types : List SqlType} {rows : List (List Value)} → Placed 1 (values id types rows) whole
-  values_every : {n id : ℕ} {types : List SqlType} {rows : List (List Value)} → Placed n (values id types rows) every
+  scan_whole : {id table : ℕ} {columns : List ℕ} {types : List SqlType}
+      → Placed 1 (scan id table columns types) whole
+  scan_any : {n id table : ℕ} {columns : List ℕ} {types : List SqlType}
+      → Placed n (scan id table columns types) any
+  values_whole : {id : ℕ} {types : List SqlType} {rows : List (List Value)}
+      → Placed 1 (values id types rows) whole
+  values_every : {n id : ℕ} {types : List SqlType} {rows : List (List Value)}
+      → Placed n (values id types rows) every
   remote_whole : {id m : ℕ} {input : RunPlan} {s : Spread}
       → IsRead m s → Placed m input s → Placed 1 (remote id single m input) whole
   remote_by : {n id m : ℕ} {input : RunPlan} {s : Spread} {columns : List ℕ}
@@ -49,19 +54,24 @@ pub data Placed : ℕ → RunPlan → Spread → Type 0 where
       → Placed n input every → Placed n (project id columns input) every
   join_whole : {id : ℕ} {kind : JoinKind} {on : List (ℕ × ℕ)} {left right : RunPlan}
       → Placed 1 left whole → Placed 1 right whole → Placed 1 (join id kind on left right) whole
-  join_right_every : {n id : ℕ} {kind : JoinKind} {on : List (ℕ × ℕ)} {left right : RunPlan} {s : Spread}
+  join_right_every : {n id : ℕ} {kind : JoinKind} {on : List (ℕ × ℕ)} {left right : RunPlan}
+      {s : Spread}
       → Placed n left s → Placed n right every → Placed n (join id kind on left right) s
-  join_by : {n id : ℕ} {kind : JoinKind} {on : List (ℕ × ℕ)} {left right : RunPlan} (pairs : List (ℕ × ℕ))
-      → All (Contains on) pairs → Placed n left (by (lefts pairs)) → Placed n right (by (rights pairs))
+  join_by : {n id : ℕ} {kind : JoinKind} {on : List (ℕ × ℕ)} {left right : RunPlan}
+      (pairs : List (ℕ × ℕ)) → All (Contains on) pairs
+      → Placed n left (by (lefts pairs)) → Placed n right (by (rights pairs))
       → Placed n (join id kind on left right) (by (lefts pairs))
   aggregate_whole : {id : ℕ} {keys : List ℕ} {calls : List Call} {input : RunPlan}
       → Placed 1 input whole → Placed 1 (aggregate id keys calls input) whole
   aggregate_by : {n id : ℕ} {keys places : List ℕ} {calls : List Call} {input : RunPlan}
-      → 0 < length keys → AllBelow (length keys) places → Placed n input (by (at_places keys places))
+      → 0 < length keys → AllBelow (length keys) places
+      → Placed n input (by (at_places keys places))
       → Placed n (aggregate id keys calls input) (by places)
   final_whole : {id source m : ℕ} {keys : List ℕ} {calls : List Call} {input : RunPlan} {s : Spread}
-      → IsRead m s → Placed m input s → Placed 1 (aggregate_parts id source single m keys calls input) whole
-  final_by : {n id source m : ℕ} {keys columns : List ℕ} {calls : List Call} {input : RunPlan} {s : Spread}
+      → IsRead m s → Placed m input s
+      → Placed 1 (aggregate_parts id source single m keys calls input) whole
+  final_by : {n id source m : ℕ} {keys columns : List ℕ} {calls : List Call} {input : RunPlan}
+      {s : Spread}
       → 0 < length keys → AllBelow (length keys) columns → IsRead m s → Placed m input s
       → Placed n (aggregate_parts id source (hashed columns) m keys calls input) (by columns)
   sort_whole : {id : ℕ} {keys : List KeySpec} {input : RunPlan}
@@ -69,7 +79,8 @@ pub data Placed : ℕ → RunPlan → Spread → Type 0 where
   topn_whole : {id count : ℕ} {keys : List KeySpec} {input : RunPlan}
       → Placed 1 input whole → Placed 1 (topn id count keys input) whole
   topn_parts_whole : {id source m count : ℕ} {keys : List KeySpec} {input : RunPlan} {s : Spread}
-      → IsRead m s → Placed m input s → Placed 1 (topn_parts id source single m count keys input) whole
+      → IsRead m s → Placed m input s
+      → Placed 1 (topn_parts id source single m count keys input) whole
   limit_whole : {id count : ℕ} {input : RunPlan}
       → Placed 1 input whole → Placed 1 (limit id count input) whole
   limit_parts_whole : {id source m count : ℕ} {input : RunPlan} {s : Spread}
@@ -81,4 +92,5 @@ pub data Placed : ℕ → RunPlan → Spread → Type 0 where
   union_every : {n id : ℕ} {left right : RunPlan}
       → Placed n left every → Placed n right every → Placed n (union id left right) every
   -- rows that sit by bucket are each in one task
-  any_from_by : {n : ℕ} {plan : RunPlan} {columns : List ℕ} → Placed n plan (by columns) → Placed n plan any
+  any_from_by : {n : ℕ} {plan : RunPlan} {columns : List ℕ}
+      → Placed n plan (by columns) → Placed n plan any

@@ -9,15 +9,15 @@ use Rattle.sql_exprs.specs.Forms.{Form}
 use Rattle.plan_trees.specs.TreeForms.{TreeForm}
 use Rattle.plan_trees.specs.TreeForms as tree
 
--- where the rows of a fragment go: to the one task that reads, each to the task that is the bucket of
--- its columns, or all to each task
+-- where the rows of a fragment go: to the one task that reads them, each to the task that is the bucket
+-- of its columns, or all to each task
 pub data Output : Type 0 where
   single : Output
   hashed : List ℕ → Output
   broadcast : Output
 
--- each node begins with its id. A remote source names the output, and how many tasks run what is below.
--- A FINAL node, its remote source and the PARTIAL node below are one node, with the ids of the first two
+-- each node begins with its id. A remote source has the output kind, and how many tasks run the fragment
+-- below. A FINAL node, its remote source and the PARTIAL node below are one, with the first two's ids
 pub data RunPlan : Type 0 where
   scan : ℕ → ℕ → List ℕ → List SqlType → RunPlan
   values : ℕ → List SqlType → List (List Value) → RunPlan
@@ -41,7 +41,8 @@ tree_of_run (values id types rows) = tree.values id types rows
 tree_of_run (remote id output tasks input) = tree.remote id (tree_of_run input)
 tree_of_run (filter id predicate input) = tree.filter id predicate (tree_of_run input)
 tree_of_run (project id columns input) = tree.project id columns (tree_of_run input)
-tree_of_run (join id kind on left right) = tree.join id kind on (tree_of_run left) (tree_of_run right)
+tree_of_run (join id kind on left right) =
+    tree.join id kind on (tree_of_run left) (tree_of_run right)
 tree_of_run (aggregate id keys calls input) = tree.aggregate id keys calls (tree_of_run input)
 tree_of_run (aggregate_parts id source output tasks keys calls input) =
     tree.aggregate id keys calls (tree.remote source (tree_of_run input))
@@ -50,5 +51,6 @@ tree_of_run (topn id count keys input) = tree.topn id count keys (tree_of_run in
 tree_of_run (topn_parts id source output tasks count keys input) =
     tree.topn id count keys (tree.remote source (tree_of_run input))
 tree_of_run (limit id count input) = tree.limit id count (tree_of_run input)
-tree_of_run (limit_parts id source output tasks count input) = tree.limit id count (tree.remote source (tree_of_run input))
+tree_of_run (limit_parts id source output tasks count input) =
+    tree.limit id count (tree.remote source (tree_of_run input))
 tree_of_run (union id left right) = tree.union id (tree_of_run left) (tree_of_run right)

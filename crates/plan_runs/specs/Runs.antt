@@ -25,10 +25,12 @@ sent broadcast tasks k rows = rows
 
 -- each of the reading tasks got what was sent to it of the rows that the tasks below gave, in any order
 abbrev pub Passed : Output → ℕ → ℕ → TaskRows → TaskRows → Type 0
-Passed output below tasks gave got = (k : ℕ) → k < tasks → SameWeights (sent output tasks k (gather below gave)) (got k)
+Passed output below tasks gave got =
+    (k : ℕ) → k < tasks → SameWeights (sent output tasks k (gather below gave)) (got k)
 
 -- the rows were cut into pieces, one for each driver, and what these gave was put together
-pub record InPieces (Gave : List (List Value) → List (List Value) → Type 0) (rows given : List (List Value)) : Type 0 where
+pub record InPieces (Gave : List (List Value) → List (List Value) → Type 0)
+    (rows given : List (List Value)) : Type 0 where
   pub drivers : ℕ
   pub pieces : TaskRows
   pub gave : TaskRows
@@ -36,7 +38,8 @@ pub record InPieces (Gave : List (List Value) → List (List Value) → Type 0) 
   pub each : (d : ℕ) → d < drivers → Gave (pieces d) (gave d)
   pub together : SameWeights (gather drivers gave) given
 
-abbrev pub AllInPieces : (List (List Value) → List (List Value) → Type 0) → ℕ → TaskRows → TaskRows → Type 0
+abbrev pub AllInPieces : (List (List Value) → List (List Value) → Type 0)
+    → ℕ → TaskRows → TaskRows → Type 0
 AllInPieces Gave tasks rows given = (j : ℕ) → j < tasks → InPieces Gave (rows j) (given j)
 
 abbrev pub ArePartialsOf : List ℕ → List Call → List (List Value) → List (List Value) → Type 0
@@ -44,36 +47,47 @@ ArePartialsOf keys calls rows given = SameWeights (partials_of keys calls rows) 
 
 -- at each node: what the tasks below a number gave of what they, or the tasks below an edge, had
 abbrev pub Ran : Mode → Tables → ℕ → RunPlan → TaskRows → Type 0
-Ran mode tables n (scan id table columns types) out = SameWeights (gather n out) (scanned tables table columns)
+Ran mode tables n (scan id table columns types) out =
+    SameWeights (gather n out) (scanned tables table columns)
 Ran mode tables n (values id types rows) out = (k : ℕ) → k < n → SameWeights (out k) rows
-Ran mode tables n (remote id output m input) out = (ins : TaskRows) × Ran mode tables m input ins × Passed output m n ins out
+Ran mode tables n (remote id output m input) out =
+    (ins : TaskRows) × Ran mode tables m input ins × Passed output m n ins out
 Ran mode tables n (filter id predicate input) out =
     (ins : TaskRows) × Ran mode tables n input ins
-    × ((k : ℕ) → k < n → Judged mode (filter_judge (types_of (tree_of_run input)) predicate) (ins k) (out k))
+    × ((k : ℕ) → k < n
+    → Judged mode (filter_judge (types_of (tree_of_run input)) predicate) (ins k) (out k))
 Ran mode tables n (project id columns input) out =
     (ins : TaskRows) × Ran mode tables n input ins
-    × ((k : ℕ) → k < n → Judged mode (project_judge (types_of (tree_of_run input)) columns) (ins k) (out k))
+    × ((k : ℕ) → k < n
+    → Judged mode (project_judge (types_of (tree_of_run input)) columns) (ins k) (out k))
 Ran mode tables n (join id kind on left right) out =
     (ls : TaskRows) × (rs : TaskRows) × Ran mode tables n left ls × Ran mode tables n right rs
     × ((k : ℕ) → k < n
-    → SameWeights (join_of kind on (width_of (tree_of_run left)) (width_of (tree_of_run right)) (ls k) (rs k)) (out k))
+    → SameWeights
+    (join_of kind on (width_of (tree_of_run left)) (width_of (tree_of_run right)) (ls k) (rs k))
+    (out k))
 Ran mode tables n (aggregate id keys calls input) out =
     (ins : TaskRows) × Ran mode tables n input ins
-    × ((k : ℕ) → k < n → Taken mode (groups_of (types_of (tree_of_run input)) keys calls (ins k)) (out k))
+    × ((k : ℕ) → k < n
+    → Taken mode (groups_of (types_of (tree_of_run input)) keys calls (ins k)) (out k))
 Ran mode tables n (aggregate_parts id source output m keys calls input) out =
     (ins : TaskRows) × (parts : TaskRows) × (got : TaskRows) × Ran mode tables m input ins
     × AllInPieces (ArePartialsOf keys calls) m ins parts × Passed output m n parts got
-    × ((k : ℕ) → k < n → Taken mode (finals_of (types_of (tree_of_run input)) (length keys) calls (got k)) (out k))
+    × ((k : ℕ) → k < n
+    → Taken mode (finals_of (types_of (tree_of_run input)) (length keys) calls (got k)) (out k))
 Ran mode tables n (sort id keys input) out =
-    (ins : TaskRows) × Ran mode tables n input ins × ((k : ℕ) → k < n → IsSortOf keys (ins k) (out k))
+    (ins : TaskRows) × Ran mode tables n input ins
+    × ((k : ℕ) → k < n → IsSortOf keys (ins k) (out k))
 Ran mode tables n (topn id count keys input) out =
-    (ins : TaskRows) × Ran mode tables n input ins × ((k : ℕ) → k < n → IsTopOf keys count (ins k) (out k))
+    (ins : TaskRows) × Ran mode tables n input ins
+    × ((k : ℕ) → k < n → IsTopOf keys count (ins k) (out k))
 Ran mode tables n (topn_parts id source output m count keys input) out =
     (ins : TaskRows) × (parts : TaskRows) × (got : TaskRows) × Ran mode tables m input ins
     × AllInPieces (IsTopOf keys count) m ins parts × Passed output m n parts got
     × ((k : ℕ) → k < n → IsTopOf keys count (got k) (out k))
 Ran mode tables n (limit id count input) out =
-    (ins : TaskRows) × Ran mode tables n input ins × ((k : ℕ) → k < n → out k ≡ take count (ins k))
+    (ins : TaskRows) × Ran mode tables n input ins
+    × ((k : ℕ) → k < n → out k ≡ take count (ins k))
 Ran mode tables n (limit_parts id source output m count input) out =
     (ins : TaskRows) × (parts : TaskRows) × (got : TaskRows) × Ran mode tables m input ins
     × AllInPieces (IsFirstOf count) m ins parts × Passed output m n parts got

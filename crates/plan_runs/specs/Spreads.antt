@@ -13,8 +13,8 @@ use Rattle.plan_trees.specs.Allowed.{Gives, Mode}
 abbrev pub Tables : Type 0
 Tables = List (List (List Value))
 
--- one task has all rows, in the order in which it gave them; each row is in one task; each row is in the
--- task that is the bucket of its columns; each task has all rows
+-- one task has all rows, in the order in which it gave them; each row is in one task; each row is in
+-- the task that is the bucket of its columns; each task has all rows
 pub data Spread : Type 0 where
   whole : Spread
   any : Spread
@@ -22,13 +22,15 @@ pub data Spread : Type 0 where
   every : Spread
 
 -- the tasks' lists together are one that the tree gives, in any order
-pub record Together (mode : Mode) (tree : TreeForm) (tables : Tables) (tasks : ℕ) (lists : TaskRows) : Type 0 where
+pub record Together (mode : Mode) (tree : TreeForm) (tables : Tables) (tasks : ℕ)
+    (lists : TaskRows) : Type 0 where
   pub rows : List (List Value)
   pub given : Gives mode tree tables rows
   pub same : SameWeights (gather tasks lists) rows
 
 -- each task has one that the tree gives, in any order
-pub record ForEach (mode : Mode) (tree : TreeForm) (tables : Tables) (tasks : ℕ) (lists : TaskRows) : Type 0 where
+pub record ForEach (mode : Mode) (tree : TreeForm) (tables : Tables) (tasks : ℕ)
+    (lists : TaskRows) : Type 0 where
   pub rows : List (List Value)
   pub given : Gives mode tree tables rows
   pub same : (k : ℕ) → k < tasks → SameWeights (lists k) rows

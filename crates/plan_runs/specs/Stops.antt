@@ -1,4 +1,4 @@
--- A run that something stopped: its drivers stand anywhere, and each can go on, whatever still comes.
+-- A run that something stopped: its drivers stand anywhere, and each can go on, whatever comes.
 use Rattle.std.specs.Prelude.{◌≡◌, ℕ, ◌<◌, List, [], ◌∷◌, ◌++◌, Bool, true, Option, Some, None}
 use Rattle.sql_values.specs.declared.value.Value.{Value}
 use Rattle.bag_laws.specs.Gather.{gather}
@@ -18,21 +18,24 @@ Flags = ℕ → ℕ → Bool
 abbrev pub AllSet : ℕ → ℕ → Flags → Type 0
 AllSet n w flags = (k d : ℕ) → k < n → d < w → flags k d ≡ true
 
--- rows that may still come
+-- no row comes where that is over
 abbrev pub MayCome : Bool → List (List Value) → Type 0
-MayCome ended more = ended ≡ true → more ≡ []
+MayCome over more = over ≡ true → more ≡ []
 
--- where more rows come, the stages give more, with failing rows and groups left out; and no more rows
--- where the driver is done
-pub record GoesOn (stages : List Stage) (took gave : List (List Value)) (done : Bool) (more : List (List Value)) : Type 0 where
+-- the stages of a driver go on with more rows, those that fail left out; where the driver is done they
+-- give no more
+pub record GoesOn (stages : List Stage) (took gave : List (List Value)) (done : Bool)
+    (more : List (List Value)) : Type 0 where
   pub rest : List (List Value)
   pub chain : Chain skipping stages (took ++ more) (gave ++ rest)
   pub none : MayCome done rest
 
+-- they can go on, whatever comes
 abbrev pub CanGoOn : List Stage → List (List Value) → List (List Value) → Bool → Bool → Type 0
-CanGoOn stages took gave ended done = (more : List (List Value)) → MayCome ended more → GoesOn stages took gave done more
+CanGoOn stages took gave ended done =
+    (more : List (List Value)) → MayCome ended more → GoesOn stages took gave done more
 
--- what the drivers' notes know of the builds of the joins along the left sides, from the node down
+-- what the notes of each driver know of the builds of the joins along the left sides, from the node down
 abbrev pub Notes : Type 0
 Notes = List (ℕ → ℕ → Option (List (List Value)))
 
@@ -44,26 +47,29 @@ IsNoted (Some built) build = SameWeights build built
 abbrev pub AreNoted : Notes → List TaskRows → ℕ → ℕ → Type 0
 AreNoted [] builds k d = Unit {0}
 AreNoted (note ∷ notes) [] k d = ⊥
-AreNoted (note ∷ notes) (build ∷ builds) k d = IsNoted (note k d) (build k) × AreNoted notes builds k d
+AreNoted (note ∷ notes) (build ∷ builds) k d =
+    IsNoted (note k d) (build k) × AreNoted notes builds k d
 
--- each driver of the node's pipeline, with some last stages, can go on, whatever the builds are that its
--- notes do not know
+-- each driver of the node's pipeline, with some last stages, can go on, whatever the builds are of which
+-- its notes know nothing
 abbrev pub AreOpen : List Stage → ℕ → ℕ → RunPlan → Notes → Lanes → Lanes → Flags → Flags → Type 0
-AreOpen last n w node notes took gave ended done = (k d : ℕ) → k < n → d < w
-    → (builds : List TaskRows) → AreNoted notes builds k d
-    → (stages : List Stage) × AreFor node builds k stages × CanGoOn (stages ++ last) (took k d) (gave k d) (ended k d) (done k d)
+AreOpen last n w node notes took gave ended done =
+    (k d : ℕ) → k < n → d < w → (builds : List TaskRows) → AreNoted notes builds k d
+    → (stages : List Stage) × AreFor node builds k stages
+    × CanGoOn (stages ++ last) (took k d) (gave k d) (ended k d) (done k d)
 
--- the drivers of a task took some of what was put for it; where all of them have ended, they took it all,
--- and those who put it are done
-pub record TookOf (drivers : ℕ) (took : ℕ → List (List Value)) (ended : ℕ → Bool) (put : List (List Value)) (AreDone : Type 0) : Type 0 where
+-- the drivers of a task took some of the rows that were put for it. Where all of them have ended, they
+-- took them all, and those who put rows are done
+pub record TookOf (drivers : ℕ) (took : TaskRows) (ended : ℕ → Bool) (put : List (List Value))
+    (AreDone : Type 0) : Type 0 where
   pub left : List (List Value)
   pub some : SameWeights (gather drivers took ++ left) put
   pub all : ((d : ℕ) → d < drivers → ended d ≡ true) → left ≡ []
   pub closed : ((d : ℕ) → d < drivers → ended d ≡ true) → AreDone
 
--- the drivers of a pipeline that others take from: how many, their notes, what they took and gave, whose
--- sources have ended, and who gives no more
-pub record Givers : Type 0 where
+-- the pipeline of a node as it stands, in all tasks of its fragment: its drivers in each task, what their
+-- notes know, what each took and gave, whose sources have ended, and who gives no more
+pub record StoppedPipe : Type 0 where
   pub drivers : ℕ
   pub notes : Notes
   pub took : Lanes
@@ -72,51 +78,62 @@ pub record Givers : Type 0 where
   pub done : Flags
 
 -- what passed an edge so far
-abbrev pub PassedSoFar : Output → ℕ → ℕ → Givers → ℕ → Lanes → Flags → Type 0
-PassedSoFar output m n g w took ended =
+abbrev pub PassedSoFar : Output → ℕ → ℕ → StoppedPipe → ℕ → Lanes → Flags → Type 0
+PassedSoFar output m n p w took ended =
     (k : ℕ) → k < n
-    → TookOf w (took k) (ended k) (sent output n k (gather m (tasks g.drivers g.gave))) (AllSet m g.drivers g.done)
+    → TookOf w (took k) (ended k) (sent output n k (gather m (tasks p.drivers p.gave)))
+    (AllSet m p.drivers p.done)
 
--- what drivers of a stopped run took from their sources, and all pipelines below. Where no join is left
--- there are no notes
+-- what the drivers of a node's pipeline took from its sources so far, and all pipelines below. Where no
+-- join is left there are no notes
 abbrev pub Stops : Tables → ℕ → ℕ → RunPlan → Notes → Lanes → Flags → Type 0
 Stops tables n w (plan.scan id table columns types) notes took ended =
-    (left : List (List Value)) × (notes ≡ []) × SameWeights (gather n (tasks w took) ++ left) (scanned tables table columns)
+    (left : List (List Value)) × (notes ≡ [])
+    × SameWeights (gather n (tasks w took) ++ left) (scanned tables table columns)
     × (AllSet n w ended → left ≡ [])
 Stops tables n w (plan.values id types rows) notes took ended =
     (notes ≡ []) × ((k : ℕ) → k < n → TookOf w (took k) (ended k) rows (Unit {0}))
 Stops tables n w (plan.remote id output m input) notes took ended =
-    (g : Givers) × (notes ≡ []) × Stops tables m g.drivers input g.notes g.took g.ended
-    × AreOpen [] m g.drivers input g.notes g.took g.gave g.ended g.done
-    × PassedSoFar output m n g w took ended
-Stops tables n w (plan.filter id predicate input) notes took ended = Stops tables n w input notes took ended
-Stops tables n w (plan.project id columns input) notes took ended = Stops tables n w input notes took ended
+    (p : StoppedPipe) × (notes ≡ []) × Stops tables m p.drivers input p.notes p.took p.ended
+    × AreOpen [] m p.drivers input p.notes p.took p.gave p.ended p.done
+    × PassedSoFar output m n p w took ended
+Stops tables n w (plan.filter id predicate input) notes took ended =
+    Stops tables n w input notes took ended
+Stops tables n w (plan.project id columns input) notes took ended =
+    Stops tables n w input notes took ended
 Stops tables n w (plan.join id kind on left right) [] took ended = ⊥
 Stops tables n w (plan.join id kind on left right) (note ∷ notes) took ended =
-    (g : Givers) × Stops tables n g.drivers right g.notes g.took g.ended
-    × AreOpen [] n g.drivers right g.notes g.took g.gave g.ended g.done
+    (p : StoppedPipe) × Stops tables n p.drivers right p.notes p.took p.ended
+    × AreOpen [] n p.drivers right p.notes p.took p.gave p.ended p.done
     × ((k d : ℕ) → k < n → d < w → (built : List (List Value)) → note k d ≡ Some built
-    → ((e : ℕ) → e < g.drivers → g.done k e ≡ true) × SameWeights (tasks g.drivers g.gave k) built)
+    → ((e : ℕ) → e < p.drivers → p.done k e ≡ true) × SameWeights (tasks p.drivers p.gave k) built)
     × Stops tables n w left notes took ended
-Stops tables n w (plan.aggregate id keys calls input) notes took ended = (w ≡ 1) × Stops tables n w input notes took ended
+Stops tables n w (plan.aggregate id keys calls input) notes took ended =
+    (w ≡ 1) × Stops tables n w input notes took ended
 Stops tables n w (plan.aggregate_parts id source output m keys calls input) notes took ended =
-    (g : Givers) × (notes ≡ []) × (w ≡ 1) × Stops tables m g.drivers input g.notes g.took g.ended
-    × AreOpen (partial keys calls ∷ []) m g.drivers input g.notes g.took g.gave g.ended g.done
-    × PassedSoFar output m n g w took ended
-Stops tables n w (plan.sort id keys input) notes took ended = (w ≡ 1) × Stops tables n w input notes took ended
-Stops tables n w (plan.topn id count keys input) notes took ended = (w ≡ 1) × Stops tables n w input notes took ended
+    (p : StoppedPipe) × (notes ≡ []) × (w ≡ 1) × Stops tables m p.drivers input p.notes p.took p.ended
+    × AreOpen (partial keys calls ∷ []) m p.drivers input p.notes p.took p.gave p.ended p.done
+    × PassedSoFar output m n p w took ended
+Stops tables n w (plan.sort id keys input) notes took ended =
+    (w ≡ 1) × Stops tables n w input notes took ended
+Stops tables n w (plan.topn id count keys input) notes took ended =
+    (w ≡ 1) × Stops tables n w input notes took ended
 Stops tables n w (plan.topn_parts id source output m count keys input) notes took ended =
-    (g : Givers) × (notes ≡ []) × (w ≡ 1) × Stops tables m g.drivers input g.notes g.took g.ended
-    × AreOpen (topn count keys ∷ []) m g.drivers input g.notes g.took g.gave g.ended g.done
-    × PassedSoFar output m n g w took ended
-Stops tables n w (plan.limit id count input) notes took ended = (w ≡ 1) × Stops tables n w input notes took ended
+    (p : StoppedPipe) × (notes ≡ []) × (w ≡ 1) × Stops tables m p.drivers input p.notes p.took p.ended
+    × AreOpen (topn count keys ∷ []) m p.drivers input p.notes p.took p.gave p.ended p.done
+    × PassedSoFar output m n p w took ended
+Stops tables n w (plan.limit id count input) notes took ended =
+    (w ≡ 1) × Stops tables n w input notes took ended
 Stops tables n w (plan.limit_parts id source output m count input) notes took ended =
-    (g : Givers) × (notes ≡ []) × (w ≡ 1) × Stops tables m g.drivers input g.notes g.took g.ended
-    × AreOpen (limit count ∷ []) m g.drivers input g.notes g.took g.gave g.ended g.done
-    × PassedSoFar output m n g w took ended
+    (p : StoppedPipe) × (notes ≡ []) × (w ≡ 1) × Stops tables m p.drivers input p.notes p.took p.ended
+    × AreOpen (limit count ∷ []) m p.drivers input p.notes p.took p.gave p.ended p.done
+    × PassedSoFar output m n p w took ended
 Stops tables n w (plan.union id left right) notes took ended =
-    (g : Givers) × (h : Givers) × (notes ≡ [])
-    × Stops tables n g.drivers left g.notes g.took g.ended × AreOpen [] n g.drivers left g.notes g.took g.gave g.ended g.done
-    × Stops tables n h.drivers right h.notes h.took h.ended × AreOpen [] n h.drivers right h.notes h.took h.gave h.ended h.done
-    × ((k : ℕ) → k < n → TookOf w (took k) (ended k) (tasks g.drivers g.gave k ++ tasks h.drivers h.gave k)
-    (((e : ℕ) → e < g.drivers → g.done k e ≡ true) × ((e : ℕ) → e < h.drivers → h.done k e ≡ true)))
+    (p : StoppedPipe) × (q : StoppedPipe) × (notes ≡ [])
+    × Stops tables n p.drivers left p.notes p.took p.ended
+    × AreOpen [] n p.drivers left p.notes p.took p.gave p.ended p.done
+    × Stops tables n q.drivers right q.notes q.took q.ended
+    × AreOpen [] n q.drivers right q.notes q.took q.gave q.ended q.done
+    × ((k : ℕ) → k < n
+    → TookOf w (took k) (ended k) (tasks p.drivers p.gave k ++ tasks q.drivers q.gave k)
+    (((e : ℕ) → e < p.drivers → p.done k e ≡ true) × ((e : ℕ) → e < q.drivers → q.done k e ≡ true)))

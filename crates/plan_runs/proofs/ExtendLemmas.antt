@@ -135,12 +135,12 @@ module _ (tables : List (List (List Value))) where
       record { whole = whole; given = given; fed = passed_on output m n g w took ended passed given.rest given.none }
 
   pub extend : (n w : ℕ) (node : RunPlan) (notes : Notes) (took : Lanes) (ended : Flags) → Stops tables n w node notes took ended → Whole tables n w node notes took ended
-  extend n w (plan.scan id table columns types) notes took ended (left, no_notes, some, all) =
-      let d = deal_out n w ended left all in
+  extend n w (plan.scan id table columns types) notes took ended (no_notes, h) =
+      let d = deal_out n w ended h.left h.all in
       record {
         more = d.0;
         builds = [];
-        below = same-trans (same-longer n w took d.0) (same-trans (same-append (same-refl (gather n (tasks w took))) d.1.same) some);
+        below = same-trans (same-longer n w took d.0) (same-trans (same-append (same-refl (gather n (tasks w took))) d.1.same) h.some);
         noted = λ k e lt less. none_noted notes no_notes k e;
         none = d.1.none;
       }

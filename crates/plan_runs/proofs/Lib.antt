@@ -12,6 +12,7 @@ pub mod UnionSteps
 pub mod ComposeLemmas
 pub mod LaneLemmas
 pub mod WireLemmas
+pub mod HopLemmas
 pub mod DealLemmas
 pub mod ExtendLemmas
 pub mod AmongLemmas

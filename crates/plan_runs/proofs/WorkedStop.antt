@@ -51,7 +51,15 @@ stopped = (
   inl (
     refl,
     record {
-      stops = (row 1 ∷ [], refl, record { weighs = λ h. omega arith }, λ all. absurd (true≢false (sym (all 0 0 (omega arith) (omega arith)))));
+      stops = (
+        refl,
+        record {
+          left = row 1 ∷ [];
+          some = record { weighs = λ h. omega arith };
+          all = λ all. absurd (true≢false (sym (all 0 0 (omega arith) (omega arith))));
+          closed = λ all. tt;
+        },
+      );
       gave = taken;
       done = nobody;
       opened = λ k d lt less builds noted. ([], refl, λ later may. record { rest = later; chain = refl; none = may });

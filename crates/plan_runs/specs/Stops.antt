@@ -58,14 +58,18 @@ AreOpen last n w node notes took gave ended done =
     → (stages : List Stage) × AreFor node builds k stages
     × CanGoOn (stages ++ last) (took k d) (gave k d) (ended k d) (done k d)
 
--- the drivers of a task took some of the rows that were put for it. Where all of them have ended, they
--- took them all, and those who put rows are done
-pub record TookOf (drivers : ℕ) (took : TaskRows) (ended : ℕ → Bool) (put : List (List Value))
-    (AreDone : Type 0) : Type 0 where
+-- rows are put somewhere and taken from there, and some are left. Where it is over none is left, and
+-- whoever put them has closed
+pub record Hop (put took : List (List Value)) (IsOver HasClosed : Type 0) : Type 0 where
   pub left : List (List Value)
-  pub some : SameWeights (gather drivers took ++ left) put
-  pub all : ((d : ℕ) → d < drivers → ended d ≡ true) → left ≡ []
-  pub closed : ((d : ℕ) → d < drivers → ended d ≡ true) → AreDone
+  pub some : SameWeights (took ++ left) put
+  pub all : IsOver → left ≡ []
+  pub closed : IsOver → HasClosed
+
+-- the drivers of a task took what was put for it: it is over where all of them have ended
+abbrev pub TookOf : ℕ → TaskRows → (ℕ → Bool) → List (List Value) → Type 0 → Type 0
+TookOf drivers took ended put AreDone =
+    Hop put (gather drivers took) ((d : ℕ) → d < drivers → ended d ≡ true) AreDone
 
 -- the pipeline of a node as it stands, in all tasks of its fragment: its drivers in each task, what their
 -- notes know, what each took and gave, whose sources have ended, and who gives no more
@@ -88,9 +92,8 @@ PassedSoFar output m n p w took ended =
 -- join is left there are no notes
 abbrev pub Stops : Tables → ℕ → ℕ → RunPlan → Notes → Lanes → Flags → Type 0
 Stops tables n w (plan.scan id table columns types) notes took ended =
-    (left : List (List Value)) × (notes ≡ [])
-    × SameWeights (gather n (tasks w took) ++ left) (scanned tables table columns)
-    × (AllSet n w ended → left ≡ [])
+    (notes ≡ [])
+    × Hop (scanned tables table columns) (gather n (tasks w took)) (AllSet n w ended) (Unit {0})
 Stops tables n w (plan.values id types rows) notes took ended =
     (notes ≡ []) × ((k : ℕ) → k < n → TookOf w (took k) (ended k) rows (Unit {0}))
 Stops tables n w (plan.remote id output m input) notes took ended =

@@ -19,4 +19,5 @@ pub mod AmongLemmas
 pub mod FaultLemmas
 pub mod FailedLemmas
 pub mod WorkedRun
+pub mod WorkedJoin
 pub mod WorkedStop

@@ -24,7 +24,8 @@ AreColumnsAt forms places columns =
     AllBelow (length forms) places
     × (map (λ place. get_or forms place (column 0)) places ≡ map column columns)
 
--- node by node. Where one task runs a fragment, each node is allowed; where several do, these are:
+-- the spread of each node. In a fragment of one task a node may be whole, whichever it is; where several
+-- run it, what has no rule has no spread
 pub data Placed : ℕ → RunPlan → Spread → Type 0 where
   scan_whole : {id table : ℕ} {columns : List ℕ} {types : List SqlType}
       → Placed 1 (scan id table columns types) whole
@@ -34,6 +35,7 @@ pub data Placed : ℕ → RunPlan → Spread → Type 0 where
       → Placed 1 (values id types rows) whole
   values_every : {n id : ℕ} {types : List SqlType} {rows : List (List Value)}
       → Placed n (values id types rows) every
+  -- the reader decides the output kind
   remote_whole : {id m : ℕ} {input : RunPlan} {s : Spread}
       → IsRead m s → Placed m input s → Placed 1 (remote id single m input) whole
   remote_by : {n id m : ℕ} {input : RunPlan} {s : Spread} {columns : List ℕ}
@@ -41,6 +43,7 @@ pub data Placed : ℕ → RunPlan → Spread → Type 0 where
       → IsRead m s → Placed m input s → Placed n (remote id (hashed columns) m input) (by columns)
   remote_every : {n id m : ℕ} {input : RunPlan} {s : Spread}
       → IsRead m s → Placed m input s → Placed n (remote id broadcast m input) every
+  -- row by row; columns by which rows sit have to stay plain columns
   filter_stays : {n id : ℕ} {predicate : Form} {input : RunPlan} {s : Spread}
       → Placed n input s → Placed n (filter id predicate input) s
   project_whole : {id : ℕ} {columns : List Form} {input : RunPlan}
@@ -52,6 +55,7 @@ pub data Placed : ℕ → RunPlan → Spread → Type 0 where
       → Placed n input (by taken) → Placed n (project id columns input) (by places)
   project_every : {n id : ℕ} {columns : List Form} {input : RunPlan}
       → Placed n input every → Placed n (project id columns input) every
+  -- beside a right side that each task has, or bucket by bucket
   join_whole : {id : ℕ} {kind : JoinKind} {on : List (ℕ × ℕ)} {left right : RunPlan}
       → Placed 1 left whole → Placed 1 right whole → Placed 1 (join id kind on left right) whole
   join_right_every : {n id : ℕ} {kind : JoinKind} {on : List (ℕ × ℕ)} {left right : RunPlan}
@@ -61,6 +65,7 @@ pub data Placed : ℕ → RunPlan → Spread → Type 0 where
       (pairs : List (ℕ × ℕ)) → All (Contains on) pairs
       → Placed n left (by (lefts pairs)) → Placed n right (by (rights pairs))
       → Placed n (join id kind on left right) (by (lefts pairs))
+  -- groups that are whole in a task: the buckets are by some of the keys
   aggregate_whole : {id : ℕ} {keys : List ℕ} {calls : List Call} {input : RunPlan}
       → Placed 1 input whole → Placed 1 (aggregate id keys calls input) whole
   aggregate_by : {n id : ℕ} {keys places : List ℕ} {calls : List Call} {input : RunPlan}
@@ -74,6 +79,7 @@ pub data Placed : ℕ → RunPlan → Spread → Type 0 where
       {s : Spread}
       → 0 < length keys → AllBelow (length keys) columns → IsRead m s → Placed m input s
       → Placed n (aggregate_parts id source (hashed columns) m keys calls input) (by columns)
+  -- what needs an order, or a count of all rows, is whole
   sort_whole : {id : ℕ} {keys : List KeySpec} {input : RunPlan}
       → Placed 1 input whole → Placed 1 (sort id keys input) whole
   topn_whole : {id count : ℕ} {keys : List KeySpec} {input : RunPlan}
@@ -85,6 +91,7 @@ pub data Placed : ℕ → RunPlan → Spread → Type 0 where
       → Placed 1 input whole → Placed 1 (limit id count input) whole
   limit_parts_whole : {id source m count : ℕ} {input : RunPlan} {s : Spread}
       → IsRead m s → Placed m input s → Placed 1 (limit_parts id source single m count input) whole
+  -- rows of both sides, in the tasks in which they are
   union_whole : {id : ℕ} {left right : RunPlan}
       → Placed 1 left whole → Placed 1 right whole → Placed 1 (union id left right) whole
   union_any : {n id : ℕ} {left right : RunPlan}

@@ -1,10 +1,11 @@
 -- What a predicate, where there is one, and then columns say of a row, and of which pages they can.
-use Rattle.std.specs.Prelude.{◌≡◌, ◌<◌, List, map, length, Option, Some, None}
+use Rattle.std.specs.Prelude.{◌≡◌, ◌<◌, List, [], ◌∷◌, map, length, Bool, true, false, ◌&&◌, is_ok, Option, Some, None}
 use Rattle.sql_values.specs.declared.types.SqlType.{SqlType}
 use Rattle.sql_values.specs.declared.value.Value.{Value}
 use Rattle.col_pages.specs.Pages.{TypedPage}
 use Rattle.sql_exprs.specs.Forms.{Form}
 use Rattle.sql_exprs.specs.Meaning.{kind_of}
+use Rattle.sql_exprs.specs.Typing.{form_type}
 use Rattle.relations.specs.Verdicts.{Verdict, keeps, drops, fails}
 use Rattle.plan_trees.specs.Judges.{filter_judge, project_judge}
 use Rattle.page_judges.specs.Typed.{AllFit, AllTyped, IsTyped}
@@ -27,6 +28,22 @@ kinds types columns = map (kind_of types) columns
 abbrev pub IsTypedIf : List SqlType → Option Form → Type 0
 IsTypedIf types None = Unit {0}
 IsTypedIf types (Some predicate) = IsTyped types predicate
+
+abbrev pub is_typed : List SqlType → Form → Bool
+is_typed types form = is_ok (form_type types [] form)
+
+abbrev pub is_typed_if : List SqlType → Option Form → Bool
+is_typed_if types None = true
+is_typed_if types (Some predicate) = is_typed types predicate
+
+abbrev pub are_all_typed : List SqlType → List Form → Bool
+are_all_typed types [] = true
+are_all_typed types (form ∷ forms) = is_typed types form && are_all_typed types forms
+
+-- whether there are columns, and each expression is typed over input of these types
+abbrev pub are_typed : List SqlType → Option Form → List Form → Bool
+are_typed types predicate [] = false
+are_typed types predicate (form ∷ forms) = is_typed_if types predicate && are_all_typed types (form ∷ forms)
 
 -- there are columns, and each expression is typed over input of these types
 pub record AreTyped (types : List SqlType) (predicate : Option Form) (columns : List Form) : Type 0 where

@@ -1,7 +1,7 @@
-ghost use Rattle.std.specs.Prelude.{map, option_map, IsTrue, IfOk};
+ghost use Rattle.std.specs.Prelude.{◌≡◌, map, option_map, IsTrue, IfOk};
 ghost use Rattle.sql_exprs.specs.Forms.{form_view};
 ghost use Rattle.page_judges.specs.Typed.{AllTyped, IsTyped};
-ghost use Rattle.row_ops.specs.RowJudges.{AreTyped, IsTypedIf};
+ghost use Rattle.row_ops.specs.RowJudges.{AreTyped, IsTypedIf, are_typed, is_typed_if, are_all_typed, is_typed};
 
 use sql_exprs::{Expr, TypeFault, typed};
 use sql_values::{Memory, SqlType};
@@ -14,7 +14,9 @@ pub fn are_typed(
     predicate: &Option<Expr>,
     columns: &[Expr],
 ) -> Result<bool, Memory>
-    ensures { IfOk result (λ typed. IsTrue typed → AreTyped types.now
+    ensures answer { IfOk result (λ typed. typed ≡ are_typed types.now
+        (option_map form_view predicate.now) (map form_view columns.now)) }
+    ensures typed { IfOk result (λ typed. IsTrue typed → AreTyped types.now
         (option_map form_view predicate.now) (map form_view columns.now)) }
 {
     if columns.is_empty() {
@@ -30,7 +32,9 @@ fn is_predicate_typed(
     types: &[SqlType],
     predicate: &Option<Expr>,
 ) -> Result<bool, Memory>
-    ensures { IfOk result (λ typed. IsTrue typed
+    ensures answer { IfOk result (λ typed. typed
+        ≡ is_typed_if types.now (option_map form_view predicate.now)) }
+    ensures typed { IfOk result (λ typed. IsTrue typed
         → IsTypedIf types.now (option_map form_view predicate.now)) }
 {
     match predicate {
@@ -40,7 +44,10 @@ fn is_predicate_typed(
 }
 
 fn are_columns_typed(alloc: Global, types: &[SqlType], columns: &[Expr]) -> Result<bool, Memory>
-    ensures { IfOk result (λ typed. IsTrue typed → AllTyped types.now (map form_view columns.now)) }
+    ensures answer { IfOk result (λ typed. typed
+        ≡ are_all_typed types.now (map form_view columns.now)) }
+    ensures typed { IfOk result (λ typed. IsTrue typed
+        → AllTyped types.now (map form_view columns.now)) }
 {
     for column in columns {
         if !is_typed(alloc, types, column)? {
@@ -51,7 +58,9 @@ fn are_columns_typed(alloc: Global, types: &[SqlType], columns: &[Expr]) -> Resu
 }
 
 fn is_typed(alloc: Global, types: &[SqlType], expr: &Expr) -> Result<bool, Memory>
-    ensures { IfOk result (λ typed. IsTrue typed → IsTyped types.now (form_view expr.now)) }
+    ensures answer { IfOk result (λ typed. typed ≡ is_typed types.now (form_view expr.now)) }
+    ensures typed { IfOk result (λ typed. IsTrue typed
+        → IsTyped types.now (form_view expr.now)) }
 {
     match typed(alloc, expr, types) {
         Ok(_) => Ok(true),

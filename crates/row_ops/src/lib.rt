@@ -12,6 +12,8 @@
 
 mod filter_project;
 mod judge_page;
+#[cfg(test)]
+mod tests;
 mod typing;
 
 pub use filter_project::FilterProject;

@@ -56,7 +56,9 @@ fn field_value_text(kind: SqlType, field: &str) -> &str
 #[tactic(auto, using(crate::proofs::ValueLemmas::field_values))]
 /// The cell that a field stands for.
 pub(crate) fn read_field(alloc: Global, kind: SqlType, field: &[u8]) -> Result<Value, FieldFault>
-    ensures { MatchResult result (λ v. value_of_field kind field.now ≡ Ok v) (IsFlawOf (value_of_field kind field.now)) }
+    ensures { MatchResult result
+        (λ v. value_of_field kind field.now ≡ Ok v)
+        (IsFlawOf (value_of_field kind field.now)) }
 {
     let Ok(text) = str::from_utf8(field) else {
         return Err(FieldFault::Refused(NOT_UTF8));

@@ -15,7 +15,9 @@ use sql_values::{Column, RowList, SqlType, ValueRef, text_reads_back};
 
 /// The law that a text has one list of records: those that `csv` reads from it.
 pub fn records_are_one(text: &[u8])
-    ensures { (found : List (List (List ℕ))) → AreRecords default_config st.StartRecord (strip_bom text.now) found → records_of text.now ≡ found }
+    ensures { (found : List (List (List ℕ)))
+        → AreRecords default_config st.StartRecord (strip_bom text.now) found
+        → records_of text.now ≡ found }
 {}
 
 /// The law that each row of a table has, in each column, a value of the column's type or NULL.
@@ -26,7 +28,8 @@ pub fn rows_of_a_table_fit(columns: &[Column], limit: u32, bytes: &[u8], rows: &
 
 #[tactic(auto, using(crate::proofs::ReadBackLemmas::bigint_back))]
 fn bigint_reads_back(n: i64)
-    ensures { value_of_field type.Bigint (field_text type.Bigint (value.Bigint n)) ≡ Ok (value.Bigint n) }
+    ensures { value_of_field type.Bigint (field_text type.Bigint (value.Bigint n))
+        ≡ Ok (value.Bigint n) }
 {
     text_reads_back(SqlType::Bigint, ValueRef::Bigint(n));
 }
@@ -34,14 +37,16 @@ fn bigint_reads_back(n: i64)
 #[tactic(auto, using(crate::proofs::ReadBackLemmas::varchar_back))]
 fn varchar_reads_back(text: &str)
     requires { length text.now ≤ longest_text }
-    ensures { value_of_field type.Varchar (field_text type.Varchar (value.Varchar text.now)) ≡ Ok (value.Varchar text.now) }
+    ensures { value_of_field type.Varchar (field_text type.Varchar (value.Varchar text.now))
+        ≡ Ok (value.Varchar text.now) }
 {
     text_reads_back(SqlType::Varchar, ValueRef::Varchar(text));
 }
 
 #[tactic(auto, using(crate::proofs::ReadBackLemmas::boolean_back))]
 fn boolean_reads_back(truth: bool)
-    ensures { value_of_field type.Boolean (field_text type.Boolean (value.Boolean truth)) ≡ Ok (value.Boolean truth) }
+    ensures { value_of_field type.Boolean (field_text type.Boolean (value.Boolean truth))
+        ≡ Ok (value.Boolean truth) }
 {
     text_reads_back(SqlType::Boolean, ValueRef::Boolean(truth));
 }
@@ -50,7 +55,8 @@ fn boolean_reads_back(truth: bool)
 fn decimal_reads_back(p: u8, s: u8, unscaled: i128)
     requires is_type { IsType (type.Decimal p s) }
     requires digits { unsigned_abs unscaled < 10 ^ p }
-    ensures { value_of_field (type.Decimal p s) (field_text (type.Decimal p s) (value.Decimal unscaled)) ≡ Ok (value.Decimal unscaled) }
+    ensures { value_of_field (type.Decimal p s) (field_text (type.Decimal p s) (value.Decimal unscaled))
+        ≡ Ok (value.Decimal unscaled) }
 {
     text_reads_back(SqlType::Decimal { p, s }, ValueRef::Decimal(unscaled));
 }
@@ -58,7 +64,8 @@ fn decimal_reads_back(p: u8, s: u8, unscaled: i128)
 #[tactic(auto, using(crate::proofs::ReadBackLemmas::date_back))]
 fn date_reads_back(day: i32)
     requires { has_date day ≡ true }
-    ensures { value_of_field type.Date (field_text type.Date (value.Date day)) ≡ Ok (value.Date day) }
+    ensures { value_of_field type.Date (field_text type.Date (value.Date day))
+        ≡ Ok (value.Date day) }
 {
     text_reads_back(SqlType::Date, ValueRef::Date(day));
 }
@@ -68,7 +75,8 @@ fn date_reads_back(day: i32)
 pub fn field_reads_back(kind: SqlType, value: ValueRef<'_>)
     requires is_type { IsType kind }
     requires has_type { HasType kind (lent_value value) }
-    ensures { value_of_field kind (field_text kind (lent_value value.entry)) ≡ Ok (lent_value value.entry) }
+    ensures { value_of_field kind (field_text kind (lent_value value.entry))
+        ≡ Ok (lent_value value.entry) }
 {
     match (kind, value) {
         (_, ValueRef::Null) => {}

@@ -28,7 +28,10 @@ fn print_field(kind: SqlType, value: ValueRef<'_>, field: &mut Vec<u8>) -> Resul
 }
 
 fn put_field(writer: &mut Writer<Vec<u8>>, field: &[u8]) -> Result<(), Memory>
-    ensures { OnOk result ((bytes : List ℕ) (fields : List (List ℕ)) → length fields < 2 ^ 64 - 1 → HasWritten bytes fields writer.old → HasWritten bytes (fields ++ field.now ∷ []) writer.new) }
+    ensures { OnOk result
+        ((bytes : List ℕ) (fields : List (List ℕ)) → length fields < 2 ^ 64 - 1
+        → HasWritten bytes fields writer.old
+        → HasWritten bytes (fields ++ field.now ∷ []) writer.new) }
 {
     let Ok(()) = writer.write_field(field) else {
         return Err(Memory);
@@ -37,7 +40,9 @@ fn put_field(writer: &mut Writer<Vec<u8>>, field: &[u8]) -> Result<(), Memory>
 }
 
 fn end_record(writer: &mut Writer<Vec<u8>>) -> Result<(), Memory>
-    ensures { OnOk result ((bytes : List ℕ) (fields : List (List ℕ)) → HasWritten bytes fields writer.old → HasWritten (bytes ++ record_text fields) [] writer.new) }
+    ensures { OnOk result
+        ((bytes : List ℕ) (fields : List (List ℕ)) → HasWritten bytes fields writer.old
+        → HasWritten (bytes ++ record_text fields) [] writer.new) }
 {
     let Ok(()) = writer.end_record() else {
         return Err(Memory);
@@ -46,7 +51,9 @@ fn end_record(writer: &mut Writer<Vec<u8>>) -> Result<(), Memory>
 }
 
 fn put_names(writer: &mut Writer<Vec<u8>>, names: &[Text]) -> Result<(), Memory>
-    ensures { OnOk result ((bytes : List ℕ) → HasWritten bytes [] writer.old → HasWritten (bytes ++ record_text names.now) [] writer.new) }
+    ensures { OnOk result
+        ((bytes : List ℕ) → HasWritten bytes [] writer.old
+        → HasWritten (bytes ++ record_text names.now) [] writer.new) }
 {
     for name in names {
         put_field(writer, name.as_str().as_bytes())?;
@@ -71,7 +78,11 @@ fn put_row(
 ) -> Result<(), Memory>
     requires types { length types.now < 2 ^ 32 }
     requires place { place < length rows.now }
-    ensures { OnOk result ((bytes : List ℕ) → HasWritten bytes [] writer.old → HasWritten (bytes ++ record_text (fields_from 0 types.now (slice_index_or rows.now place []))) [] writer.new) }
+    ensures { OnOk result
+        ((bytes : List ℕ) → HasWritten bytes [] writer.old
+        → HasWritten (bytes
+        ++ record_text (fields_from 0 types.now (slice_index_or rows.now place [])))
+        [] writer.new) }
 {
     for column in 0..types.len() {
         print_field(
@@ -85,7 +96,8 @@ fn put_row(
 }
 
 fn finish(writer: Writer<Vec<u8>>) -> Result<Vec<u8>, Memory>
-    ensures { IfOk result (λ text. (bytes : List ℕ) → HasWritten bytes [] writer → text.items ≡ bytes) }
+    ensures { IfOk result
+        (λ text. (bytes : List ℕ) → HasWritten bytes [] writer → text.items ≡ bytes) }
 {
     let Ok(text) = writer.into_inner() else {
         return Err(Memory);

@@ -27,7 +27,9 @@ fn read_cell(
     row: u32,
     column: u32,
 ) -> Result<Value, TableFault>
-    ensures { MatchResult result (λ v. in_place row column (value_of_field kind field.now) ≡ Ok v) (IsFaultOf (in_place row column (value_of_field kind field.now))) }
+    ensures { MatchResult result
+        (λ v. in_place row column (value_of_field kind field.now) ≡ Ok v)
+        (IsFaultOf (in_place row column (value_of_field kind field.now))) }
 {
     match read_field(alloc, kind, field) {
         Ok(value) => Ok(value),
@@ -44,7 +46,9 @@ fn read_cells(
     line: &ByteRecord,
 ) -> Result<Vec<Value>, TableFault>
     requires { length columns.now < 2 ^ 32 }
-    ensures { MatchResult result (λ v. cells_from row 0 columns.now (fields_of line.now) ≡ Ok v.items) (IsFaultOf (cells_from row 0 columns.now (fields_of line.now))) }
+    ensures { MatchResult result
+        (λ v. cells_from row 0 columns.now (fields_of line.now) ≡ Ok v.items)
+        (IsFaultOf (cells_from row 0 columns.now (fields_of line.now))) }
 {
     let mut cells = Vec::with_capacity(alloc, columns.len())?;
     for at in 0..columns.len() {
@@ -66,7 +70,9 @@ fn read_row(
     requires limit { limit < 2 ^ 32 - 1 }
     requires columns { length columns.now < 2 ^ 32 }
     ensures within { OnOk result (row ≢ limit + 1) }
-    ensures row { MatchResult result (λ r. row_of columns.now limit row (fields_of line.now) ≡ Ok r) (IsFaultOf (row_of columns.now limit row (fields_of line.now))) }
+    ensures row { MatchResult result
+        (λ r. row_of columns.now limit row (fields_of line.now) ≡ Ok r)
+        (IsFaultOf (row_of columns.now limit row (fields_of line.now))) }
 {
     if row == limit + 1 {
         return Err(TableFault::Refused {
@@ -108,7 +114,9 @@ pub(crate) fn read_rows(
     requires empty { rows ≡ [] }
     requires limit { limit < 2 ^ 32 - 1 }
     requires columns { length columns.now < 2 ^ 32 }
-    ensures { MatchResult result (λ rows. rows_from columns.now limit 1 records.entry ≡ Ok rows) (IsFaultOf (rows_from columns.now limit 1 records.entry)) }
+    ensures { MatchResult result
+        (λ rows. rows_from columns.now limit 1 records.entry ≡ Ok rows)
+        (IsFaultOf (rows_from columns.now limit 1 records.entry)) }
 {
     let mut place = 1;
     while records.next(&mut line)? {

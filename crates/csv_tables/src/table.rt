@@ -32,7 +32,9 @@ pub fn read_table(
     bytes: &[u8],
 ) -> Result<Table, TableFault>
     requires { limit < 2 ^ 32 - 1 }
-    ensures { MatchResult result (λ t. (t.columns ≡ columns.now) × IsTable columns.now limit bytes.now t.rows) (TableRefusedFor columns.now limit bytes.now) }
+    ensures { MatchResult result
+        (λ t. (t.columns ≡ columns.now) × IsTable columns.now limit bytes.now t.rows)
+        (TableRefusedFor columns.now limit bytes.now) }
 {
     if columns.len() > u32::MAX as usize {
         return Err(TableFault::Memory);

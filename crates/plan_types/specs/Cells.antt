@@ -1,15 +1,12 @@
 -- Which values stand in a values node.
-use Rattle.std.specs.Prelude.{ℕ, ◌+◌, ◌^◌, List, [], ◌∷◌, nat_lt, if◌then◌else◌, Option, Some, None}
+use Rattle.std.specs.Prelude.{ℕ, ◌+◌, List, [], ◌∷◌, if◌then◌else◌, Option, Some, None}
 use Rattle.sql_values.specs.declared.types.SqlType.{SqlType}
 use Rattle.sql_values.specs.declared.value.Value.{Value}
 use Rattle.sql_values.specs.Blocks.{fits}
 use Rattle.sql_values.specs.Cells.{cell}
 use Rattle.plan_places.specs.declared.key.Key.TheVariants as key
 use Rattle.sql_exprs.specs.Typing.{Path, entry, under}
-
--- columns are numbered by 32 bits
-abbrev pub small : ℕ → ℕ
-small n = if nat_lt n (2 ^ 32) then n else 0
+use Rattle.plan_docs.specs.Words.{small}
 
 -- the first column from j on whose cell does not have its type
 abbrev pub misfit_in : List SqlType → ℕ → List Value → Option ℕ

@@ -1,7 +1,8 @@
 ghost use Rattle.std.specs.Prelude.{◌≡◌, ◌<◌, [], None, length, slice_index_or, MatchResult};
 ghost use Rattle.sql_values.specs.Blocks.{fits};
 ghost use Rattle.sql_values.specs.Cells.{lent_value};
-ghost use Rattle.plan_types.specs.Cells.{cell_fault, misfit_from, misfit_in, small};
+ghost use Rattle.plan_docs.specs.Words.{small};
+ghost use Rattle.plan_types.specs.Cells.{cell_fault, misfit_from, misfit_in};
 ghost use Rattle.plan_types.specs.Faults.{StandsIn};
 
 use plan_places::{Key, Step, then};

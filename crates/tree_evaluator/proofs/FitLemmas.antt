@@ -43,7 +43,7 @@ cut_fits own row (column ∷ columns) (kind ∷ types) l f h =
 abbrev Fits : List SqlType → List Value → Type 0
 Fits types row = IsTrue (fits_row types row)
 
-rows_cut : (own : List SqlType) (rows : List (List Value)) (columns : List ℕ) (types : List SqlType) → length types ≡ length columns → AllFit own rows → ColumnsFit own columns types
+pub rows_cut : (own : List SqlType) (rows : List (List Value)) (columns : List ℕ) (types : List SqlType) → length types ≡ length columns → AllFit own rows → ColumnsFit own columns types
     → AllFit types (map (cut columns) rows)
 rows_cut own rows columns types l all h = All-map (Fits types) (cut columns) rows (λ k d lt. cut_fits own (get_or rows k d) columns types l (all k d lt) h)
 

@@ -1,10 +1,9 @@
 ghost use Rattle.std.specs.Prelude.{map, MatchResult};
 ghost use Rattle.plan_trees.specs.Allowed.{Allows};
 ghost use Rattle.plan_trees.specs.TreeForms.{tree_view};
-ghost use Rattle.tree_evaluator.specs.Fits.{FitsTables, TablesFit};
+ghost use Rattle.tree_evaluator.specs.Fits.{FitsTables};
 ghost use Rattle.tree_evaluator.specs.Stops.{IsEvaluated, StopsFor, rows_of};
 
-use crate::fit::fits_tables;
 use crate::judges::{filter_rows, project_rows};
 use crate::leaves::{constant_rows, scan_table};
 use crate::lists::{append_rows, limit_rows, list_of};
@@ -14,18 +13,14 @@ use plan_trees::{Tree, types_of_tree};
 use sql_values::{RowList, Table};
 use std::alloc::Global;
 
-/// A list of rows that the tree allows over the tables. A tree that does not fit the tables, or
-/// whose expressions have no types, as that of no plan that was read, is answered `Memory`. So is
-/// one with a join, an aggregate, a sort or a top n: these are not built yet.
+/// A list of rows that the tree allows over the tables. The tree of a plan that was read fits the
+/// plan's tables; `fits_tables` tells it of any other.
 pub fn evaluate(alloc: Global, tree: &Tree, tables: &[Table]) -> Result<RowList, EvalStop>
-    requires { TablesFit tables.now }
+    requires { FitsTables (tree_view tree.now) (map rows_of tables.now) }
     ensures { MatchResult result
         (Allows (tree_view tree.now) (map rows_of tables.now))
         (StopsFor (tree_view tree.now) (map rows_of tables.now)) }
 {
-    if !fits_tables(alloc, tree, tables)? {
-        return Err(EvalStop::Memory);
-    }
     let rows = evaluate_node(alloc, tree, tables)?;
     Ok(list_of(alloc, rows)?)
 }
@@ -69,9 +64,9 @@ fn evaluate_node(alloc: Global, tree: &Tree, tables: &[Table]) -> Result<NodeRow
             append_rows(&mut rows, more)?;
             Ok(rows)
         }
-        Tree::Join { .. } => Err(EvalStop::Memory),
-        Tree::Aggregate { .. } => Err(EvalStop::Memory),
-        Tree::Sort { .. } => Err(EvalStop::Memory),
-        Tree::TopN { .. } => Err(EvalStop::Memory),
+        Tree::Join { .. } => unreachable!(),
+        Tree::Aggregate { .. } => unreachable!(),
+        Tree::Sort { .. } => unreachable!(),
+        Tree::TopN { .. } => unreachable!(),
     }
 }

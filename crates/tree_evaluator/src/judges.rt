@@ -21,8 +21,12 @@ pub fn filter_rows(
     mut rows: NodeRows,
 ) -> Result<NodeRows, EvalStop>
     requires { IsTyped rows.types (form_view predicate.now) }
-    ensures { MatchResult result (λ kept. (first_failure (filter_judge rows.types (form_view predicate.now)) rows.rows ≡ None)
-        × (kept ≡ record { types = rows.types; rows = rows_before (filter_judge rows.types (form_view predicate.now)) rows.rows }))
+    ensures { MatchResult result
+        (λ kept. (first_failure (filter_judge rows.types (form_view predicate.now)) rows.rows ≡ None)
+        × (kept ≡ record {
+          types = rows.types;
+          rows = rows_before (filter_judge rows.types (form_view predicate.now)) rows.rows;
+        }))
         (StopsHere id (first_failure (filter_judge rows.types (form_view predicate.now)) rows.rows)) }
 {
     let mut kept = NodeRows::new(alloc, rows.types())?;
@@ -44,8 +48,12 @@ pub fn project_rows(
     requires some { 0 < length columns.now }
     requires typed { AllTyped rows.types (map form_view columns.now) }
     requires types { types.now ≡ map (kind_of rows.types) (map form_view columns.now) }
-    ensures { MatchResult result (λ kept. (first_failure (project_judge rows.types (map form_view columns.now)) rows.rows ≡ None)
-        × (kept ≡ record { types = types.now; rows = rows_before (project_judge rows.types (map form_view columns.now)) rows.rows }))
+    ensures { MatchResult result
+        (λ kept. (first_failure (project_judge rows.types (map form_view columns.now)) rows.rows ≡ None)
+        × (kept ≡ record {
+          types = types.now;
+          rows = rows_before (project_judge rows.types (map form_view columns.now)) rows.rows;
+        }))
         (StopsHere id (first_failure (project_judge rows.types (map form_view columns.now)) rows.rows)) }
 {
     let mut kept = NodeRows::new(alloc, types)?;
@@ -60,7 +68,10 @@ pub fn project_rows(
 fn keep(id: u32, judged: Judged, kept: &mut NodeRows) -> Result<(), EvalStop>
     requires types { judged.page.types ≡ kept.old.types }
     requires fits { AllFit kept.old.types judged.page.rows }
-    ensures { MatchResult result (λ _. (judged.failure ≡ None) × (kept.new ≡ record kept.old { rows = kept.old.rows ++ judged.page.rows })) (StopsHere id judged.failure) }
+    ensures { MatchResult result
+        (λ _. (judged.failure ≡ None)
+        × (kept.new ≡ record kept.old { rows = kept.old.rows ++ judged.page.rows }))
+        (StopsHere id judged.failure) }
 {
     if let Some(kind) = judged.failure {
         return Err(EvalStop::ExprFailed { node: id, kind });

@@ -22,7 +22,8 @@ pub fn scan_table(
     requires some { 0 < length types.now }
     requires beside { length types.now ≡ length columns.now }
     requires fits { AllFit types.now (scanned (map rows_of tables.now) table columns.now) }
-    ensures { IfOk result (λ n. n ≡ record { types = types.now; rows = scanned (map rows_of tables.now) table columns.now }) }
+    ensures { IfOk result
+        (λ n. n ≡ record { types = types.now; rows = scanned (map rows_of tables.now) table columns.now }) }
 {
     match tables.get(table as usize) {
         Some(table) => scan_rows(alloc, &table.rows, types, columns),
@@ -40,7 +41,8 @@ pub fn scan_rows(
     requires some { 0 < length types.now }
     requires beside { length types.now ≡ length columns.now }
     requires fits { All (λ row. IsTrue (fits_row types.now (cut columns.now row))) rows.now }
-    ensures { IfOk result (λ n. n ≡ record { types = types.now; rows = map (cut columns.now) rows.now }) }
+    ensures { IfOk result
+        (λ n. n ≡ record { types = types.now; rows = map (cut columns.now) rows.now }) }
 {
     let mut scanned = NodeRows::new(alloc, types)?;
     let mut low = 0;

@@ -3,13 +3,14 @@
 //!
 //! It is the reference that operators on pages are compared with. The list that it gives is one
 //! that the tree allows, and it stops only on a node that may fail so (`specs/Stops.antt`). The
-//! tables fit the tree and its expressions are typed (`specs/Fits.antt`).
+//! tables fit the tree and its expressions are typed (`specs/Fits.antt`): this is asked for, and
+//! that the tree of a plan that was read has it is the law of `plan_fits`.
 //!
 //! Scans, constants, filters, projects, limits and unions are built. A tree with a join, an
-//! aggregate, a sort or a top n is answered by want of memory; no plan with one is run today.
+//! aggregate, a sort or a top n fits no tables; no plan with one is run today.
 //!
 //! - `eval`: `evaluate`
-//! - `fit`: whether a tree fits the tables
+//! - `fit`: `fits_tables`, whether a tree fits the tables
 //! - `stop`: why it stops
 //! - `node_rows`: the rows of a node, as pages
 //! - `leaves`: the rows of scans and constants
@@ -28,4 +29,5 @@ mod stop;
 mod tests;
 
 pub use eval::evaluate;
+pub use fit::fits_tables;
 pub use stop::EvalStop;

@@ -39,7 +39,8 @@ fn push_first(alloc: Global, room: u32, page: Page, kept: &mut NodeRows) -> Resu
     requires types { page.types ≡ kept.old.types }
     requires fits { AllFit kept.old.types page.rows }
     ensures room { IfOk result (λ left. left ≡ room - length page.rows) }
-    ensures kept { OnOk result (kept.new ≡ record kept.old { rows = kept.old.rows ++ take room page.rows }) }
+    ensures kept { OnOk result
+        (kept.new ≡ record kept.old { rows = kept.old.rows ++ take room page.rows }) }
 {
     let len = page.len();
     if len <= room {
@@ -69,7 +70,8 @@ pub fn list_of(alloc: Global, mut rows: NodeRows) -> Result<RowList, Memory>
 /// Appends to each block the one at its place.
 fn append_each(blocks: &mut Vec<Block>, more: Vec<Block>) -> Result<(), Memory>
     requires { kinds_of blocks.old.items ≡ kinds_of more.items }
-    ensures { OnOk result (blocks.new.items ≡ joined (length blocks.old.items) blocks.old.items more.items) }
+    ensures { OnOk result
+        (blocks.new.items ≡ joined (length blocks.old.items) blocks.old.items more.items) }
 {
     for place in 0..more.len() {
         let block = &mut blocks[place];

@@ -49,7 +49,8 @@ impl NodeRows {
     pub fn push(&mut self, page: Page) -> Result<(), Memory>
         requires types { page.types ≡ self.old.types }
         requires fits { AllFit self.old.types page.rows }
-        ensures ok { OnOk result (self.new ≡ record self.old { rows = self.old.rows ++ page.rows }) }
+        ensures ok { OnOk result
+            (self.new ≡ record self.old { rows = self.old.rows ++ page.rows }) }
         ensures err { OnErr result (self.new ≡ self.old) }
     {
         if page.len() == 0 {
@@ -62,8 +63,12 @@ impl NodeRows {
     /// Takes the first page, or none where no row is left.
     pub fn take_first(&mut self) -> Option<Page>
         ensures types { self.new.types ≡ self.old.types }
-        ensures rows { MatchOption result ((self.old.rows ≡ []) × (self.new.rows ≡ [])) (λ p. self.old.rows ≡ p.rows ++ self.new.rows) }
-        ensures page { MatchOption result (self.old.rows ≡ []) (λ p. (p.types ≡ self.old.types) × (0 < length p.rows) × AllFit self.old.types p.rows) }
+        ensures rows { MatchOption result
+            ((self.old.rows ≡ []) × (self.new.rows ≡ []))
+            (λ p. self.old.rows ≡ p.rows ++ self.new.rows) }
+        ensures page { MatchOption result
+            (self.old.rows ≡ [])
+            (λ p. (p.types ≡ self.old.types) × (0 < length p.rows) × AllFit self.old.types p.rows) }
     {
         self.pages.take_first()
     }

@@ -1,6 +1,6 @@
 //! Small trees over constants, worked out by hand.
 
-use crate::{EvalStop, evaluate};
+use crate::{EvalStop, evaluate, fits_tables};
 use plan_trees::Tree;
 use sql_exprs::{CallName, Expr};
 use sql_values::{Memory, Row, RowList, SqlType, Types, Value, ValueRef};
@@ -83,6 +83,9 @@ fn show(text: &mut String, rows: &RowList, columns: u32) -> Result<(), Memory> {
 /// The rows that are given, or the node that stops and why.
 fn outcome(alloc: Global, tree: Tree, columns: u32) -> Result<String, Memory> {
     let mut text = String::new(alloc);
+    if !fits_tables(alloc, &tree, &[])? {
+        return Ok(text);
+    }
     match evaluate(alloc, &tree, &[]) {
         Ok(rows) => show(&mut text, &rows, columns)?,
         Err(EvalStop::ExprFailed { node, kind }) => write!(text, "node {node}: {kind}")?,
@@ -141,6 +144,9 @@ fn many(alloc: Global, count: i64) -> Result<Tree, Memory> {
 }
 
 fn count_of(alloc: Global, tree: &Tree) -> Result<usize, Memory> {
+    if !fits_tables(alloc, tree, &[])? {
+        return Ok(0);
+    }
     match evaluate(alloc, tree, &[]) {
         Ok(rows) => Ok(rows.len()),
         Err(_) => Err(Memory),

@@ -13,6 +13,7 @@ use Rattle.sql_values.specs.declared.table.Table.{Table}
 use Rattle.std.proofs.lemmas.List.{map-append}
 use Rattle.std.proofs.lemmas.List.Elements.{All-push}
 use Rattle.page_judges.specs.Typed.{AllFit}
+use Rattle.plan_fits.specs.Tables.{HaveColumns}
 use Rattle.tree_evaluator.specs.Fits.{TablesFit, kinds}
 use Rattle.trinorun.specs.Loading.{FirstIsRefused, SomeTableIsUnread, TableFails, TableIsRefused, TablesFail}
 use Rattle.trinorun.specs.declared.status.Status.{Status}
@@ -160,3 +161,21 @@ loop_step before held job docs xs ys table i doc done same is one grown =
 pub fits_more : (xs ys : List Table) (table : Table) → TablesFit xs → AllFit (kinds table.columns) table.rows → ys ≡ xs ++ table ∷ [] → TablesFit ys
 fits_more xs ys table all one grown =
     subst TablesFit (sym grown) (All-push (λ (t : Table). AllFit (kinds t.columns) t.rows) xs table all one)
+
+-- the columns of one table more
+next_columns : (docs : List TableDoc) (tables : List Table) (i : ℕ) (doc : TableDoc) (table : Table) → HaveColumns (take i docs) tables → slice_get docs i ≡ Some doc
+    → table.columns ≡ doc.columns → HaveColumns (take (suc i) docs) (tables ++ table ∷ [])
+next_columns [] tables i doc table done is one = absurd cc
+next_columns (d ∷ ds) [] zero doc table done is one = let same : d ≡ doc = cc is in (λ j. (one ∙ ap (λ (x : TableDoc). x.columns) (sym same)) j ∷ [])
+next_columns (d ∷ ds) (t ∷ ts) zero doc table done is one = absurd cc
+next_columns (d ∷ ds) [] (suc i) doc table done is one = absurd cc
+next_columns (d ∷ ds) (t ∷ ts) (suc i) doc table done is one =
+    let first : t.columns ≡ d.columns = cc done in
+    let rest : HaveColumns (take i ds) ts = cc done in
+    let more = next_columns ds ts i doc table rest is one in (λ j. first j ∷ more j)
+
+pub columns_more : (docs : List TableDoc) (xs ys : List Table) (table : Table) (i : ℕ) (doc : TableDoc) → HaveColumns (take i docs) xs → slice_get docs i ≡ Some doc
+    → table.columns ≡ doc.columns → ys ≡ xs ++ table ∷ [] → HaveColumns (take (i + 1) docs) ys
+columns_more docs xs ys table i doc done is one grown =
+    subst (λ (ts : List Table). HaveColumns (take (i + 1) docs) ts) (sym grown)
+    (subst (λ (n : ℕ). HaveColumns (take n docs) (xs ++ table ∷ [])) (sym (add-one i)) (next_columns docs xs i doc table done is one))

@@ -8,6 +8,7 @@ use Rattle.plan_docs.specs.Plans.{PlanForm}
 use Rattle.plan_trees.specs.TreeTypes.{types_of}
 use Rattle.plan_trees.specs.Allowed.{Allows}
 use Rattle.plan_trees.specs.Stopped.{MayFail}
+use Rattle.plan_trees.specs.Laws.{CannotFail}
 use Rattle.plan_reader.specs.Trees.{tree_of}
 use Rattle.csv_tables.specs.ResultTexts.{result_text}
 use Rattle.command_line.specs.Words.{Job}
@@ -145,7 +146,7 @@ pub record MetNoFault (seen : Seen) : Type 0 where
 pub record IsSound (held : Contents) (job : Job) (plan : PlanForm) (tables : List (List Row)) : Type 0 where
   pub is_plan : IsPlanAsked held job plan
   pub are_tables : AreTablesAsked held job plan.tables tables
-  pub calm : (node : ℕ) (kind : Fail) → ¬ MayFail (tree_of plan) tables node kind
+  pub calm : CannotFail (tree_of plan) tables
 
 -- a run of what is sound that met no fault of the outside gave the result, or memory was wanting
 pub record IsComplete (asked : Option Job) (seen : Seen) (answer : Status) : Type 0 where

@@ -1,9 +1,9 @@
-ghost use Rattle.std.specs.Prelude.{◌≡◌, ◌≤◌, ◌++◌, codes, List, ℕ, Option, OnOk, OnErr};
+ghost use Rattle.std.specs.Prelude.{◌≡◌, ◌≤◌, ◌++◌, codes, List, [], ℕ, Option, OnOk, OnErr};
 ghost use Rattle.std.specs.Fmt.{decimal};
 ghost use Rattle.std.specs.Io.KnownBytes.{Appends};
 ghost use Rattle.run_ports.specs.Counts.{Rose};
 ghost use Rattle.command_line.specs.Words.{asked};
-ghost use Rattle.trinorun.specs.Answers.{Told};
+ghost use Rattle.trinorun.specs.Answers.{Told, no_job};
 ghost use Rattle.trinorun.specs.Lines.{failure_message, file_numbered, kind_number, line, message, plan_message, read_message, table_message, table_named};
 
 use crate::status::Status;
@@ -29,13 +29,31 @@ pub fn tell<E: Sink>(err: &mut E, job: &Job<'_>, tables: &[TableDoc], status: &S
     let _ = write_line(err, job, tables, status);
 }
 
+/// The same of an answer before there is a job.
+pub fn tell_first<E: Sink>(err: &mut E, status: &Status)
+    ensures { Told (record {
+      told_before = E.written err.old;
+      told_after = E.written err.new;
+      faults_before = E.faults err.old;
+      faults_after = E.faults err.new;
+    }) (message no_job [] status.now) status.now }
+{
+    let none = Job {
+        plan: "",
+        files: &[],
+    };
+    tell(err, &none, &[], status);
+}
+
 fn write_line<E: Sink>(
     err: &mut E,
     job: &Job<'_>,
     tables: &[TableDoc],
     status: &Status,
 ) -> Result<(), SinkFailed>
-    ensures ok { OnOk result (Appends (E.written err.old) (E.written err.new) (line (message (asked job.now) tables.now status.now))) }
+    ensures ok { OnOk result
+        (Appends (E.written err.old) (E.written err.new)
+        (line (message (asked job.now) tables.now status.now))) }
     ensures later { E.faults err.old ≤ E.faults err.new }
     ensures cause { OnErr result (Rose (E.faults err.old) (E.faults err.new)) }
 {
@@ -50,7 +68,9 @@ fn write_message<E: Sink>(
     tables: &[TableDoc],
     status: &Status,
 ) -> Result<(), SinkFailed>
-    ensures ok { OnOk result (Appends (E.written err.old) (E.written err.new) (message (asked job.now) tables.now status.now)) }
+    ensures ok { OnOk result
+        (Appends (E.written err.old) (E.written err.new)
+        (message (asked job.now) tables.now status.now)) }
     ensures later { E.faults err.old ≤ E.faults err.new }
     ensures cause { OnErr result (Rose (E.faults err.old) (E.faults err.new)) }
 {
@@ -72,7 +92,8 @@ fn write_message<E: Sink>(
 }
 
 fn write_unread<E: Sink>(err: &mut E, file: &str) -> Result<(), SinkFailed>
-    ensures ok { OnOk result (Appends (E.written err.old) (E.written err.new) (read_message file.now)) }
+    ensures ok { OnOk result
+        (Appends (E.written err.old) (E.written err.new) (read_message file.now)) }
     ensures later { E.faults err.old ≤ E.faults err.new }
     ensures cause { OnErr result (Rose (E.faults err.old) (E.faults err.new)) }
 {
@@ -81,7 +102,8 @@ fn write_unread<E: Sink>(err: &mut E, file: &str) -> Result<(), SinkFailed>
 }
 
 fn write_plan<E: Sink>(err: &mut E, code: u32, path: &str) -> Result<(), SinkFailed>
-    ensures ok { OnOk result (Appends (E.written err.old) (E.written err.new) (plan_message code path.now)) }
+    ensures ok { OnOk result
+        (Appends (E.written err.old) (E.written err.new) (plan_message code path.now)) }
     ensures later { E.faults err.old ≤ E.faults err.new }
     ensures cause { OnErr result (Rose (E.faults err.old) (E.faults err.new)) }
 {
@@ -98,7 +120,8 @@ fn write_table<E: Sink>(
     column: u32,
     why: u8,
 ) -> Result<(), SinkFailed>
-    ensures ok { OnOk result (Appends (E.written err.old) (E.written err.new) (table_message name.now row column why)) }
+    ensures ok { OnOk result
+        (Appends (E.written err.old) (E.written err.new) (table_message name.now row column why)) }
     ensures later { E.faults err.old ≤ E.faults err.new }
     ensures cause { OnErr result (Rose (E.faults err.old) (E.faults err.new)) }
 {
@@ -113,7 +136,8 @@ fn write_table<E: Sink>(
 }
 
 fn write_failure<E: Sink>(err: &mut E, node: u32, kind: u32) -> Result<(), SinkFailed>
-    ensures ok { OnOk result (Appends (E.written err.old) (E.written err.new) (failure_message node kind)) }
+    ensures ok { OnOk result
+        (Appends (E.written err.old) (E.written err.new) (failure_message node kind)) }
     ensures later { E.faults err.old ≤ E.faults err.new }
     ensures cause { OnErr result (Rose (E.faults err.old) (E.faults err.new)) }
 {

@@ -4,6 +4,7 @@ ghost use Rattle.plan_docs.specs.Plans.{plan_view};
 ghost use Rattle.command_line.specs.Words.{asked, asked_file, file_of};
 ghost use Rattle.page_judges.specs.Typed.{AllFit};
 ghost use Rattle.tree_evaluator.specs.Fits.{TablesFit, kinds};
+ghost use Rattle.plan_fits.specs.Tables.{HaveColumns, WasRead};
 ghost use Rattle.trinorun.specs.Jobs.{AreTablesAsked, first_without_file, IsPlanAsked, IsTableAsked, rows_of};
 ghost use Rattle.trinorun.specs.Loading.{FilesFail, PlanFails, name_path, ReadFails, TableFails, TablesFail};
 
@@ -41,11 +42,13 @@ fn read_file<F: Files>(
 
 /// Reads the plan that the words name.
 pub fn load_plan<F: Files>(alloc: Global, job: &Job<'_>, files: &mut F) -> Result<Plan, Status>
+    ensures read { IfOk result (λ plan. WasRead (plan_view plan)) }
     ensures same { F.holds files.new ≡ F.holds files.old }
     ensures later { F.faults files.old ≤ F.faults files.new }
     ensures answer { MatchResult result
         (λ plan. IsPlanAsked (F.holds files.old) (asked job.now) (plan_view plan))
-        (PlanFails (F.holds files.old) (asked job.now) (F.faults files.old) (F.faults files.new) (F.refused files.new)) }
+        (PlanFails (F.holds files.old) (asked job.now)
+        (F.faults files.old) (F.faults files.new) (F.refused files.new)) }
 {
     let bytes = read_file(alloc, files, job.plan, 0)?;
     match read_plan(alloc, bytes.as_slice()) {
@@ -63,7 +66,8 @@ pub fn files_of<'a>(
 ) -> Result<Vec<TableFile<'a>>, Status>
     ensures all { IfOk result (λ _. first_without_file (asked job.now) docs.now ≡ None) }
     ensures files { MatchResult result
-        (λ found. map (λ file. Some (asked_file file)) found.items ≡ map (λ doc. file_of doc.name (asked job.now).files) docs.now)
+        (λ found. map (λ file. Some (asked_file file)) found.items
+        ≡ map (λ doc. file_of doc.name (asked job.now).files) docs.now)
         (FilesFail (asked job.now) docs.now) }
 {
     let mut found = Vec::with_capacity(alloc, docs.len())?;
@@ -107,13 +111,17 @@ pub fn load_tables<F: Files>(
     files: &mut F,
 ) -> Result<Vec<Table>, Status>
     requires all { first_without_file (asked job.now) docs.now ≡ None }
-    requires files { map (λ file. Some (asked_file file)) found.now ≡ map (λ doc. file_of doc.name (asked job.now).files) docs.now }
+    requires files { map (λ file. Some (asked_file file)) found.now
+        ≡ map (λ doc. file_of doc.name (asked job.now).files) docs.now }
+    ensures columns { IfOk result (λ tables. HaveColumns docs.now tables.items) }
     ensures fits { IfOk result (λ tables. TablesFit tables.items) }
     ensures same { F.holds files.new ≡ F.holds files.old }
     ensures later { F.faults files.old ≤ F.faults files.new }
     ensures answer { MatchResult result
-        (λ tables. AreTablesAsked (F.holds files.old) (asked job.now) docs.now (map rows_of tables.items))
-        (TablesFail (F.holds files.old) (asked job.now) docs.now (F.faults files.old) (F.faults files.new) (F.refused files.new)) }
+        (λ tables. AreTablesAsked (F.holds files.old) (asked job.now) docs.now
+        (map rows_of tables.items))
+        (TablesFail (F.holds files.old) (asked job.now) docs.now
+        (F.faults files.old) (F.faults files.new) (F.refused files.new)) }
 {
     let mut tables = Vec::with_capacity(alloc, docs.len())?;
     for place in 0..docs.len().min(found.len()) {
@@ -133,12 +141,14 @@ fn load_table<F: Files>(
     files: &mut F,
 ) -> Result<Table, Status>
     requires { file_of doc.now.name (asked job.now).files ≡ Some (asked_file found) }
+    ensures columns { IfOk result (λ table. table.columns ≡ doc.now.columns) }
     ensures fits { IfOk result (λ table. AllFit (kinds table.columns) table.rows) }
     ensures same { F.holds files.new ≡ F.holds files.old }
     ensures later { F.faults files.old ≤ F.faults files.new }
     ensures answer { MatchResult result
         (λ table. IsTableAsked (F.holds files.old) (asked job.now) doc.now table.rows)
-        (TableFails (F.holds files.old) (asked job.now) doc.now place (F.faults files.old) (F.faults files.new) (F.refused files.new)) }
+        (TableFails (F.holds files.old) (asked job.now) doc.now place
+        (F.faults files.old) (F.faults files.new) (F.refused files.new)) }
 {
     let number = u32::try_from(found.place.saturating_add(1)).unwrap_or(u32::MAX);
     let bytes = read_file(alloc, files, found.file, number)?;

@@ -18,6 +18,7 @@ mod status;
 mod tests;
 mod top;
 
+use lines::tell_first;
 use run_ports::{DiskFiles, NoMeet, ReplayCourier, StdSink};
 use sql_values::Text;
 use status::Status;
@@ -27,6 +28,7 @@ use std::{env, io};
 use top::run;
 
 fn main(rt: HostRuntime) -> ExitCode {
+    let mut err = StdSink::of(rt.stderr());
     let status = match words_of(&rt) {
         Ok(words) => run(
             &rt,
@@ -34,11 +36,14 @@ fn main(rt: HostRuntime) -> ExitCode {
             words.as_slice(),
             &mut DiskFiles::new(&rt),
             &mut StdSink::of(rt.stdout()),
-            &mut StdSink::of(rt.stderr()),
+            &mut err,
             &ReplayCourier::new(),
             &NoMeet,
         ),
-        Err(status) => status,
+        Err(status) => {
+            tell_first(&mut err, &status);
+            status
+        }
     };
     ExitCode::from(status.exit_code())
 }

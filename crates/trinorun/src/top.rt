@@ -1,15 +1,17 @@
 ghost use Rattle.std.specs.Prelude.{◌≡◌, ◌↔◌, ◌≤◌, ℕ, [], map, None, Ok, Err, IfOk, MatchResult};
 ghost use Rattle.plan_docs.specs.Plans.{plan_view};
 ghost use Rattle.command_line.specs.Words.{asked, job_of};
+ghost use Rattle.plan_fits.specs.Tables.{HaveColumns, WasRead};
 ghost use Rattle.tree_evaluator.specs.Fits.{TablesFit};
 ghost use Rattle.trinorun.specs.Answers.{Answered, IsComplete, IsTextOf, JobAnswered, PlanAnswered, RunFails, status_of};
 ghost use Rattle.trinorun.specs.Jobs.{Contents, rows_of};
 
-use crate::lines::tell;
+use crate::lines::{tell, tell_first};
 use crate::load::{files_of, load_plan, load_tables};
 use crate::status::Status;
 use command_line::{Job, read_words};
 use csv_tables::text_of;
+use plan_fits::tree_of_a_plan_fits;
 use plan_reader::{Plan, tree};
 use plan_trees::types_of_tree;
 use run_ports::{Courier, Files, Meet, Sink, write_whole};
@@ -22,7 +24,6 @@ use tree_evaluator::{EvalStop, evaluate};
 
 /// Runs the plan that the words name over the tables that they name, and writes the result's text
 /// to `out`. For each answer but Ok it writes one line to `err`.
-
 #[tactic(auto, using(crate::proofs::CompletenessLemmas::complete))]
 pub fn run<R, F, O, E, C, M>(
     _rt: &R,
@@ -69,11 +70,7 @@ where
     }) result }
 {
     let Some(job) = read_words(words) else {
-        let none = Job {
-            plan: "",
-            files: &[],
-        };
-        tell(err, &none, &[], &Status::BadWords);
+        tell_first(err, &Status::BadWords);
         return Status::BadWords;
     };
     run_job(alloc, &job, files, out, err)
@@ -133,9 +130,11 @@ fn run_plan<F: Files, O: Sink>(
     files: &mut F,
     out: &mut O,
 ) -> Result<(), Status>
+    requires { WasRead (plan_view plan.now) }
     ensures same { F.holds files.new ≡ F.holds files.old }
     ensures later { F.faults files.old ≤ F.faults files.new }
-    ensures answer { (held : Contents) (before : ℕ) → F.holds files.old ≡ held → before ≤ F.faults files.old
+    ensures answer { (held : Contents) (before : ℕ)
+        → F.holds files.old ≡ held → before ≤ F.faults files.old
         → PlanAnswered (asked job.now) (plan_view plan.now) (record {
           held = held;
           read_faults_before = before;
@@ -156,13 +155,16 @@ fn run_plan<F: Files, O: Sink>(
 
 /// The text of what the plan gives over its tables.
 fn result_of(alloc: Global, plan: &Plan, tables: &[Table]) -> Result<Vec<u8>, Status>
-    requires { TablesFit tables.now }
+    requires read { WasRead (plan_view plan.now) }
+    requires columns { HaveColumns (plan_view plan.now).tables tables.now }
+    requires fit { TablesFit tables.now }
     ensures { MatchResult result
         (λ text. IsTextOf (plan_view plan.now) (map rows_of tables.now) text.items)
         (RunFails (plan_view plan.now) (map rows_of tables.now)) }
 {
     let tree = tree(alloc, plan)?;
     let types = types_of_tree(alloc, &tree)?;
+    tree_of_a_plan_fits(plan, tables);
     match evaluate(alloc, &tree, tables) {
         Ok(rows) => Ok(text_of(alloc, plan.output.as_slice(), types.as_slice(), &rows)?),
         Err(EvalStop::ExprFailed { node, kind }) => Err(Status::ExprFailed { node, kind }),

@@ -1,7 +1,7 @@
 use Rattle.std.proofs.Common.{◌≡◌, ◌≤◌, ◌<◌, ℕ, length, Some, ◌∙◌, sym, ap}
 use native.Mathlib.Omega.{arith}
 use Rattle.command_line.specs.Words.{asked}
-use Rattle.trinorun.proofs.TableLemmas.{fits_more, item_there, loop_step}
+use Rattle.trinorun.proofs.TableLemmas.{columns_more, fits_more, item_there, loop_step}
 use Rattle.trinorun.proofs.load.load_tables.Goals as goal
 
 -- src/load.rt:114:5
@@ -19,5 +19,7 @@ loop-place-preserved g c =
           c.loop-place.invariant.0 same here c.in_ok-table.ensures.answer c.in_ok-push.ensures.items,
       c.load_table.ensures.same ∙ same,
       omega (arith, later, before),
-      fits_more c.loop-place.tables.items c.push.new.self.items c.in_ok-table.table c.loop-place.invariant.3 c.in_ok-table.ensures.fits c.in_ok-push.ensures.items,
+      columns_more c.args.docs.now c.loop-place.tables.items c.push.new.self.items c.in_ok-table.table c.loop-place.place c.index-docs-place.result
+          c.loop-place.invariant.3 here c.in_ok-table.ensures.columns c.in_ok-push.ensures.items,
+      fits_more c.loop-place.tables.items c.push.new.self.items c.in_ok-table.table c.loop-place.invariant.4 c.in_ok-table.ensures.fits c.in_ok-push.ensures.items,
     )

@@ -1,0 +1,5 @@
+pub mod FindLemmas
+pub mod PlaceLemmas
+pub mod NodeLemmas
+pub mod TreeLemmas
+pub mod PlanLemmas

@@ -1,0 +1,218 @@
+-- A node of a document that passes the checks is a scan of declared columns, or a filter or a project
+-- over such a node.
+use Rattle.std.proofs.Common.{◌≡◌, ℕ, ◌+◌, ◌<◌, ◌≤◌, ◌^◌, zero, suc, List, [], ◌∷◌, ◌++◌, length, map, Bool, true, false, cond, Option, Some, None, refl, ap, sym, ◌∙◌, subst, arith, add-one}
+use Rattle.std.specs.Prelude.{slice_get, not, nat_lt, unwrap_or, if◌then◌else◌}
+use Rattle.std.specs.List.{find}
+use Rattle.std.proofs.lemmas.Bool.{lt-ltb, ltb-false}
+use Rattle.std.proofs.lemmas.List.{length-map}
+use Rattle.serde_json.specs.Data.{Data, Items}
+use Rattle.serde_json.specs.Find.{as_array}
+use Rattle.sql_values.specs.declared.types.SqlType.{SqlType}
+use Rattle.plan_places.specs.declared.key.Key.{Key}
+use Rattle.plan_places.specs.declared.key.Key.TheVariants as key
+use Rattle.plan_places.specs.declared.step.Step.{Step}
+use Rattle.plan_places.specs.declared.step.Step.TheVariants as step
+use Rattle.plan_grammar.specs.declared.kind.Kind.{Kind}
+use Rattle.plan_grammar.specs.declared.kind.Kind.TheVariants as kind
+use Rattle.plan_grammar.specs.declared.tables.Part.{Part}
+use Rattle.plan_grammar.specs.declared.words.OpWord.{OpWord}
+use Rattle.plan_grammar.specs.declared.words.OpWord.TheVariants as op
+use Rattle.plan_grammar.specs.declared.words.StepWord.{StepWord}
+use Rattle.plan_grammar.specs.declared.words.StepWord.TheVariants as word
+use Rattle.plan_grammar.specs.Grammar.{aggregate_parts, join_parts, level_of, limit_parts, parts_of_node, topn_parts}
+use Rattle.plan_grammar.specs.Json.{entries, entries_in, entries_of, entries_under, has_key, text_of, text_under, under}
+use Rattle.plan_grammar.specs.Tables.{part}
+use Rattle.plan_grammar.specs.Tables as table
+use Rattle.plan_grammar.specs.Words.{op_named, op_of, step_of}
+use Rattle.plan_checks.specs.declared.shapes.Shape.TheVariants as shape
+use Rattle.plan_checks.specs.declared.limits.Bound.TheVariants as bound
+use Rattle.plan_checks.specs.Built.{is_built}
+use Rattle.plan_checks.specs.Limits.{bound_of}
+use Rattle.plan_docs.specs.declared.plan.TableDoc.{TableDoc}
+use Rattle.plan_docs.specs.Documents.{table_of}
+use Rattle.plan_docs.specs.Names.{column_place, column_type, columns_in, has_name, place_named, places_of, type_in, types_of}
+use Rattle.plan_docs.specs.Names as names
+use Rattle.plan_docs.specs.Nodes.{NodeForm, scan, values, remote, filter, project, join, aggregate, aggregate_final, sort, top_n, top_n_final, limit, limit_final, union}
+use Rattle.plan_docs.specs.Exprs.{expr_form}
+use Rattle.plan_docs.specs.Parts.{column_of, columns_of}
+use Rattle.plan_docs.specs.ReadNodes.{inner_node, node_at, node_by}
+use Rattle.plan_docs.specs.Words.{small}
+use Rattle.tree_evaluator.specs.Fits.{ColumnFits, ColumnsFit, IsOrMissing, kinds}
+use Rattle.plan_fits.proofs.FindLemmas.{not_false}
+use Rattle.plan_fits.proofs.PlaceLemmas.{Part-at, Passes, counted, entry_passes, not_beyond, not_unbuilt, part_passes, under_is}
+
+-- the columns of a declared table, if there is one, have these types at these places
+abbrev pub ScanFits : Option TableDoc → List ℕ → List SqlType → Type 0
+ScanFits None columns types = Unit {0}
+ScanFits (Some doc) columns types = ColumnsFit (kinds doc.columns) columns types
+
+-- scans of declared columns under filters and projects of columns
+abbrev pub IsSound : List TableDoc → NodeForm → Type 0
+IsSound docs (scan id table columns types) =
+    (0 < length types) × (length types ≡ length columns) × ScanFits (slice_get docs table) columns types
+IsSound docs (values id types rows) = ⊥
+IsSound docs (remote id fragment) = ⊥
+IsSound docs (filter id predicate input) = IsSound docs input
+IsSound docs (project id columns input) = (0 < length columns) × IsSound docs input
+IsSound docs (join id kind on filters left right) = ⊥
+IsSound docs (aggregate id step keys calls input) = ⊥
+IsSound docs (aggregate_final id input) = ⊥
+IsSound docs (sort id keys input) = ⊥
+IsSound docs (top_n id step count keys input) = ⊥
+IsSound docs (top_n_final id input) = ⊥
+IsSound docs (limit id step count input) = ⊥
+IsSound docs (limit_final id input) = ⊥
+IsSound docs (union id left right) = ⊥
+
+-- the tables of a document, and the columns of each, are within the limits
+pub record IsNarrow (document : Data) : Type 0 where
+  pub tables : length (entries_under key.Tables document) ≤ 64
+  pub columns : (i : ℕ) (t : Data) → slice_get (entries_under key.Tables document) i ≡ Some t → length (entries_under key.Columns t) ≤ 256
+
+small_same : (n : ℕ) → n ≤ 256 → small n ≡ n
+small_same n h = let below : n < 2 ^ 32 = omega (arith, h) in ap (λ b. if b then n else 0) (lt-ltb n (2 ^ 32) below)
+
+place_within : (t : List ℕ) (ds : List Data) → place_named t ds ≤ length ds
+place_within t [] = omega arith
+place_within t (d ∷ ds) = by_test (has_name t d) (place_named t ds) (length ds) (place_within t ds)
+  where
+    by_test : (b : Bool) (n m : ℕ) → n ≤ m → (if b then 0 else n + 1) ≤ suc m
+    by_test true n m h = omega arith
+    by_test false n m h = omega (arith, h)
+
+-- the type at a name's place is the type that the name has
+place_fits : (t : List ℕ) (cs : List Data) → IsOrMissing (slice_get (kinds (columns_of cs)) (place_named t cs)) (type_in (find (has_name t) cs))
+place_fits t [] = tt
+place_fits t (c ∷ cs) = by_test (has_name t c) (place_fits t cs)
+  where
+    by_test : (b : Bool) → IsOrMissing (slice_get (kinds (columns_of cs)) (place_named t cs)) (type_in (find (has_name t) cs))
+        → IsOrMissing (slice_get (kinds (columns_of (c ∷ cs))) (if b then 0 else place_named t cs + 1)) (type_in (cond b (Some c) (find (has_name t) cs)))
+    by_test true h = refl
+    by_test false h =
+        subst (λ (n : ℕ). IsOrMissing (slice_get (kinds (columns_of (c ∷ cs))) n) (type_in (find (has_name t) cs))) (sym (add-one (place_named t cs))) h
+
+columns_fit : (cs : List Data) (ns : List Data) → length cs ≤ 256 → ColumnsFit (kinds (columns_of cs)) (places_of cs ns) (types_of cs ns)
+columns_fit cs [] h = tt
+columns_fit cs (n ∷ ns) h =
+    let within = place_within (text_of n) cs in
+    let same : small (place_named (text_of n) cs) ≡ place_named (text_of n) cs = small_same (place_named (text_of n) cs) (omega (arith, within, h)) in
+    (subst (λ (p : ℕ). ColumnFits (kinds (columns_of cs)) p (column_type cs n)) (sym same) (place_fits (text_of n) cs), columns_fit cs ns h)
+
+scan_fits : (ts : List Data) (n : ℕ) (ns : List Data) → ((i : ℕ) (t : Data) → slice_get ts i ≡ Some t → length (entries_under key.Columns t) ≤ 256)
+    → ScanFits (slice_get (map table_of ts) n) (places_of (columns_in (slice_get ts n)) ns) (types_of (columns_in (slice_get ts n)) ns)
+scan_fits [] n ns narrow = tt
+scan_fits (t ∷ ts) zero ns narrow = columns_fit (entries_under key.Columns t) ns (narrow 0 t refl)
+scan_fits (t ∷ ts) (suc n) ns narrow = scan_fits ts n ns (λ i u at. narrow (suc i) u at)
+
+-- each node has its word second
+join_word : (b : Bool) → slice_get (join_parts b) 1 ≡ Some (part key.Op kind.Op)
+join_word true = refl
+join_word false = refl
+
+aggregate_word : (w : StepWord) → slice_get (aggregate_parts w) 1 ≡ Some (part key.Op kind.Op)
+aggregate_word word.Single = refl
+aggregate_word word.Partial = refl
+aggregate_word word.Final = refl
+aggregate_word word.Unknown = refl
+
+topn_word : (w : StepWord) → slice_get (topn_parts w) 1 ≡ Some (part key.Op kind.Op)
+topn_word word.Single = refl
+topn_word word.Partial = refl
+topn_word word.Final = refl
+topn_word word.Unknown = refl
+
+limit_word : (w : StepWord) → slice_get (limit_parts w) 1 ≡ Some (part key.Op kind.Op)
+limit_word word.Single = refl
+limit_word word.Partial = refl
+limit_word word.Final = refl
+limit_word word.Unknown = refl
+
+node_word : (w : OpWord) (d : Data) → slice_get (parts_of_node w d) 1 ≡ Some (part key.Op kind.Op)
+node_word op.Scan d = refl
+node_word op.Values d = refl
+node_word op.Remote d = refl
+node_word op.Filter d = refl
+node_word op.Project d = refl
+node_word op.Join d = join_word (has_key key.Filters d)
+node_word op.Aggregate d = aggregate_word (step_of d)
+node_word op.Sort d = refl
+node_word op.TopN d = topn_word (step_of d)
+node_word op.Limit d = limit_word (step_of d)
+node_word op.Union d = refl
+node_word op.Unknown d = refl
+
+-- the operator of a node that passes is built
+built_word : (nodes filters : ℕ) (d : Data) (path : List Step) (owner : Data) (level : ℕ) → Passes nodes filters d path owner kind.Node level → is_built (op_of d) ≡ true
+built_word nodes filters d path owner level p =
+    let at : Part-at nodes filters d path key.Op kind.Op level =
+    part_passes nodes filters d path owner kind.Node level (parts_of_node (op_of d) d) 1 key.Op kind.Op p refl refl (node_word (op_of d) d) in
+    let built = not_false (is_built (op_named (text_of at.value))) (not_unbuilt nodes filters at.value (path ++ step.Key key.Op ∷ []) d kind.Op level at.passes) in
+    let same : op_named (text_of at.value) ≡ op_of d = ap op_named (sym (text_is key.Op d at.value at.is)) in
+    subst (λ (w : OpWord). is_built w ≡ true) same built
+  where
+    text_is : (k : Key) (d e : Data) → under k d ≡ Some e → text_under k d ≡ text_of e
+    text_is k d e is = rw is refl
+
+-- how many entries stand under a key of a node
+listed : (nodes filters : ℕ) (d : Data) (path : List Step) (owner : Data) (level : ℕ) (parts : List Part) (i least most : ℕ) (k : Key) (inner : Kind)
+    → Passes nodes filters d path owner kind.Node level → parts_of_node (op_of d) d ≡ parts → slice_get parts i ≡ Some (part k inner)
+    → bound_of inner ≡ bound.Entries least most → least ≤ length (entries_under k d)
+listed nodes filters d path owner level parts i least most k inner p own at is =
+    let here : Part-at nodes filters d path k inner level = part_passes nodes filters d path owner kind.Node level parts i k inner p refl own at in
+    let count = counted nodes filters here.value (path ++ step.Key k ∷ []) d inner (level_of inner level) least most here.passes is in
+    subst (λ (es : List Data). least ≤ length es) (sym (under_is k d here.value here.is)) count.0
+
+node_step : (nodes filters n : ℕ) (document d : Data) (path : List Step) (owner : Data) (level : ℕ) → IsNarrow document
+    → Passes nodes filters d path owner kind.Node level
+    → ((e : Data) (inner : List Step) → Passes nodes filters e inner d kind.Node (level + 1) → IsSound (map table_of (entries_under key.Tables document)) (node_at n document e))
+    → (w : OpWord) → op_of d ≡ w → is_built w ≡ true
+    → IsSound (map table_of (entries_under key.Tables document)) (node_by (node_at n document) document d w)
+node_step nodes filters n document d path owner level narrow p below op.Scan is built =
+    let ts = entries_under key.Tables document in
+    let ns = entries_under key.Columns d in
+    let own = ap (λ (w : OpWord). parts_of_node w d) is in
+    let some : 1 ≤ length ns = listed nodes filters d path owner level table.scan 3 1 256 key.Columns kind.ScanColumns p own refl refl in
+    let cs = names.scanned_columns document d in
+    let within = place_within (text_under key.Table d) ts in
+    let few = narrow.tables in
+    let same : small (names.table_of document d) ≡ names.table_of document d = small_same (names.table_of document d) (omega (arith, within, few)) in
+    let fits = scan_fits ts (names.table_of document d) ns narrow.columns in (
+      omega (arith, length-map ns (column_type cs), some),
+      length-map ns (column_type cs) ∙ sym (length-map ns (column_place cs)),
+      subst (λ (t : ℕ). ScanFits (slice_get (map table_of ts) t) (places_of cs ns) (types_of cs ns)) (sym same) fits,
+    )
+node_step nodes filters n document d path owner level narrow p below op.Filter is built =
+    let own = ap (λ (w : OpWord). parts_of_node w d) is in
+    let at : Part-at nodes filters d path key.Input kind.Node level = part_passes nodes filters d path owner kind.Node level table.filter 3 key.Input kind.Node p refl own refl in
+    subst (λ (o : Option Data). IsSound (map table_of (entries_under key.Tables document)) (inner_node (node_at n document) o)) (sym at.is)
+    (below at.value (path ++ step.Key key.Input ∷ []) at.passes)
+node_step nodes filters n document d path owner level narrow p below op.Project is built =
+    let own = ap (λ (w : OpWord). parts_of_node w d) is in
+    let es = entries_under key.Columns d in
+    let some : 1 ≤ length es = listed nodes filters d path owner level table.project 2 1 256 key.Columns kind.Expressions p own refl refl in
+    let at : Part-at nodes filters d path key.Input kind.Node level = part_passes nodes filters d path owner kind.Node level table.project 3 key.Input kind.Node p refl own refl in (
+      omega (arith, length-map es expr_form, some),
+      subst (λ (o : Option Data). IsSound (map table_of (entries_under key.Tables document)) (inner_node (node_at n document) o)) (sym at.is)
+          (below at.value (path ++ step.Key key.Input ∷ []) at.passes),
+    )
+node_step nodes filters n document d path owner level narrow p below op.Values is built = cc
+node_step nodes filters n document d path owner level narrow p below op.Remote is built = cc
+node_step nodes filters n document d path owner level narrow p below op.Join is built = cc
+node_step nodes filters n document d path owner level narrow p below op.Aggregate is built = cc
+node_step nodes filters n document d path owner level narrow p below op.Sort is built = cc
+node_step nodes filters n document d path owner level narrow p below op.TopN is built = cc
+node_step nodes filters n document d path owner level narrow p below op.Limit is built = cc
+node_step nodes filters n document d path owner level narrow p below op.Union is built = cc
+node_step nodes filters n document d path owner level narrow p below op.Unknown is built = cc
+
+pub node_sound : (nodes filters n : ℕ) (document d : Data) (path : List Step) (owner : Data) (level : ℕ) → n + level ≡ 33 → IsNarrow document
+    → Passes nodes filters d path owner kind.Node level → IsSound (map table_of (entries_under key.Tables document)) (node_at n document d)
+unfolding node_at
+node_sound nodes filters zero document d path owner level deep narrow p =
+    let within : nat_lt 32 level ≡ false = not_beyond nodes filters d path owner kind.Node level p in
+    let few : level ≤ 32 = ltb-false 32 level within in
+    absurd (omega (arith, deep, few))
+node_sound nodes filters (suc n) document d path owner level deep narrow p =
+    let less : n + (level + 1) ≡ 33 = omega (arith, deep) in
+    node_step nodes filters n document d path owner level narrow p
+    (λ e inner q. node_sound nodes filters n document e inner d (level + 1) less narrow q) (op_of d) refl (built_word nodes filters d path owner level p)

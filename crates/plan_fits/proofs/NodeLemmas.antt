@@ -1,12 +1,11 @@
 -- A node of a document that passes the checks is a scan of declared columns, or a filter or a project
 -- over such a node.
 use Rattle.std.proofs.Common.{◌≡◌, ℕ, ◌+◌, ◌<◌, ◌≤◌, ◌^◌, zero, suc, List, [], ◌∷◌, ◌++◌, length, map, Bool, true, false, cond, Option, Some, None, refl, ap, sym, ◌∙◌, subst, arith, add-one}
-use Rattle.std.specs.Prelude.{slice_get, not, nat_lt, unwrap_or, if◌then◌else◌}
+use Rattle.std.specs.Prelude.{slice_get, nat_lt, if◌then◌else◌}
 use Rattle.std.specs.List.{find}
 use Rattle.std.proofs.lemmas.Bool.{lt-ltb, ltb-false}
 use Rattle.std.proofs.lemmas.List.{length-map}
-use Rattle.serde_json.specs.Data.{Data, Items}
-use Rattle.serde_json.specs.Find.{as_array}
+use Rattle.serde_json.specs.Data.{Data}
 use Rattle.sql_values.specs.declared.types.SqlType.{SqlType}
 use Rattle.plan_places.specs.declared.key.Key.{Key}
 use Rattle.plan_places.specs.declared.key.Key.TheVariants as key
@@ -20,11 +19,10 @@ use Rattle.plan_grammar.specs.declared.words.OpWord.TheVariants as op
 use Rattle.plan_grammar.specs.declared.words.StepWord.{StepWord}
 use Rattle.plan_grammar.specs.declared.words.StepWord.TheVariants as word
 use Rattle.plan_grammar.specs.Grammar.{aggregate_parts, join_parts, level_of, limit_parts, parts_of_node, topn_parts}
-use Rattle.plan_grammar.specs.Json.{entries, entries_in, entries_of, entries_under, has_key, text_of, text_under, under}
+use Rattle.plan_grammar.specs.Json.{entries_under, has_key, text_of, text_under, under}
 use Rattle.plan_grammar.specs.Tables.{part}
 use Rattle.plan_grammar.specs.Tables as table
 use Rattle.plan_grammar.specs.Words.{op_named, op_of, step_of}
-use Rattle.plan_checks.specs.declared.shapes.Shape.TheVariants as shape
 use Rattle.plan_checks.specs.declared.limits.Bound.TheVariants as bound
 use Rattle.plan_checks.specs.Built.{is_built}
 use Rattle.plan_checks.specs.Limits.{bound_of}
@@ -34,12 +32,12 @@ use Rattle.plan_docs.specs.Names.{column_place, column_type, columns_in, has_nam
 use Rattle.plan_docs.specs.Names as names
 use Rattle.plan_docs.specs.Nodes.{NodeForm, scan, values, remote, filter, project, join, aggregate, aggregate_final, sort, top_n, top_n_final, limit, limit_final, union}
 use Rattle.plan_docs.specs.Exprs.{expr_form}
-use Rattle.plan_docs.specs.Parts.{column_of, columns_of}
+use Rattle.plan_docs.specs.Parts.{columns_of}
 use Rattle.plan_docs.specs.ReadNodes.{inner_node, node_at, node_by}
 use Rattle.plan_docs.specs.Words.{small}
 use Rattle.tree_evaluator.specs.Fits.{ColumnFits, ColumnsFit, IsOrMissing, kinds}
 use Rattle.plan_fits.proofs.FindLemmas.{not_false}
-use Rattle.plan_fits.proofs.PlaceLemmas.{Part-at, Passes, counted, entry_passes, not_beyond, not_unbuilt, part_passes, under_is}
+use Rattle.plan_fits.proofs.PlaceLemmas.{Part-at, Passes, counted, not_beyond, not_unbuilt, part_passes, under_is}
 
 -- the columns of a declared table, if there is one, have these types at these places
 abbrev pub ScanFits : Option TableDoc → List ℕ → List SqlType → Type 0

@@ -1,5 +1,5 @@
 -- The tree of a plan that was read, over tables of the columns that it declares.
-use Rattle.std.proofs.Common.{◌≡◌, ℕ, ◌+◌, ◌≤◌, zero, suc, List, [], ◌∷◌, ◌++◌, length, map, Option, Some, None, refl, ap, sym, ◌∙◌, subst, arith}
+use Rattle.std.proofs.Common.{◌≡◌, ℕ, ◌≤◌, suc, List, [], ◌∷◌, ◌++◌, length, map, Option, Some, None, refl, ap, sym, ◌∙◌, subst, arith}
 use Rattle.std.specs.Prelude.{Result, Ok, Err, slice_get}
 use Rattle.std.specs.Option.{option_or}
 use Rattle.std.specs.List.{count_by, find}
@@ -19,7 +19,7 @@ use Rattle.plan_checks.specs.Built.{first_unbuilt, is_further, is_unbuilt}
 use Rattle.plan_checks.specs.Documents.{at, first_refused, refusal, refusal_of}
 use Rattle.plan_checks.specs.Fragments.{first_unlinked}
 use Rattle.plan_checks.specs.Halves.{first_alone}
-use Rattle.plan_checks.specs.Limits.{first_beyond, is_beyond, is_filter, is_node}
+use Rattle.plan_checks.specs.Limits.{first_beyond, is_filter, is_node}
 use Rattle.plan_checks.specs.Names.{first_misnamed}
 use Rattle.plan_checks.specs.Shapes.{is_misshapen}
 use Rattle.plan_docs.specs.Documents.{fragment_of, plan_of, table_of}
@@ -38,7 +38,7 @@ use Rattle.plan_fits.specs.Tables.{HaveColumns, WasRead}
 use Rattle.plan_fits.proofs.FindLemmas.{first_option, second_option, unmapped}
 use Rattle.plan_fits.proofs.PlaceLemmas.{Part-at, Passes, counted, entry_passes, part_passes, under_is}
 use Rattle.plan_fits.proofs.NodeLemmas.{IsNarrow, IsSound, node_sound}
-use Rattle.plan_fits.proofs.TreeLemmas.{Agrees, node_agrees}
+use Rattle.plan_fits.proofs.TreeLemmas.{node_agrees}
 
 -- the groups of checks of which none fails
 record NoneFails (all : List Spot) : Type 0 where

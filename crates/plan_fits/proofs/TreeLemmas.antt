@@ -1,6 +1,6 @@
 -- The tree of a typed node over tables of the declared columns.
-use Rattle.std.proofs.Common.{◌≡◌, ℕ, ◌+◌, ◌<◌, zero, suc, List, [], ◌∷◌, length, map, Bool, true, false, Option, Some, None, refl, ap, sym, ◌∙◌, subst, arith}
-use Rattle.std.specs.Prelude.{All, IsTrue, Result, Ok, Err, slice_get, if◌then◌else◌}
+use Rattle.std.proofs.Common.{◌≡◌, ℕ, ◌+◌, zero, suc, List, [], ◌∷◌, length, map, Bool, true, false, ap, sym, ◌∙◌, subst, arith}
+use Rattle.std.specs.Prelude.{IsTrue, Ok, Err, slice_get, if◌then◌else◌}
 use Rattle.std.proofs.lemmas.List.Elements.{All-nil}
 use Rattle.sql_values.specs.declared.types.SqlType.{SqlType}
 use Rattle.sql_values.specs.declared.table.Table.{Table}
@@ -16,7 +16,7 @@ use Rattle.plan_docs.specs.Nodes.{NodeForm, scan, values, remote, filter, projec
 use Rattle.plan_trees.specs.Allowed.{scanned}
 use Rattle.plan_trees.specs.TreeForms.{TreeForm}
 use Rattle.plan_trees.specs.TreeTypes as tree
-use Rattle.page_judges.specs.Typed.{AllFit, AllTyped, IsTyped}
+use Rattle.page_judges.specs.Typed.{AllFit, AllTyped}
 use Rattle.plan_types.specs.declared.row_types.RowTypes.{RowTypes}
 use Rattle.plan_types.specs.RowTypes.{plain}
 use Rattle.plan_types.specs.Nodes.{node_types}

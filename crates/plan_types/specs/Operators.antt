@@ -1,5 +1,6 @@
 -- The types of the rows of an operator over inputs of known types, or the place that does not fit.
-use Rattle.std.specs.Prelude.{ℕ, ◌+◌, List, [], ◌∷◌, ◌++◌, length, slice_get, Bool, false, not, nat_le, nat_lt, ◌==◌, if◌then◌else◌, Option, Some, None, Result, Ok, Err}
+use Rattle.std.specs.Prelude.{ℕ, ◌+◌, List, [], ◌∷◌, ◌++◌, length, slice_get, Bool, false, not, nat_le, nat_lt, if◌then◌else◌, Option, Some, None, Result, Ok, Err}
+use Rattle.std.specs.Cmp.Lexicographic.{pointwise}
 use Rattle.std.specs.List.{position_from}
 use Rattle.sql_values.specs.declared.types.SqlType.{SqlType}
 use Rattle.sql_values.specs.declared.value.Value.{Value}
@@ -65,14 +66,5 @@ abbrev pub sort_types : Path → List KeySpec → RowTypes → Result RowTypes P
 sort_types path keys input =
     or_fault (entry_fault path key.Keys (position_from (is_key_beyond (length input.columns)) 0 keys)) (Ok (plain input.columns))
 
-abbrev pub is_found : SqlType → Option SqlType → Bool
-is_found kind None = false
-is_found kind (Some other) = same_type kind other
-
--- the types from place i on are those of another list, which has no more
-abbrev pub are_same : ℕ → List SqlType → List SqlType → Bool
-are_same i [] others = length others == i
-are_same i (kind ∷ kinds) others = if is_found kind (slice_get others i) then are_same (i + 1) kinds others else false
-
 abbrev pub union_types : Path → RowTypes → RowTypes → Result RowTypes Path
-union_types path left right = if are_same 0 left.columns right.columns then Ok (plain left.columns) else Err path
+union_types path left right = if pointwise same_type left.columns right.columns then Ok (plain left.columns) else Err path

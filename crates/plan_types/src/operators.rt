@@ -1,9 +1,10 @@
 ghost use Rattle.std.specs.Prelude.{◌≡◌, map, Option, Ok, MatchResult, slice_get};
+ghost use Rattle.std.specs.Cmp.Lexicographic.{pointwise};
 ghost use Rattle.std.specs.List.{position_from};
-ghost use Rattle.sql_functions.specs.CallTypes.{is_boolean};
+ghost use Rattle.sql_functions.specs.CallTypes.{is_boolean, same_type};
 ghost use Rattle.sql_exprs.specs.Forms.{form_view};
 ghost use Rattle.sql_exprs.specs.Typing.{MisfitAt};
-ghost use Rattle.plan_types.specs.Operators.{aggregate_types, are_same, boolean_rows, column_types, filter_types, is_found, is_key_beyond, is_unequal, join_types, project_types, sort_types, union_types, values_types};
+ghost use Rattle.plan_types.specs.Operators.{aggregate_types, boolean_rows, column_types, filter_types, is_key_beyond, is_unequal, join_types, project_types, sort_types, union_types, values_types};
 
 use crate::aggregates::{first_untaken, step_types};
 use crate::cells::pass_cells;
@@ -178,25 +179,20 @@ pub fn sort_types(
     Ok(plain(input.columns))
 }
 
-fn is_at(kinds: &[SqlType], at: usize, kind: SqlType) -> bool
-    ensures { result ≡ is_found kind (slice_get kinds.now at) }
-{
-    match kinds.get(at) {
-        Some(other) => same_type(kind, *other),
-        None => false,
-    }
-}
-
 /// Whether the lists are the same.
+#[tactic(auto, using(crate::proofs::SameLemmas::same_lists))]
 fn are_same(kinds: &[SqlType], others: &[SqlType]) -> bool
-    ensures { result ≡ are_same 0 kinds.now others.now }
+    ensures { result ≡ pointwise same_type kinds.now others.now }
 {
+    if kinds.len() != others.len() {
+        return false;
+    }
     for (i, kind) in kinds.iter().enumerate() {
-        if !is_at(others, i, *kind) {
+        if !same_type(*kind, others[i]) {
             return false;
         }
     }
-    others.len() == kinds.len()
+    true
 }
 
 pub fn union_types(

@@ -8,7 +8,7 @@ use Rattle.bag_laws.specs.Laws.{TaskRows}
 use Rattle.bag_laws.specs.Weights.{SameWeights}
 use Rattle.bag_laws.proofs.BagLemmas.{same-append, same-from_equal, same-refl, same-sym, same-trans}
 use Rattle.bag_laws.proofs.GatherLemmas.{chosen, gather-none, gather-one, same-gather_append}
-use Rattle.plan_runs.specs.Nets.{Lanes, tasks}
+use Rattle.plan_runs.specs.Nets.{Lanes, of_tasks}
 use Rattle.plan_runs.specs.Stops.{AllSet, Flags, MayCome, TookOf}
 
 -- what each driver took, and more
@@ -85,7 +85,7 @@ all_or_one (suc n) w ended = last_task n w ended (ended_or_open w (ended n)) (al
 
 -- the rows that are missing, dealt to the drivers of all tasks
 pub record DealtOut (n w : ℕ) (ended : Flags) (missing : List (List Value)) (more : Lanes) : Type 0 where
-  pub same : SameWeights (gather n (tasks w more)) missing
+  pub same : SameWeights (gather n (of_tasks w more)) missing
   pub none : (k d : ℕ) → k < n → d < w → MayCome (ended k d) (more k d)
 
 deal_out_at : (n w : ℕ) (ended : Flags) (missing : List (List Value)) → (AllSet n w ended → missing ≡ []) → AllOrOne n w ended
@@ -93,7 +93,7 @@ deal_out_at : (n w : ℕ) (ended : Flags) (missing : List (List Value)) → (All
 deal_out_at n w ended missing nothing (inl all) = (
   λ k d. [],
   record {
-    same = same-from_equal (gather-none n (tasks w (λ k d. [])) (λ k lt. gather-none w (λ d. []) (λ d less. refl)) ∙ sym (nothing all));
+    same = same-from_equal (gather-none n (of_tasks w (λ k d. [])) (λ k lt. gather-none w (λ d. []) (λ d less. refl)) ∙ sym (nothing all));
     none = λ k d lt less e. refl;
   },
 )
@@ -104,7 +104,7 @@ deal_out_at n w ended missing nothing (inr (k, lt, (d, less, opened))) =
       more,
       record {
         same = same-from_equal
-            (gather-one n (tasks w more) k lt (λ j below ne. ap (gather w) (others j ne) ∙ gather-none w none (λ d under. refl))
+            (gather-one n (of_tasks w more) k lt (λ j below ne. ap (gather w) (others j ne) ∙ gather-none w none (λ d under. refl))
             ∙ ap (gather w) (put_at-here k (put_at d missing []) none) ∙ gather-put_at w d missing less);
         none = λ j e below under is. elim (cases_eq j k) as (λ _. more j e ≡ []) [
           | inl same ↦ ap (λ (i : ℕ). more i e) same ∙ ap (λ (f : TaskRows). f e) (put_at-here k (put_at d missing []) none)
@@ -139,7 +139,7 @@ fed_task w took ended put extra AreDone t nothing =
 -- of all tasks
 pub record Fed (n w : ℕ) (took : Lanes) (ended : Flags) (put extra : TaskRows) : Type 0 where
   pub more : Lanes
-  pub same : (k : ℕ) → k < n → SameWeights (put k ++ extra k) (tasks w (longer took more) k)
+  pub same : (k : ℕ) → k < n → SameWeights (put k ++ extra k) (of_tasks w (longer took more) k)
   pub none : (k d : ℕ) → k < n → d < w → MayCome (ended k d) (more k d)
 
 pub fed : (n w : ℕ) (took : Lanes) (ended : Flags) (put extra : TaskRows) (AreDone : ℕ → Type 0)

@@ -11,7 +11,7 @@ use Rattle.bag_laws.specs.Weights.{SameWeights}
 use Rattle.bag_laws.proofs.BagLemmas.{same-append, same-exchange, same-filter, same-from_equal, same-refl, same-sym, same-trans}
 use Rattle.bag_laws.proofs.GatherLemmas.{gather-none, same-gather, same-gather_append}
 use Rattle.plan_trees.specs.Allowed.{skipping}
-use Rattle.plan_runs.specs.Nets.{AreFor, Below, Pipe, Chain, Lanes, Stage, Went, WentInto, limit, partial, tasks, topn}
+use Rattle.plan_runs.specs.Nets.{AreFor, Below, Pipe, Chain, Lanes, Stage, Went, WentInto, limit, partial, of_tasks, topn}
 use Rattle.plan_runs.specs.RunPlans.{Output, RunPlan, single, hashed, broadcast}
 use Rattle.plan_runs.specs.RunPlans as plan
 use Rattle.plan_runs.specs.Runs.{Passed, sent}
@@ -21,10 +21,10 @@ use Rattle.plan_runs.proofs.LaneLemmas.{chosen_lanes}
 use Rattle.plan_runs.proofs.WireLemmas.{into_last}
 
 -- the tasks' rows, with more behind them
-pub same-longer : (n w : ℕ) (lanes more : Lanes) → SameWeights (gather n (tasks w (longer lanes more))) (gather n (tasks w lanes) ++ gather n (tasks w more))
+pub same-longer : (n w : ℕ) (lanes more : Lanes) → SameWeights (gather n (of_tasks w (longer lanes more))) (gather n (of_tasks w lanes) ++ gather n (of_tasks w more))
 same-longer n w lanes more =
-    same-trans (same-gather n (tasks w (longer lanes more)) (λ k. tasks w lanes k ++ tasks w more k) (λ k lt. same-gather_append w (lanes k) (more k)))
-    (same-gather_append n (tasks w lanes) (tasks w more))
+    same-trans (same-gather n (of_tasks w (longer lanes more)) (λ k. of_tasks w lanes k ++ of_tasks w more k) (λ k lt. same-gather_append w (lanes k) (more k)))
+    (same-gather_append n (of_tasks w lanes) (of_tasks w more))
 
 same-sent : (output : Output) (n k : ℕ) {A B : List (List Value)} → SameWeights A B → SameWeights (sent output n k A) (sent output n k B)
 same-sent single n k s = s
@@ -82,38 +82,38 @@ module _ (tables : List (List (List Value))) where
       (λ k d lt less. let c = r.chains k d lt less in (c.0 ++ stage ∷ [], (c.0, refl, c.1), c.2))
 
   -- where all that are done give no more, nothing more is there
-  rest_nothing : (n w : ℕ) (done : Flags) (rest : Lanes) → ((k d : ℕ) → k < n → d < w → MayCome (done k d) (rest k d)) → AllSet n w done → gather n (tasks w rest) ≡ []
+  rest_nothing : (n w : ℕ) (done : Flags) (rest : Lanes) → ((k d : ℕ) → k < n → d < w → MayCome (done k d) (rest k d)) → AllSet n w done → gather n (of_tasks w rest) ≡ []
   rest_nothing n w done rest none all =
-      gather-none n (tasks w rest) (λ k lt. gather-none w (rest k) (λ d less. none k d lt less (all k d lt less)))
+      gather-none n (of_tasks w rest) (λ k lt. gather-none w (rest k) (λ d less. none k d lt less (all k d lt less)))
 
-  task_nothing : (w k : ℕ) (done : Flags) (rest : Lanes) → ((d : ℕ) → d < w → MayCome (done k d) (rest k d)) → ((d : ℕ) → d < w → done k d ≡ true) → tasks w rest k ≡ []
+  task_nothing : (w k : ℕ) (done : Flags) (rest : Lanes) → ((d : ℕ) → d < w → MayCome (done k d) (rest k d)) → ((d : ℕ) → d < w → done k d ≡ true) → of_tasks w rest k ≡ []
   task_nothing w k done rest none all = gather-none w (rest k) (λ d less. none d less (all d less))
 
   -- over an edge: what the givers still give reaches drivers that have not ended
   passed_on : (output : Output) (m n : ℕ) (g : StoppedPipe) (w : ℕ) (took : Lanes) (ended : Flags) → PassedSoFar output m n g w took ended
       → (rest : Lanes) → ((k d : ℕ) → k < m → d < g.drivers → MayCome (g.done k d) (rest k d))
-      → Fed n w took ended (λ k. sent output n k (gather m (tasks g.drivers g.gave))) (λ k. sent output n k (gather m (tasks g.drivers rest)))
+      → Fed n w took ended (λ k. sent output n k (gather m (of_tasks g.drivers g.gave))) (λ k. sent output n k (gather m (of_tasks g.drivers rest)))
   passed_on output m n g w took ended passed rest none =
-      fed n w took ended (λ k. sent output n k (gather m (tasks g.drivers g.gave))) (λ k. sent output n k (gather m (tasks g.drivers rest)))
+      fed n w took ended (λ k. sent output n k (gather m (of_tasks g.drivers g.gave))) (λ k. sent output n k (gather m (of_tasks g.drivers rest)))
       (λ k. AllSet m g.drivers g.done) passed
-      (λ k lt all. sent-none output n k (gather m (tasks g.drivers rest)) (rest_nothing m g.drivers g.done rest none all))
+      (λ k lt all. sent-none output n k (gather m (of_tasks g.drivers rest)) (rest_nothing m g.drivers g.done rest none all))
 
   all_passed : (output : Output) (m n : ℕ) (g : StoppedPipe) (w : ℕ) (took : Lanes) (ended : Flags) (rest : Lanes)
-      (f : Fed n w took ended (λ k. sent output n k (gather m (tasks g.drivers g.gave))) (λ k. sent output n k (gather m (tasks g.drivers rest))))
-      → Passed output m n (tasks g.drivers (longer g.gave rest)) (tasks w (longer took f.more))
+      (f : Fed n w took ended (λ k. sent output n k (gather m (of_tasks g.drivers g.gave))) (λ k. sent output n k (gather m (of_tasks g.drivers rest))))
+      → Passed output m n (of_tasks g.drivers (longer g.gave rest)) (of_tasks w (longer took f.more))
   all_passed output m n g w took ended rest f k lt =
       same-trans (same-sent output n k (same-longer m g.drivers g.gave rest))
-      (same-trans (same-from_equal (sent-append output n k (gather m (tasks g.drivers g.gave)) (gather m (tasks g.drivers rest)))) (f.same k lt))
+      (same-trans (same-from_equal (sent-append output n k (gather m (of_tasks g.drivers g.gave)) (gather m (of_tasks g.drivers rest)))) (f.same k lt))
 
   -- a build that a note knows is whole
   noted_build : (w k : ℕ) (gave rest : Lanes) (done : Flags) (known : Option (List (List Value)))
-      → ((built : List (List Value)) → known ≡ Some built → ((e : ℕ) → e < w → done k e ≡ true) × SameWeights (tasks w gave k) built)
-      → ((e : ℕ) → e < w → MayCome (done k e) (rest k e)) → IsNoted known (tasks w (longer gave rest) k)
+      → ((built : List (List Value)) → known ≡ Some built → ((e : ℕ) → e < w → done k e ≡ true) × SameWeights (of_tasks w gave k) built)
+      → ((e : ℕ) → e < w → MayCome (done k e) (rest k e)) → IsNoted known (of_tasks w (longer gave rest) k)
   noted_build w k gave rest done None knows none = tt
   noted_build w k gave rest done (Some built) knows none =
       let h = knows built refl in
       same-trans (same-gather_append w (gave k) (rest k))
-      (same-trans (same-from_equal (ap (λ rows. tasks w gave k ++ rows) (task_nothing w k done rest none h.0) ∙ append-nil (tasks w gave k))) h.1)
+      (same-trans (same-from_equal (ap (λ rows. of_tasks w gave k ++ rows) (task_nothing w k done rest none h.0) ∙ append-nil (of_tasks w gave k))) h.1)
 
   -- where there are no notes, no build is known
   none_noted : (notes : Notes) → notes ≡ [] → (k d : ℕ) → AreNoted notes [] k d
@@ -126,7 +126,7 @@ module _ (tables : List (List (List Value))) where
   record Edge (output : Output) (m n w : ℕ) (input : RunPlan) (g : StoppedPipe) (took : Lanes) (ended : Flags) (last : List Stage) : Type 0 where
     pub whole : Whole tables m g.drivers input g.notes g.took g.ended
     pub given : Rest last m g.drivers input whole.builds (longer g.took whole.more) g.gave g.done
-    pub fed : Fed n w took ended (λ k. sent output n k (gather m (tasks g.drivers g.gave))) (λ k. sent output n k (gather m (tasks g.drivers given.rest)))
+    pub fed : Fed n w took ended (λ k. sent output n k (gather m (of_tasks g.drivers g.gave))) (λ k. sent output n k (gather m (of_tasks g.drivers given.rest)))
 
   edge : (output : Output) (m n w : ℕ) (input : RunPlan) (g : StoppedPipe) (took : Lanes) (ended : Flags) (last : List Stage) → Whole tables m g.drivers input g.notes g.took g.ended
       → AreOpen last m g.drivers input g.notes g.took g.gave g.ended g.done → PassedSoFar output m n g w took ended → Edge output m n w input g took ended last
@@ -140,7 +140,7 @@ module _ (tables : List (List (List Value))) where
       record {
         more = d.0;
         builds = [];
-        below = same-trans (same-longer n w took d.0) (same-trans (same-append (same-refl (gather n (tasks w took))) d.1.same) h.some);
+        below = same-trans (same-longer n w took d.0) (same-trans (same-append (same-refl (gather n (of_tasks w took))) d.1.same) h.some);
         noted = λ k e lt less. none_noted notes no_notes k e;
         none = d.1.none;
       }
@@ -180,12 +180,12 @@ module _ (tables : List (List (List Value))) where
       let whole = extend n w left notes took ended below in
       record {
         more = whole.more;
-        builds = tasks g.drivers (longer g.gave given.rest) ∷ whole.builds;
+        builds = of_tasks g.drivers (longer g.gave given.rest) ∷ whole.builds;
         below = (
           pipe_of g built.builds built.more given.rest,
           built.below,
           rest_went n g.drivers right built.builds (longer g.took built.more) g.gave g.done given,
-          λ k lt. same-refl (tasks g.drivers (longer g.gave given.rest) k),
+          λ k lt. same-refl (of_tasks g.drivers (longer g.gave given.rest) k),
           whole.below,
         );
         noted = λ k d lt less. (noted_build g.drivers k g.gave given.rest g.done (note k d) (knows k d lt less) (λ e under. given.none k e lt under), whole.noted k d lt less);
@@ -253,7 +253,7 @@ module _ (tables : List (List (List Value))) where
       let second = extend n h.drivers right h.notes h.took h.ended also in
       let one = rest_of [] n g.drivers left g.notes g.took g.gave g.ended g.done opened first in
       let two = rest_of [] n h.drivers right h.notes h.took h.gave h.ended h.done opened_too second in
-      let f = fed n w took ended (λ k. tasks g.drivers g.gave k ++ tasks h.drivers h.gave k) (λ k. tasks g.drivers one.rest k ++ tasks h.drivers two.rest k)
+      let f = fed n w took ended (λ k. of_tasks g.drivers g.gave k ++ of_tasks h.drivers h.gave k) (λ k. of_tasks g.drivers one.rest k ++ of_tasks h.drivers two.rest k)
       (λ k. ((e : ℕ) → e < g.drivers → g.done k e ≡ true) × ((e : ℕ) → e < h.drivers → h.done k e ≡ true)) passed
       (λ k lt done. λ i. task_nothing g.drivers k g.done one.rest (λ d less. one.none k d lt less) done.0 i
       ++ task_nothing h.drivers k h.done two.rest (λ d less. two.none k d lt less) done.1 i) in
@@ -268,7 +268,7 @@ module _ (tables : List (List (List Value))) where
           second.below,
           rest_went n h.drivers right second.builds (longer h.took second.more) h.gave h.done two,
           λ k lt. same-trans (same-append (same-gather_append g.drivers (g.gave k) (one.rest k)) (same-gather_append h.drivers (h.gave k) (two.rest k)))
-              (same-trans (same-exchange (tasks g.drivers g.gave k) (tasks g.drivers one.rest k) (tasks h.drivers h.gave k) (tasks h.drivers two.rest k)) (f.same k lt)),
+              (same-trans (same-exchange (of_tasks g.drivers g.gave k) (of_tasks g.drivers one.rest k) (of_tasks h.drivers h.gave k) (of_tasks h.drivers two.rest k)) (f.same k lt)),
         );
         noted = λ k d lt less. none_noted notes no_notes k d;
         none = f.none;

@@ -20,7 +20,7 @@ use Rattle.plan_trees.specs.TreeTypes.{types_of}
 use Rattle.plan_trees.specs.Widths.{FitsWidths}
 use Rattle.plan_trees.proofs.GivenLemmas.{may_have_given}
 use Rattle.plan_runs.specs.Faults.{FailedFinal, FailedOver, FailsOnGroupOf, FailsOnOneOf}
-use Rattle.plan_runs.specs.Nets.{Below, Lanes, tasks}
+use Rattle.plan_runs.specs.Nets.{Below, Lanes, of_tasks}
 use Rattle.plan_runs.specs.Placements.{IsRead, Placed, scan_whole, scan_any, values_whole, values_every, remote_whole, remote_by, remote_every, filter_stays, project_whole, project_any, project_by, project_every, join_whole, join_right_every, join_by, aggregate_whole, aggregate_by, final_whole, final_by, sort_whole, topn_whole, topn_parts_whole, limit_whole, limit_parts_whole, union_whole, union_any, union_every, any_from_by}
 use Rattle.plan_runs.specs.RunPlans.{Output, RunPlan, hashed, single, tree_of_run}
 use Rattle.plan_runs.specs.RunPlans as plan
@@ -95,7 +95,7 @@ module _ (tables : List (List (List Value))) where
   -- the run that goes on from where the driver failed, up to its stage
   record Ended (Fails : List (List Value) → Type 0) (s : Spread) (t : TreeForm) (n w : ℕ) : Type 0 where
     pub lanes : Lanes
-    pub says : Says s skipping t tables n (tasks w lanes)
+    pub says : Says s skipping t tables n (of_tasks w lanes)
     pub task : ℕ
     pub driver : ℕ
     pub in_tasks : task < n
@@ -109,7 +109,7 @@ module _ (tables : List (List (List Value))) where
       let r = rest_of tables [] n w input notes took f.gave ended f.done f.opened all in
       record {
         lanes = longer f.gave r.rest;
-        says = composed skipping tables lt fits d (tasks w (longer f.gave r.rest))
+        says = composed skipping tables lt fits d (of_tasks w (longer f.gave r.rest))
             (wired skipping tables n w input all.builds (longer took all.more) (longer f.gave r.rest) all.below
             (rest_went tables n w input all.builds (longer took all.more) f.gave f.done r));
         task = f.task;
@@ -126,7 +126,7 @@ module _ (tables : List (List (List Value))) where
   row_failed {n = n} {input = input} {s = s} judge kind w notes took ended lt fits d f =
       let e = ended_over (FailsOnOneOf judge kind) w notes took ended lt fits d f in
       let row = e.failed.0 in
-      let a = among_given (tree_of_run input) s n (tasks w e.lanes) (one_task d) e.says e.task e.in_tasks row
+      let a = among_given (tree_of_run input) s n (of_tasks w e.lanes) (one_task d) e.says e.task e.in_tasks row
       (among-gather w (e.lanes e.task) row e.driver e.in_drivers e.failed.1) in
       record { given = a.0; row = row; may = may_have_given (tree_of_run input) tables a.0 a.1; among = a.2; so = e.failed.2 }
 
@@ -144,9 +144,9 @@ module _ (tables : List (List (List Value))) where
       let e = ended_over (FailsOnGroupOf verdicts kind) w notes took ended (omega arith) fits d f in
       let first : e.task ≡ 0 = omega (arith, e.in_tasks) in
       record {
-        given = tasks w e.lanes 0;
+        given = of_tasks w e.lanes 0;
         may = e.says;
-        so = subst (λ (k : ℕ). FailsOnGroupOf verdicts kind (tasks w e.lanes k)) first
+        so = subst (λ (k : ℕ). FailsOnGroupOf verdicts kind (of_tasks w e.lanes k)) first
             (group_of_task verdicts kind w one (e.lanes e.task) e.driver e.in_drivers e.failed);
       }
 
@@ -158,7 +158,7 @@ module _ (tables : List (List (List Value))) where
       let types = types_of (tree_of_run input) in
       let verdicts = groups_of types keys calls in
       let e = ended_over (FailsOnGroupOf verdicts kind) w notes took ended lt fits d f in
-      let lists : TaskRows = tasks w e.lanes in
+      let lists : TaskRows = of_tasks w e.lanes in
       let here : FailsOnGroupOf verdicts kind (lists e.task) = group_of_task verdicts kind w one (e.lanes e.task) e.driver e.in_drivers e.failed in
       record {
         given = e.says.0.rows;
@@ -179,13 +179,13 @@ module _ (tables : List (List (List Value))) where
   came : {m : ℕ} {input : RunPlan} {s : Spread} (n w id source : ℕ) (output : Output) (keys : List ℕ) (calls : List Call) (builds : List TaskRows) (took : Lanes)
       → IsRead m s → FitsWidths (tree_of_run input) → Placed m input s
       → Below skipping tables n w (plan.aggregate_parts id source output m keys calls input) builds took
-      → Came output m n s (tree_of_run input) keys calls (tasks w took)
+      → Came output m n s (tree_of_run input) keys calls (of_tasks w took)
   came {m = m} {input = input} {s = s} n w id source output keys calls builds took r fits d (p, one, below, (between, under, makes), passed) =
       record {
-        ins = tasks p.drivers between;
-        parts = tasks p.drivers p.gave;
-        below = read skipping (tree_of_run input) tables m s (tasks p.drivers between) r
-            (composed skipping tables (some_tasks m s r) fits d (tasks p.drivers between) (wired skipping tables m p.drivers input p.builds p.took between below under));
+        ins = of_tasks p.drivers between;
+        parts = of_tasks p.drivers p.gave;
+        below = read skipping (tree_of_run input) tables m s (of_tasks p.drivers between) r
+            (composed skipping tables (some_tasks m s r) fits d (of_tasks p.drivers between) (wired skipping tables m p.drivers input p.builds p.took between below under));
         each = in_pieces skipping tables (ArePartialsOf keys calls) m p.drivers between p.gave makes;
         passed = passed;
       }
@@ -202,7 +202,7 @@ module _ (tables : List (List (List Value))) where
   came_whole {m = m} {input = input} verdicts kind n w id source output keys calls notes took ended r fits d f =
       let all = extend tables n w (plan.aggregate_parts id source output m keys calls input) notes took ended f.stops in
       let one : w ≡ 1 = alone_below m input n w id source output keys calls all.builds (longer took all.more) all.below in (
-        tasks w (longer took all.more),
+        of_tasks w (longer took all.more),
         came n w id source output keys calls all.builds (longer took all.more) r fits d all.below,
         (
           f.task,

@@ -15,7 +15,7 @@ use Rattle.bag_laws.proofs.JoinLemmas.{same-join}
 use Rattle.plan_trees.specs.Allowed.{Mode, Taken, width_of}
 use Rattle.plan_trees.specs.Judges.{filter_judge, project_judge}
 use Rattle.plan_trees.specs.TreeTypes.{types_of}
-use Rattle.plan_runs.specs.Nets.{AreFor, Below, Chain, EndsWith, Lanes, Makes, Stage, Went, WentInto, filter, final, grouping, limit, probe, project, sort, tasks, topn}
+use Rattle.plan_runs.specs.Nets.{AreFor, Below, Chain, EndsWith, Lanes, Makes, Stage, Went, WentInto, filter, final, grouping, limit, probe, project, sort, of_tasks, topn}
 use Rattle.plan_runs.specs.RunPlans.{RunPlan, tree_of_run}
 use Rattle.plan_runs.specs.RunPlans as plan
 use Rattle.plan_runs.specs.Runs.{AllInPieces, ArePartialsOf, Ran}
@@ -24,7 +24,7 @@ use Rattle.plan_runs.proofs.LaneLemmas.{Lane, alone, before_last, chosen_lanes, 
 module _ (mode : Mode) (tables : List (List (List Value))) where
   -- drivers that have no stage give what they take
   passed_on : (n w : ℕ) (took gave : Lanes) → ((k d : ℕ) → k < n → d < w → (stages : List Stage) × (stages ≡ []) × Chain mode stages (took k d) (gave k d))
-      → (k : ℕ) → k < n → tasks w took k ≡ tasks w gave k
+      → (k : ℕ) → k < n → of_tasks w took k ≡ of_tasks w gave k
   passed_on n w took gave went k lt =
       gather-agree w (took k) (gave k) (λ d less. let h = went k d lt less in no_stage mode h.0 (took k d) (gave k d) h.1 h.2)
 
@@ -46,20 +46,20 @@ module _ (mode : Mode) (tables : List (List (List Value))) where
 
   -- a task's drivers cut its rows into pieces
   pub in_pieces : (Gave : List (List Value) → List (List Value) → Type 0) (m v : ℕ) (between gave : Lanes)
-      → ((k d : ℕ) → k < m → d < v → Gave (between k d) (gave k d)) → AllInPieces Gave m (tasks v between) (tasks v gave)
+      → ((k d : ℕ) → k < m → d < v → Gave (between k d) (gave k d)) → AllInPieces Gave m (of_tasks v between) (of_tasks v gave)
   in_pieces Gave m v between gave each j lt = record {
     drivers = v;
     pieces = between j;
     gave = gave j;
-    cut = same-refl (tasks v between j);
+    cut = same-refl (of_tasks v between j);
     each = λ d less. each j d lt less;
-    together = same-refl (tasks v gave j);
+    together = same-refl (of_tasks v gave j);
   }
 
   -- the only driver of a task, with one stage
   one_driver : (R : List (List Value) → List (List Value) → Type 0) (stage : Stage) (n w : ℕ) → w ≡ 1 → (took gave : Lanes)
       → ((a b : List (List Value)) → Makes mode stage a b → R a b)
-      → ((k d : ℕ) → k < n → d < w → Makes mode stage (took k d) (gave k d)) → (k : ℕ) → k < n → R (tasks w took k) (tasks w gave k)
+      → ((k d : ℕ) → k < n → d < w → Makes mode stage (took k d) (gave k d)) → (k : ℕ) → k < n → R (of_tasks w took k) (of_tasks w gave k)
   one_driver R stage n w one took gave is makes k lt = alone R w one (took k) (gave k) (is (took k 0) (gave k 0) (makes k 0 lt (omega (arith, one))))
 
   only_stages : (n w : ℕ) (stage : Stage) (took gave : Lanes)
@@ -82,44 +82,44 @@ module _ (mode : Mode) (tables : List (List (List Value))) where
       (b.0, b.1, same-trans (same-join kind on l r (same-refl b.0) h.1.1) b.2))
 
   pub wired : (n w : ℕ) (node : RunPlan) (builds : List TaskRows) (took gave : Lanes) → Below mode tables n w node builds took → Went mode n w node builds took gave
-      → Ran mode tables n node (tasks w gave)
+      → Ran mode tables n node (of_tasks w gave)
   wired n w (plan.scan id table columns types) builds took gave below went =
-      same-trans (same-from_equal (sym (gather-agree n (tasks w took) (tasks w gave) (passed_on n w took gave went)))) below
+      same-trans (same-from_equal (sym (gather-agree n (of_tasks w took) (of_tasks w gave) (passed_on n w took gave went)))) below
   wired n w (plan.values id types rows) builds took gave below went =
       λ k lt. same-trans (same-from_equal (sym (passed_on n w took gave went k lt))) (below k lt)
   wired n w (plan.remote id output m input) builds took gave (p, below, under, passed) went =
-      (tasks p.drivers p.gave, wired m p.drivers input p.builds p.took p.gave below under, λ k lt. same-trans (passed k lt) (same-from_equal (passed_on n w took gave went k lt)))
+      (of_tasks p.drivers p.gave, wired m p.drivers input p.builds p.took p.gave below under, λ k lt. same-trans (passed k lt) (same-from_equal (passed_on n w took gave went k lt)))
   wired n w (plan.filter id predicate input) builds took gave below went =
       let types = types_of (tree_of_run input) in
       let b = into_last n w input builds (filter types predicate) took gave went in
-      (tasks w b.0, wired n w input builds took b.0 below b.1, λ k lt. judged_drivers mode (filter_judge types predicate) w (b.0 k) (gave k) (λ d less. b.2 k d lt less))
+      (of_tasks w b.0, wired n w input builds took b.0 below b.1, λ k lt. judged_drivers mode (filter_judge types predicate) w (b.0 k) (gave k) (λ d less. b.2 k d lt less))
   wired n w (plan.project id columns input) builds took gave below went =
       let types = types_of (tree_of_run input) in
       let b = into_last n w input builds (project types columns) took gave went in
-      (tasks w b.0, wired n w input builds took b.0 below b.1, λ k lt. judged_drivers mode (project_judge types columns) w (b.0 k) (gave k) (λ d less. b.2 k d lt less))
+      (of_tasks w b.0, wired n w input builds took b.0 below b.1, λ k lt. judged_drivers mode (project_judge types columns) w (b.0 k) (gave k) (λ d less. b.2 k d lt less))
   wired n w (plan.join id kind on left right) [] took gave none went = absurd none
   wired n w (plan.join id kind on left right) (build ∷ builds) took gave (p, under, made, fed, below) went =
       let b = probed n w kind on left right build builds took gave went in (
-        tasks w b.0,
-        tasks p.drivers p.gave,
+        of_tasks w b.0,
+        of_tasks p.drivers p.gave,
         wired n w left builds took b.0 below b.1,
         wired n p.drivers right p.builds p.took p.gave under made,
         λ k lt. joined_drivers kind on (width_of (tree_of_run left)) (width_of (tree_of_run right)) w (b.0 k) (gave k) (build k)
-            (tasks p.drivers p.gave k) (fed k lt)
+            (of_tasks p.drivers p.gave k) (fed k lt)
             (λ d less. b.2 k d lt less),
       )
   wired n w (plan.aggregate id keys calls input) builds took gave (one, below) went =
       let types = types_of (tree_of_run input) in
       let b = into_last n w input builds (grouping types keys calls) took gave went in (
-        tasks w b.0,
+        of_tasks w b.0,
         wired n w input builds took b.0 below b.1,
         one_driver (λ rows given. Taken mode (groups_of types keys calls rows) given) (grouping types keys calls) n w one b.0 gave (λ x y h. h) b.2,
       )
   wired n w (plan.aggregate_parts id source output m keys calls input) builds took gave (p, one, below, (between, under, makes), passed) went =
       let stage = final (types_of (tree_of_run input)) (length keys) calls in (
-        tasks p.drivers between,
-        tasks p.drivers p.gave,
-        tasks w took,
+        of_tasks p.drivers between,
+        of_tasks p.drivers p.gave,
+        of_tasks w took,
         wired m p.drivers input p.builds p.took between below under,
         in_pieces (ArePartialsOf keys calls) m p.drivers between p.gave makes,
         passed,
@@ -128,14 +128,14 @@ module _ (mode : Mode) (tables : List (List (List Value))) where
       )
   wired n w (plan.sort id keys input) builds took gave (one, below) went =
       let b = into_last n w input builds (sort keys) took gave went in
-      (tasks w b.0, wired n w input builds took b.0 below b.1, one_driver (IsSortOf keys) (sort keys) n w one b.0 gave (λ x y h. h) b.2)
+      (of_tasks w b.0, wired n w input builds took b.0 below b.1, one_driver (IsSortOf keys) (sort keys) n w one b.0 gave (λ x y h. h) b.2)
   wired n w (plan.topn id count keys input) builds took gave (one, below) went =
       let b = into_last n w input builds (topn count keys) took gave went in
-      (tasks w b.0, wired n w input builds took b.0 below b.1, one_driver (IsTopOf keys count) (topn count keys) n w one b.0 gave (λ x y h. h) b.2)
+      (of_tasks w b.0, wired n w input builds took b.0 below b.1, one_driver (IsTopOf keys count) (topn count keys) n w one b.0 gave (λ x y h. h) b.2)
   wired n w (plan.topn_parts id source output m count keys input) builds took gave (p, one, below, (between, under, makes), passed) went = (
-    tasks p.drivers between,
-    tasks p.drivers p.gave,
-    tasks w took,
+    of_tasks p.drivers between,
+    of_tasks p.drivers p.gave,
+    of_tasks w took,
     wired m p.drivers input p.builds p.took between below under,
     in_pieces (IsTopOf keys count) m p.drivers between p.gave makes,
     passed,
@@ -143,11 +143,11 @@ module _ (mode : Mode) (tables : List (List (List Value))) where
   )
   wired n w (plan.limit id count input) builds took gave (one, below) went =
       let b = into_last n w input builds (limit count) took gave went in
-      (tasks w b.0, wired n w input builds took b.0 below b.1, one_driver (λ rows given. given ≡ take count rows) (limit count) n w one b.0 gave (λ x y h. h) b.2)
+      (of_tasks w b.0, wired n w input builds took b.0 below b.1, one_driver (λ rows given. given ≡ take count rows) (limit count) n w one b.0 gave (λ x y h. h) b.2)
   wired n w (plan.limit_parts id source output m count input) builds took gave (p, one, below, (between, under, makes), passed) went = (
-    tasks p.drivers between,
-    tasks p.drivers p.gave,
-    tasks w took,
+    of_tasks p.drivers between,
+    of_tasks p.drivers p.gave,
+    of_tasks w took,
     wired m p.drivers input p.builds p.took between below under,
     in_pieces (IsFirstOf count) m p.drivers between p.gave
         (λ k d lt less. record { order = between k d; same = same-refl (between k d); is = makes k d lt less }),
@@ -155,8 +155,8 @@ module _ (mode : Mode) (tables : List (List (List Value))) where
     one_driver (λ rows given. given ≡ take count rows) (limit count) n w one took gave (λ x y h. h) (only_stages n w (limit count) took gave went),
   )
   wired n w (plan.union id left right) builds took gave (p, q, below, went_left, under, went_right, put) went = (
-    tasks p.drivers p.gave,
-    tasks q.drivers q.gave,
+    of_tasks p.drivers p.gave,
+    of_tasks q.drivers q.gave,
     wired n p.drivers left p.builds p.took p.gave below went_left,
     wired n q.drivers right q.builds q.took q.gave under went_right,
     λ k lt. same-trans (put k lt) (same-from_equal (passed_on n w took gave went k lt)),

@@ -12,7 +12,7 @@ use Rattle.bag_laws.specs.Gather.{gather}
 use Rattle.bag_laws.specs.Weights.{SameWeights}
 use Rattle.bag_laws.proofs.BagLemmas.{same-from_equal, same-refl}
 use Rattle.plan_trees.specs.Allowed.{Allows, scanned, strict}
-use Rattle.plan_runs.specs.Nets.{Below, Lanes, Went, probe, tasks}
+use Rattle.plan_runs.specs.Nets.{Below, Lanes, Went, probe, of_tasks}
 use Rattle.plan_runs.specs.Placements.{Placed, join_by, remote_by, remote_whole, scan_any}
 use Rattle.plan_runs.specs.RunPlans.{RunPlan, hashed, join, remote, scan, single, tree_of_run}
 use Rattle.plan_runs.specs.Spreads.{Tables, any, by, whole}
@@ -58,22 +58,22 @@ module _ (tables : Tables) where
   claimed table zero d = scanned tables table columns
   claimed table (suc k) d = []
 
-  claimed_all : (table : ℕ) → SameWeights (gather 2 (tasks 1 (claimed table))) (scanned tables table columns)
+  claimed_all : (table : ℕ) → SameWeights (gather 2 (of_tasks 1 (claimed table))) (scanned tables table columns)
   claimed_all table = same-from_equal (append-nil (scanned tables table columns))
 
   -- the rows of a task's bucket
   abbrev got : ℕ → Lanes
-  got table k d = of_bucket (key_bucket 2 (0 ∷ [])) k (gather 2 (tasks 1 (claimed table)))
+  got table k d = of_bucket (key_bucket 2 (0 ∷ [])) k (gather 2 (of_tasks 1 (claimed table)))
 
   abbrev probed : Lanes
   probed k d = join_of Left on 2 2 (got 0 k d) (got 1 k d)
 
   abbrev answer : Lanes
-  answer k d = gather 2 (tasks 1 probed)
+  answer k d = gather 2 (of_tasks 1 probed)
 
   below : Below strict tables 1 1 plan [] answer
   below = (
-    record { drivers = 1; builds = tasks 1 (got 1) ∷ []; took = got 0; gave = probed },
+    record { drivers = 1; builds = of_tasks 1 (got 1) ∷ []; took = got 0; gave = probed },
     (
       record { drivers = 1; builds = []; took = got 1; gave = got 1 },
       (
@@ -93,7 +93,7 @@ module _ (tables : Tables) where
     ),
     λ k d lt less.
         (probe Left on 2 2 (got 1 k d) ∷ [], (got 1 k d, same-refl (got 1 k d), ([], refl, refl)), (probed k d, same-refl (probed k d), refl)),
-    λ k lt. same-refl (gather 2 (tasks 1 probed)),
+    λ k lt. same-refl (gather 2 (of_tasks 1 probed)),
   )
 
   went : Went strict 1 1 plan [] answer answer
@@ -101,4 +101,4 @@ module _ (tables : Tables) where
 
   -- so the rows of both tasks, one behind the other, are a list that the plan's tree allows
   pub allowed : Allows (tree_of_run plan) tables (answer 0 0)
-  allowed = composed strict tables (omega arith) (refl, refl) placed (tasks 1 answer) (wired strict tables 1 1 plan [] answer answer below went)
+  allowed = composed strict tables (omega arith) (refl, refl) placed (of_tasks 1 answer) (wired strict tables 1 1 plan [] answer answer below went)

@@ -14,7 +14,7 @@ use Rattle.bag_laws.specs.Pieces.{partials_of}
 use Rattle.bag_laws.specs.Weights.{SameWeights}
 use Rattle.bag_laws.proofs.BagLemmas.{same-append_comm, same-refl}
 use Rattle.plan_trees.specs.Allowed.{Allows, scanned, strict}
-use Rattle.plan_runs.specs.Nets.{Below, Lanes, Went, final, tasks}
+use Rattle.plan_runs.specs.Nets.{Below, Lanes, Went, final, of_tasks}
 use Rattle.plan_runs.specs.Placements.{Placed, final_whole, scan_any}
 use Rattle.plan_runs.specs.RunPlans.{RunPlan, aggregate_parts, scan, single, tree_of_run}
 use Rattle.plan_runs.specs.Spreads.{whole, any}
@@ -48,7 +48,7 @@ claimed zero d = row 3 ∷ []
 claimed (suc k) zero = []
 claimed (suc k) d = row 1 ∷ []
 
-claimed_all : SameWeights (gather 2 (tasks 2 claimed)) (scanned tables 0 (0 ∷ []))
+claimed_all : SameWeights (gather 2 (of_tasks 2 claimed)) (scanned tables 0 (0 ∷ []))
 claimed_all = same-append_comm (row 2 ∷ row 3 ∷ []) (row 1 ∷ [])
 
 -- each driver gives a partial row, also the one that had no row
@@ -56,7 +56,7 @@ abbrev counted : Lanes
 counted k d = partials_of [] calls (claimed k d)
 
 abbrev got : Lanes
-got k d = gather 2 (tasks 2 counted)
+got k d = gather 2 (of_tasks 2 counted)
 
 partial_rows : got 0 0 ≡ (Decimal (pos 1) ∷ []) ∷ (Decimal (pos 1) ∷ []) ∷ (Decimal (pos 0) ∷ []) ∷ (Decimal (pos 1) ∷ []) ∷ []
 partial_rows = refl
@@ -70,7 +70,7 @@ below = (
   refl,
   claimed_all,
   (claimed, λ k d lt less. ([], refl, refl), λ k d lt less. same-refl (counted k d)),
-  λ k lt. same-refl (gather 2 (tasks 2 counted)),
+  λ k lt. same-refl (gather 2 (of_tasks 2 counted)),
 )
 
 went : Went strict 1 1 plan [] got answer
@@ -82,4 +82,4 @@ went k d lt less = (
 
 -- so the run gave a list that the plan's tree allows
 pub allowed : Allows (tree_of_run plan) tables (answer 0 0)
-allowed = composed strict tables (omega arith) refl placed (tasks 1 answer) (wired strict tables 1 1 plan [] got answer below went)
+allowed = composed strict tables (omega arith) refl placed (of_tasks 1 answer) (wired strict tables 1 1 plan [] got answer below went)

@@ -1,4 +1,5 @@
--- A driver that failed at a node, in a run that it stopped. Only the pipelines below that node count.
+-- A driver that failed at a node, in a run that it stopped. Only the pipelines below that node
+-- count.
 use Rattle.std.specs.Prelude.{◌≡◌, ◌⊎◌, ℕ, ◌<◌, List, [], ◌∷◌, ◌++◌, length, Contains}
 use Rattle.sql_values.specs.declared.value.Value.{Value}
 use Rattle.sql_values.specs.declared.fail.Fail.{Fail}
@@ -7,7 +8,7 @@ use Rattle.relations.specs.Verdicts.{Verdict, fails}
 use Rattle.bag_laws.specs.Pieces.{finals_of}
 use Rattle.plan_trees.specs.Judges.{filter_judge, project_judge}
 use Rattle.plan_trees.specs.TreeTypes.{types_of}
-use Rattle.plan_runs.specs.Nets.{Lanes}
+use Rattle.plan_runs.specs.Nets.{IsAlone, Lanes}
 use Rattle.plan_runs.specs.RunPlans.{RunPlan, tree_of_run}
 use Rattle.plan_runs.specs.RunPlans as plan
 use Rattle.plan_runs.specs.Spreads.{Tables}
@@ -69,20 +70,23 @@ Failed tables n w (plan.join id how on left right) (note ∷ notes) took ended n
     Failed tables n w left notes took ended node kind
     ⊎ (p : StoppedPipe) × Failed tables n p.drivers right p.notes p.took p.ended node kind
 Failed tables n w (plan.aggregate id keys calls input) notes took ended node kind =
-    ((id ≡ node) × (w ≡ 1)
+    ((id ≡ node) × IsAlone w
     × FailedOver (FailsOnGroupOf (groups_of (types_of (tree_of_run input)) keys calls) kind)
     tables n w input notes took ended)
     ⊎ Failed tables n w input notes took ended node kind
-Failed tables n w (plan.aggregate_parts id source output m keys calls input) notes took ended node kind =
+Failed tables n w (plan.aggregate_parts id source output m keys calls input) notes took ended
+    node kind =
     ((id ≡ node)
-    × FailedFinal (FailsOnGroupOf (finals_of (types_of (tree_of_run input)) (length keys) calls) kind)
+    × FailedFinal
+    (FailsOnGroupOf (finals_of (types_of (tree_of_run input)) (length keys) calls) kind)
     tables n w (plan.aggregate_parts id source output m keys calls input) notes took ended)
     ⊎ (p : StoppedPipe) × Failed tables m p.drivers input p.notes p.took p.ended node kind
 Failed tables n w (plan.sort id keys input) notes took ended node kind =
     Failed tables n w input notes took ended node kind
 Failed tables n w (plan.topn id count keys input) notes took ended node kind =
     Failed tables n w input notes took ended node kind
-Failed tables n w (plan.topn_parts id source output m count keys input) notes took ended node kind =
+Failed tables n w (plan.topn_parts id source output m count keys input) notes took ended
+    node kind =
     (p : StoppedPipe) × Failed tables m p.drivers input p.notes p.took p.ended node kind
 Failed tables n w (plan.limit id count input) notes took ended node kind =
     Failed tables n w input notes took ended node kind

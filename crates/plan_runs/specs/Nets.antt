@@ -22,8 +22,8 @@ use Rattle.plan_runs.specs.RunPlans as plan
 use Rattle.plan_runs.specs.Runs.{Passed}
 use Rattle.plan_runs.specs.Spreads.{Tables}
 
--- the stages of a driver. Where expressions and calls need them they have the types of the rows that
--- they take; a probe has the widths of both sides, and the rows that its task built
+-- the stages of a driver. Where expressions and calls need them they have the types of the rows
+-- that they take; a probe has the widths of both sides, and the rows that its task built
 pub data Stage : Type 0 where
   filter : List SqlType → Form → Stage
   project : List SqlType → List Form → Stage
@@ -37,13 +37,17 @@ pub data Stage : Type 0 where
 
 -- what a stage gives for all rows that it takes
 abbrev pub Makes : Mode → Stage → List (List Value) → List (List Value) → Type 0
-Makes mode (filter types predicate) took gave = Judged mode (filter_judge types predicate) took gave
-Makes mode (project types columns) took gave = Judged mode (project_judge types columns) took gave
+Makes mode (filter types predicate) took gave =
+    Judged mode (filter_judge types predicate) took gave
+Makes mode (project types columns) took gave =
+    Judged mode (project_judge types columns) took gave
 Makes mode (probe kind on left right built) took gave =
     SameWeights (join_of kind on left right took built) gave
-Makes mode (grouping types keys calls) took gave = Taken mode (groups_of types keys calls took) gave
+Makes mode (grouping types keys calls) took gave =
+    Taken mode (groups_of types keys calls took) gave
 Makes mode (partial keys calls) took gave = SameWeights (partials_of keys calls took) gave
-Makes mode (final types width calls) took gave = Taken mode (finals_of types width calls took) gave
+Makes mode (final types width calls) took gave =
+    Taken mode (finals_of types width calls took) gave
 Makes mode (sort keys) took gave = IsSortOf keys took gave
 Makes mode (topn count keys) took gave = IsTopOf keys count took gave
 Makes mode (limit count) took gave = gave ≡ take count took
@@ -59,16 +63,20 @@ abbrev pub Lanes : Type 0
 Lanes = ℕ → ℕ → List (List Value)
 
 -- the drivers of a task together
-abbrev pub tasks : ℕ → Lanes → TaskRows
-tasks drivers lanes k = gather drivers (lanes k)
+abbrev pub of_tasks : ℕ → Lanes → TaskRows
+of_tasks drivers lanes k = gather drivers (lanes k)
+
+-- what has to see all rows of its task has one driver there
+abbrev pub IsAlone : ℕ → Type 0
+IsAlone drivers = drivers ≡ 1
 
 -- the stages end with this one, behind stages that are for the input
 abbrev pub EndsWith : (List Stage → Type 0) → Stage → List Stage → Type 0
 EndsWith IsForInput stage stages =
     (rest : List Stage) × (stages ≡ rest ++ stage ∷ []) × IsForInput rest
 
--- the stages of the pipeline of a node in task k. The builds are the rows that the joins along the left
--- sides built in each task, from the node down; a probe has them in any order
+-- the stages of the pipeline of a node in task k. The builds are the rows that the joins along
+-- the left sides built in each task, from the node down; a probe has them in any order
 abbrev pub AreFor : RunPlan → List TaskRows → ℕ → List Stage → Type 0
 AreFor (plan.scan id table columns types) builds k stages = stages ≡ []
 AreFor (plan.values id types rows) builds k stages = stages ≡ []
@@ -94,7 +102,8 @@ AreFor (plan.topn_parts id source output m count keys input) builds k stages =
     stages ≡ topn count keys ∷ []
 AreFor (plan.limit id count input) builds k stages =
     EndsWith (AreFor input builds k) (limit count) stages
-AreFor (plan.limit_parts id source output m count input) builds k stages = stages ≡ limit count ∷ []
+AreFor (plan.limit_parts id source output m count input) builds k stages =
+    stages ≡ limit count ∷ []
 AreFor (plan.union id left right) builds k stages = stages ≡ []
 
 -- each driver of the node's pipeline gave what its stages make of the rows that it took
@@ -109,25 +118,26 @@ WentInto stage mode n drivers node builds took gave =
     (between : Lanes) × Went mode n drivers node builds took between
     × ((k d : ℕ) → k < n → d < drivers → Makes mode stage (between k d) (gave k d))
 
--- the pipeline of a node, in all tasks of its fragment: its drivers in each task, the builds, and what
--- each driver took and gave
+-- the pipeline of a node, in all tasks of its fragment: its drivers in each task, the builds,
+-- and what each driver took and gave
 pub record Pipe : Type 0 where
   pub drivers : ℕ
   pub builds : List TaskRows
   pub took : Lanes
   pub gave : Lanes
 
--- what the sources of a node's pipeline, with `w` drivers in each of `n` tasks, gave these drivers, and
--- all pipelines below. Where a node has to see all rows of its task there is one driver
+-- what the sources of a node's pipeline, with `w` drivers in each of `n` tasks, gave these
+-- drivers, and all pipelines below. Where a node has to see all rows of its task there is one
+-- driver
 abbrev pub Below : Mode → Tables → ℕ → ℕ → RunPlan → List TaskRows → Lanes → Type 0
 Below mode tables n w (plan.scan id table columns types) builds took =
-    SameWeights (gather n (tasks w took)) (scanned tables table columns)
+    SameWeights (gather n (of_tasks w took)) (scanned tables table columns)
 Below mode tables n w (plan.values id types rows) builds took =
-    (k : ℕ) → k < n → SameWeights (tasks w took k) rows
+    (k : ℕ) → k < n → SameWeights (of_tasks w took k) rows
 Below mode tables n w (plan.remote id output m input) builds took =
     (p : Pipe) × Below mode tables m p.drivers input p.builds p.took
     × Went mode m p.drivers input p.builds p.took p.gave
-    × Passed output m n (tasks p.drivers p.gave) (tasks w took)
+    × Passed output m n (of_tasks p.drivers p.gave) (of_tasks w took)
 Below mode tables n w (plan.filter id predicate input) builds took =
     Below mode tables n w input builds took
 Below mode tables n w (plan.project id columns input) builds took =
@@ -136,28 +146,28 @@ Below mode tables n w (plan.join id kind on left right) [] took = ⊥
 Below mode tables n w (plan.join id kind on left right) (build ∷ builds) took =
     (p : Pipe) × Below mode tables n p.drivers right p.builds p.took
     × Went mode n p.drivers right p.builds p.took p.gave
-    × ((k : ℕ) → k < n → SameWeights (tasks p.drivers p.gave k) (build k))
+    × ((k : ℕ) → k < n → SameWeights (of_tasks p.drivers p.gave k) (build k))
     × Below mode tables n w left builds took
 Below mode tables n w (plan.aggregate id keys calls input) builds took =
-    (w ≡ 1) × Below mode tables n w input builds took
+    IsAlone w × Below mode tables n w input builds took
 Below mode tables n w (plan.aggregate_parts id source output m keys calls input) builds took =
-    (p : Pipe) × (w ≡ 1) × Below mode tables m p.drivers input p.builds p.took
+    (p : Pipe) × IsAlone w × Below mode tables m p.drivers input p.builds p.took
     × WentInto (partial keys calls) mode m p.drivers input p.builds p.took p.gave
-    × Passed output m n (tasks p.drivers p.gave) (tasks w took)
+    × Passed output m n (of_tasks p.drivers p.gave) (of_tasks w took)
 Below mode tables n w (plan.sort id keys input) builds took =
-    (w ≡ 1) × Below mode tables n w input builds took
+    IsAlone w × Below mode tables n w input builds took
 Below mode tables n w (plan.topn id count keys input) builds took =
-    (w ≡ 1) × Below mode tables n w input builds took
+    IsAlone w × Below mode tables n w input builds took
 Below mode tables n w (plan.topn_parts id source output m count keys input) builds took =
-    (p : Pipe) × (w ≡ 1) × Below mode tables m p.drivers input p.builds p.took
+    (p : Pipe) × IsAlone w × Below mode tables m p.drivers input p.builds p.took
     × WentInto (topn count keys) mode m p.drivers input p.builds p.took p.gave
-    × Passed output m n (tasks p.drivers p.gave) (tasks w took)
+    × Passed output m n (of_tasks p.drivers p.gave) (of_tasks w took)
 Below mode tables n w (plan.limit id count input) builds took =
-    (w ≡ 1) × Below mode tables n w input builds took
+    IsAlone w × Below mode tables n w input builds took
 Below mode tables n w (plan.limit_parts id source output m count input) builds took =
-    (p : Pipe) × (w ≡ 1) × Below mode tables m p.drivers input p.builds p.took
+    (p : Pipe) × IsAlone w × Below mode tables m p.drivers input p.builds p.took
     × WentInto (limit count) mode m p.drivers input p.builds p.took p.gave
-    × Passed output m n (tasks p.drivers p.gave) (tasks w took)
+    × Passed output m n (of_tasks p.drivers p.gave) (of_tasks w took)
 Below mode tables n w (plan.union id left right) builds took =
     (p : Pipe) × (q : Pipe)
     × Below mode tables n p.drivers left p.builds p.took
@@ -165,4 +175,4 @@ Below mode tables n w (plan.union id left right) builds took =
     × Below mode tables n q.drivers right q.builds q.took
     × Went mode n q.drivers right q.builds q.took q.gave
     × ((k : ℕ) → k < n
-    → SameWeights (tasks p.drivers p.gave k ++ tasks q.drivers q.gave k) (tasks w took k))
+    → SameWeights (of_tasks p.drivers p.gave k ++ of_tasks q.drivers q.gave k) (of_tasks w took k))

@@ -24,8 +24,8 @@ AreColumnsAt forms places columns =
     AllBelow (length forms) places
     × (map (λ place. get_or forms place (column 0)) places ≡ map column columns)
 
--- the spread of each node. In a fragment of one task a node may be whole, whichever it is; where several
--- run it, what has no rule has no spread
+-- the spread of each node. In a fragment of one task a node may be whole, whichever it is;
+-- where several run it, what has no rule has no spread
 pub data Placed : ℕ → RunPlan → Spread → Type 0 where
   scan_whole : {id table : ℕ} {columns : List ℕ} {types : List SqlType}
       → Placed 1 (scan id table columns types) whole
@@ -72,7 +72,8 @@ pub data Placed : ℕ → RunPlan → Spread → Type 0 where
       → 0 < length keys → AllBelow (length keys) places
       → Placed n input (by (at_places keys places))
       → Placed n (aggregate id keys calls input) (by places)
-  final_whole : {id source m : ℕ} {keys : List ℕ} {calls : List Call} {input : RunPlan} {s : Spread}
+  final_whole : {id source m : ℕ} {keys : List ℕ} {calls : List Call} {input : RunPlan}
+      {s : Spread}
       → IsRead m s → Placed m input s
       → Placed 1 (aggregate_parts id source single m keys calls input) whole
   final_by : {n id source m : ℕ} {keys columns : List ℕ} {calls : List Call} {input : RunPlan}

@@ -9,15 +9,16 @@ use Rattle.sql_exprs.specs.Forms.{Form}
 use Rattle.plan_trees.specs.TreeForms.{TreeForm}
 use Rattle.plan_trees.specs.TreeForms as tree
 
--- where the rows of a fragment go: to the one task that reads them, each to the task that is the bucket
--- of its columns, or all to each task
+-- where the rows of a fragment go: to the one task that reads them, each to the task that is
+-- the bucket of its columns, or all to each task
 pub data Output : Type 0 where
   single : Output
   hashed : List ℕ → Output
   broadcast : Output
 
--- each node begins with its id. A remote source has the output kind, and how many tasks run the fragment
--- below. A FINAL node, its remote source and the PARTIAL node below are one, with the first two's ids
+-- each node begins with its id. A remote source has the output kind, and how many tasks run the
+-- fragment below. A FINAL node, its remote source and the PARTIAL node below are one, with the
+-- first two's ids
 pub data RunPlan : Type 0 where
   scan : ℕ → ℕ → List ℕ → List SqlType → RunPlan
   values : ℕ → List SqlType → List (List Value) → RunPlan

@@ -23,7 +23,8 @@ sent single tasks k rows = rows
 sent (hashed columns) tasks k rows = of_bucket (key_bucket tasks columns) k rows
 sent broadcast tasks k rows = rows
 
--- each of the reading tasks got what was sent to it of the rows that the tasks below gave, in any order
+-- each of the reading tasks got what was sent to it of the rows that the tasks below gave, in
+-- any order
 abbrev pub Passed : Output → ℕ → ℕ → TaskRows → TaskRows → Type 0
 Passed output below tasks gave got =
     (k : ℕ) → k < tasks → SameWeights (sent output tasks k (gather below gave)) (got k)

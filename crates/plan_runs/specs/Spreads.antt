@@ -1,5 +1,5 @@
--- How the rows of a node are spread over the tasks of its fragment, and what their lists say of the
--- tree's.
+-- How the rows of a node are spread over the tasks of its fragment, and what their lists say of
+-- the tree's.
 use Rattle.std.specs.Prelude.{ℕ, ◌<◌, List}
 use Rattle.sql_values.specs.declared.value.Value.{Value}
 use Rattle.bag_laws.specs.Buckets.{SitByBucket, key_bucket}
@@ -13,8 +13,8 @@ use Rattle.plan_trees.specs.Allowed.{Gives, Mode}
 abbrev pub Tables : Type 0
 Tables = List (List (List Value))
 
--- one task has all rows, in the order in which it gave them; each row is in one task; each row is in
--- the task that is the bucket of its columns; each task has all rows
+-- one task has all rows, in the order in which it gave them; each row is in one task; each row
+-- is in the task that is the bucket of its columns; each task has all rows
 pub data Spread : Type 0 where
   whole : Spread
   any : Spread

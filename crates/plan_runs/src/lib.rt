@@ -1,12 +1,15 @@
-//! How the pieces of a run make the answer of its plan, as laws of plain lists: no code, no thread and
-//! no operator.
+//! How the pieces of a run make the answer of its plan, as laws of plain lists: no code, no
+//! thread and no operator.
 //!
-//! - `specs/RunPlans.antt`: a plan as it runs, with the edges between tasks, and the tree that it means
-//! - `specs/Spreads.antt`: how a node's rows are spread over tasks, and what these then say of the tree
+//! - `specs/RunPlans.antt`: a plan as it runs, with the edges between tasks, and the tree that
+//!   it means
+//! - `specs/Spreads.antt`: how a node's rows are spread over tasks, and what these then say of
+//!   the tree
 //! - `specs/Placements.antt`: which spread a node has, rule by rule
 //! - `specs/Runs.antt`: what the tasks gave at each node
 //! - `specs/Nets.antt`: the drivers of the tasks, their stages, and what passes between them
-//! - `specs/Stops.antt`, `specs/Faults.antt`: a run that something stopped, and a driver that failed in it
+//! - `specs/Stops.antt`, `specs/Faults.antt`: a run that something stopped, and a driver that
+//!   failed in it
 //! - `laws`: what follows
 #![tactic(auto)]
 

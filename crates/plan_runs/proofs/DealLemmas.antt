@@ -10,10 +10,7 @@ use Rattle.bag_laws.proofs.BagLemmas.{same-append, same-from_equal, same-refl, s
 use Rattle.bag_laws.proofs.GatherLemmas.{chosen, gather-none, gather-one, same-gather_append}
 use Rattle.plan_runs.specs.Nets.{Lanes, of_tasks}
 use Rattle.plan_runs.specs.Stops.{AllSet, Flags, MayCome, TookOf}
-
--- what each driver took, and more
-abbrev pub longer : Lanes → Lanes → Lanes
-longer lanes more k d = lanes k d ++ more k d
+use Rattle.plan_runs.specs.Wholes.{longer}
 
 -- all have ended, or one has not
 abbrev EndedOrOpen : ℕ → (ℕ → Bool) → Type 0

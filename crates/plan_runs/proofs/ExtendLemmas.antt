@@ -11,12 +11,13 @@ use Rattle.bag_laws.specs.Weights.{SameWeights}
 use Rattle.bag_laws.proofs.BagLemmas.{same-append, same-exchange, same-filter, same-from_equal, same-refl, same-sym, same-trans}
 use Rattle.bag_laws.proofs.GatherLemmas.{gather-none, same-gather, same-gather_append}
 use Rattle.plan_trees.specs.Allowed.{skipping}
-use Rattle.plan_runs.specs.Nets.{AreFor, Below, Pipe, Chain, Lanes, Stage, Went, WentInto, limit, partial, of_tasks, topn}
+use Rattle.plan_runs.specs.Nets.{AreFor, Pipe, Chain, Lanes, Stage, Went, WentInto, limit, partial, of_tasks, topn}
 use Rattle.plan_runs.specs.RunPlans.{Output, RunPlan, single, hashed, broadcast}
 use Rattle.plan_runs.specs.RunPlans as plan
 use Rattle.plan_runs.specs.Runs.{Passed, sent}
 use Rattle.plan_runs.specs.Stops.{AllSet, AreNoted, AreOpen, Flags, StoppedPipe, IsNoted, MayCome, Notes, PassedSoFar, Stops}
-use Rattle.plan_runs.proofs.DealLemmas.{Fed, deal_out, fed, longer}
+use Rattle.plan_runs.specs.Wholes.{RunsOn, Whole, longer}
+use Rattle.plan_runs.proofs.DealLemmas.{Fed, deal_out, fed}
 use Rattle.plan_runs.proofs.LaneLemmas.{chosen_lanes}
 use Rattle.plan_runs.proofs.WireLemmas.{into_last}
 
@@ -40,14 +41,6 @@ sent-none : (output : Output) (n k : ℕ) (A : List (List Value)) → A ≡ [] �
 sent-none single n k A e = e
 sent-none (hashed columns) n k A e = ap (filter (λ row. key_bucket n columns row == k)) e
 sent-none broadcast n k A e = e
-
--- what still comes to the drivers of a stopped pipeline, and what the builds will be
-pub record Whole (tables : List (List (List Value))) (n w : ℕ) (node : RunPlan) (notes : Notes) (took : Lanes) (ended : Flags) : Type 0 where
-  pub more : Lanes
-  pub builds : List TaskRows
-  pub below : Below skipping tables n w node builds (longer took more)
-  pub noted : (k d : ℕ) → k < n → d < w → AreNoted notes builds k d
-  pub none : (k d : ℕ) → k < n → d < w → MayCome (ended k d) (more k d)
 
 -- what the drivers then still give
 pub record Rest (last : List Stage) (n w : ℕ) (node : RunPlan) (builds : List TaskRows) (took gave : Lanes) (done : Flags) : Type 0 where
@@ -273,3 +266,11 @@ module _ (tables : List (List (List Value))) where
         noted = λ k d lt less. none_noted notes no_notes k d;
         none = f.none;
       }
+
+  -- and so with the drivers of the node's own pipeline
+  pub runs_on : (n w : ℕ) (node : RunPlan) (notes : Notes) (took gave : Lanes) (ended done : Flags) → Stops tables n w node notes took ended
+      → AreOpen [] n w node notes took gave ended done → RunsOn tables n w node notes took gave ended done
+  runs_on n w node notes took gave ended done stops opened =
+      let all = extend n w node notes took ended stops in
+      let r = rest_of [] n w node notes took gave ended done opened all in
+      record { whole = all; rest = r.rest; went = rest_went n w node all.builds (longer took all.more) gave done r; none = r.none }

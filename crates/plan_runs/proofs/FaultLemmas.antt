@@ -27,9 +27,9 @@ use Rattle.plan_runs.specs.RunPlans as plan
 use Rattle.plan_runs.specs.Runs.{AllInPieces, ArePartialsOf, Passed}
 use Rattle.plan_runs.specs.Spreads.{Says, Spread, Together, any, by, every, whole}
 use Rattle.plan_runs.specs.Stops.{Flags, Notes}
+use Rattle.plan_runs.specs.Wholes.{longer}
 use Rattle.plan_runs.proofs.AmongLemmas.{among-gather, among-same, failure-same}
 use Rattle.plan_runs.proofs.ComposeLemmas.{composed, some_tasks}
-use Rattle.plan_runs.proofs.DealLemmas.{longer}
 use Rattle.plan_runs.proofs.ExtendLemmas.{extend, rest_of, rest_went}
 use Rattle.plan_runs.proofs.GroupSteps.{same_final, same_finals}
 use Rattle.plan_runs.proofs.ReadLemmas.{given_remote, read}

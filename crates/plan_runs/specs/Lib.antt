@@ -4,4 +4,5 @@ pub mod Placements
 pub mod Runs
 pub mod Nets
 pub mod Stops
+pub mod Wholes
 pub mod Faults

@@ -10,9 +10,12 @@
 //! - `specs/Nets.antt`: the drivers of the tasks, their stages, and what passes between them
 //! - `specs/Stops.antt`, `specs/Faults.antt`: a run that something stopped, and a driver that
 //!   failed in it
+//! - `specs/Wholes.antt`: the whole run that a stopped one is the beginning of
 //! - `laws`: what follows
 #![tactic(auto)]
 
 mod laws;
 
-pub use laws::{drivers_compose, failures_compose, spreads_hold, tasks_compose};
+pub use laws::{
+    drivers_compose, failures_compose, spreads_hold, stopped_runs_go_on, tasks_compose,
+};

@@ -21,3 +21,5 @@ pub mod FailedLemmas
 pub mod WorkedRun
 pub mod WorkedJoin
 pub mod WorkedStop
+pub mod WorkedStoppedJoin
+pub mod WorkedStoppedFinal

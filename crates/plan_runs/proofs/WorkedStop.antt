@@ -7,7 +7,7 @@ use Rattle.sql_values.specs.declared.types.SqlType.TheVariants as type
 use Rattle.sql_values.specs.declared.value.Value.{Value}
 use Rattle.sql_values.specs.declared.value.Value.TheVariants.{Bigint}
 use Rattle.sql_values.specs.declared.fail.Fail.TheVariants.{DivisionByZero}
-use Rattle.sql_functions.specs.declared.name.CallName.TheVariants.{Divide}
+use Rattle.sql_functions.specs.declared.name.CallName.TheVariants.{Divide, Equal}
 use Rattle.sql_exprs.specs.Forms.{Form, call, column, literal, more, none}
 use Rattle.plan_trees.specs.Stopped.{MayFail}
 use Rattle.plan_runs.specs.Faults.{Failed}
@@ -28,8 +28,12 @@ tables = (row 1 ∷ row 2 ∷ []) ∷ []
 abbrev quotient : Form
 quotient = call Divide (more (column 0) (more (literal type.Bigint (Bigint (pos 0))) none))
 
+-- whether it is zero
+abbrev predicate : Form
+predicate = call Equal (more quotient (more (literal type.Bigint (Bigint (pos 0))) none))
+
 abbrev plan : RunPlan
-plan = remote 0 single 2 (filter 1 quotient (scan 2 0 (0 ∷ []) (type.Bigint ∷ [])))
+plan = remote 0 single 2 (filter 1 predicate (scan 2 0 (0 ∷ []) (type.Bigint ∷ [])))
 
 placed : Placed 1 plan whole
 placed = remote_whole {s = any} (omega arith) (filter_stays scan_any)

@@ -14,6 +14,7 @@ pub mod LaneLemmas
 pub mod WireLemmas
 pub mod HopLemmas
 pub mod DealLemmas
+pub mod GoOnLemmas
 pub mod ExtendLemmas
 pub mod AmongLemmas
 pub mod FaultLemmas

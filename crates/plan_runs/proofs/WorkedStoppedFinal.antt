@@ -21,7 +21,7 @@ use Rattle.plan_runs.specs.RunPlans.{RunPlan, aggregate_parts, scan, single, tre
 use Rattle.plan_runs.specs.Spreads.{Tables, any, whole}
 use Rattle.plan_runs.specs.Stops.{Flags}
 use Rattle.plan_runs.proofs.FailedLemmas.{failed}
-use Rattle.plan_runs.proofs.WorkedStoppedJoin.{ended_on}
+use Rattle.plan_runs.proofs.GoOnLemmas.{goes_on-over}
 
 -- the greatest bigint
 abbrev greatest : ℕ
@@ -78,7 +78,7 @@ stopped =
           λ k d lt less builds noted. (
             [],
             refl,
-            ended_on (partial [] calls ∷ []) (claimed k d) (summed k d) (summed k d, same-refl (summed k d), refl),
+            goes_on-over (partial [] calls ∷ []) (claimed k d) (summed k d) (summed k d, same-refl (summed k d), refl),
           ),
           λ k lt. record { left = []; some = same-refl (got 0 0); all = λ over. refl; closed = λ over j e under less. refl },
         );

@@ -1,8 +1,7 @@
 -- A stopped run behind a LEFT join: both tasks have the whole right side by BROADCAST, its build is done
 -- and noted, and the project above fails on the row of one task. All sources have ended.
-use Rattle.std.proofs.Common.{◌≡◌, ℕ, zero, suc, List, [], ◌∷◌, ◌++◌, true, refl, ap, sym, arith, inl, subst}
+use Rattle.std.proofs.Common.{◌≡◌, ℕ, zero, suc, List, [], ◌∷◌, true, refl, ap, arith, inl}
 use Rattle.std.specs.Prelude.{pos, Option, Some, unwrap_or}
-use Rattle.std.proofs.lemmas.List.{append-nil}
 use Rattle.sql_values.specs.declared.types.SqlType.{SqlType}
 use Rattle.sql_values.specs.declared.types.SqlType.TheVariants as type
 use Rattle.sql_values.specs.declared.value.Value.{Value}
@@ -13,15 +12,15 @@ use Rattle.sql_functions.specs.declared.name.CallName.TheVariants.{Divide}
 use Rattle.sql_exprs.specs.Forms.{Form, call, column, more, none}
 use Rattle.relations.specs.Joins.{join_of}
 use Rattle.bag_laws.proofs.BagLemmas.{same-from_equal, same-refl}
-use Rattle.plan_trees.specs.Allowed.{skipping}
 use Rattle.plan_trees.specs.Stopped.{MayFail}
 use Rattle.plan_runs.specs.Faults.{Failed}
-use Rattle.plan_runs.specs.Nets.{Chain, Lanes, Stage, probe}
+use Rattle.plan_runs.specs.Nets.{Lanes, probe}
 use Rattle.plan_runs.specs.Placements.{Placed, join_right_every, project_any, remote_every, remote_whole, scan_any}
 use Rattle.plan_runs.specs.RunPlans.{RunPlan, broadcast, join, project, remote, scan, single, tree_of_run}
 use Rattle.plan_runs.specs.Spreads.{Tables, any, whole}
-use Rattle.plan_runs.specs.Stops.{AreOpen, CanGoOn, Flags, GoesOn, StoppedPipe}
+use Rattle.plan_runs.specs.Stops.{AreOpen, Flags, StoppedPipe}
 use Rattle.plan_runs.proofs.FailedLemmas.{failed}
+use Rattle.plan_runs.proofs.GoOnLemmas.{goes_on-over}
 
 abbrev row : ℕ → List Value
 row n = Bigint (pos n) ∷ []
@@ -75,18 +74,6 @@ all_set k d = true
 abbrev nothing : Lanes
 nothing k d = []
 
--- where the source has ended no row comes, and what was given is all
-pub ended_on : (stages : List Stage) (took given : List (List Value)) → Chain skipping stages took given → CanGoOn stages took given true true
-ended_on stages took given chain later may =
-    subst (GoesOn stages took given true) (sym (may refl)) (
-    record {
-      rest = [];
-      chain = subst (λ rows. Chain skipping stages rows (given ++ [])) (sym (append-nil took))
-          (subst (Chain skipping stages took) (sym (append-nil given)) chain);
-      none = λ e. refl;
-    }
-    )
-
 -- the pipeline that scans the right side, and the one that builds from what the edge brought
 abbrev scanning : StoppedPipe
 scanning = record { drivers = 1; notes = []; took = all_of_it; gave = all_of_it; ended = all_set; done = all_set }
@@ -103,7 +90,7 @@ opened k d lt less [] noted = absurd noted
 opened k d lt less (build ∷ builds) (same, rest) = (
   probe Left on 1 1 built ∷ [],
   (built, same, ([], refl, refl)),
-  ended_on (probe Left on 1 1 built ∷ []) (probed k d) (gave k d) (gave k d, same-refl (gave k d), refl),
+  goes_on-over (probe Left on 1 1 built ∷ []) (probed k d) (gave k d) (gave k d, same-refl (gave k d), refl),
 )
 
 stopped : Failed tables 1 1 plan [] nothing all_set 1 DivisionByZero
@@ -118,10 +105,10 @@ stopped = (
           scanning,
           refl,
           (refl, record { left = []; some = same-refl built; all = λ over. refl; closed = λ over. tt }),
-          λ k d lt less builds noted. ([], refl, ended_on [] built built refl),
+          λ k d lt less builds noted. ([], refl, goes_on-over [] built built refl),
           λ k lt. record { left = []; some = same-refl built; all = λ over. refl; closed = λ over j e under less. refl },
         ),
-        λ k d lt less builds noted. ([], refl, ended_on [] built built refl),
+        λ k d lt less builds noted. ([], refl, goes_on-over [] built built refl),
         λ k d lt less known is. (λ e under. refl, same-from_equal (ap (λ (o : Option (List (List Value))). unwrap_or o []) is)),
         (refl, record { left = []; some = same-refl (row 0 ∷ row 1 ∷ []); all = λ over. refl; closed = λ over. tt }),
       );

@@ -109,6 +109,20 @@ pub beginning-trans : (xs ys zs : List (List Value)) → IsBeginning xs ys → I
 beginning-trans xs ys zs (first, is) (second, also) =
     (first ++ second, sym (append_assoc xs first second) ∙ ap (λ rows. rows ++ second) is ∙ also)
 
+-- an operator that stops at its first failing row, whatever comes: what it gave is a beginning of what is
+-- kept of the rows before that one
+pub begins_before : (judge : List Value → Verdict) (took gave : List (List Value)) (ended done : Bool)
+    → ((more : List (List Value)) → MayCome ended more
+    → (before : List (List Value)) × IsBeginning before (took ++ more) × IsBeginning gave (kept_rows judge before))
+    → (done ≡ true → (more : List (List Value)) → MayCome ended more → gave ≡ kept_rows judge (took ++ more))
+    → BeginsWith (kept_rows judge) took gave ended done
+begins_before judge took gave ended done each whole = record {
+  begins = λ more may.
+      let e = each more may in
+      beginning-trans gave (kept_rows judge e.0) (kept_rows judge (took ++ more)) e.2 (kept-beginning judge e.0 (took ++ more) e.1);
+  whole = whole;
+}
+
 -- a probe gave some of the rows that it makes of what it took
 pub goes_on-probe : (kind : JoinKind) (on : List (ℕ × ℕ)) (l r : ℕ) (built took gave left : List (List Value)) (ended done : Bool)
     → SameWeights (join_of kind on l r took built) (gave ++ left) → (done ≡ true → (ended ≡ true) × (left ≡ []))

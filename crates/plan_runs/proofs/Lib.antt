@@ -24,3 +24,4 @@ pub mod WorkedJoin
 pub mod WorkedStop
 pub mod WorkedStoppedJoin
 pub mod WorkedStoppedFinal
+pub mod WorkedGoOn

@@ -11,8 +11,8 @@ use Rattle.plan_runs.specs.Stops.{AreNoted, Flags, MayCome, Notes}
 abbrev pub longer : Lanes → Lanes → Lanes
 longer lanes more k d = lanes k d ++ more k d
 
--- a whole run gives the drivers of the node's pipeline what they took, and more where their sources
--- had not ended. What fails is left out, and the builds are as the notes know them
+-- a whole run gives the drivers of the node's pipeline what they took, and more where their
+-- sources had not ended. What fails is left out, and the builds are as the notes know them
 pub record Whole (tables : Tables) (n w : ℕ) (node : RunPlan) (notes : Notes) (took : Lanes)
     (ended : Flags) : Type 0 where
   pub more : Lanes

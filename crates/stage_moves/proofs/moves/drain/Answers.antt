@@ -1,0 +1,11 @@
+use Rattle.std.proofs.Common.{◌≡◌, ◌+◌, ◌-◌, ◌<◌, ◌≤◌, ℕ, List, set, length, refl, sym, ◌∙◌, ap, arith}
+use Rattle.stage_moves.proofs.MoveLemmas.{Moved-gave, SomeFails-at}
+use Rattle.stage_moves.proofs.moves.drain.Goals as goal
+
+pub returns-clause-moved : goal.returns-clause-moved
+returns-clause-moved g c = λ ok. Moved-gave g.S.Operator c.args.stages.now.items (c.len-count.result - 1) c.index_mut.result.now c.give_out.new.op _
+    (omega (arith, c.len-count.ensures, c.if-count-eq0.false)) c.index_mut.ensures.value (c.give_out.ensures.gave ok)
+
+pub returns-clause-fault : goal.returns-clause-fault
+returns-clause-fault g c = λ node kind e. SomeFails-at g.S.Operator c.args.stages.now.items (c.len-count.result - 1) c.give_out.new.op node kind
+    (omega (arith, c.len-count.ensures, c.if-count-eq0.false)) (c.give_out.ensures.fault node kind e)

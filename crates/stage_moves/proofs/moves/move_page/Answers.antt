@@ -1,0 +1,30 @@
+use Rattle.std.proofs.Common.{◌≡◌, ◌+◌, ◌-◌, ◌<◌, ◌≤◌, ℕ, List, set, length, refl, sym, ◌∙◌, ap, arith}
+use Rattle.stage_moves.proofs.MoveLemmas.{none-gave, some-gave, Moved-gave_none, Moved-page, SomeFails-at, length-set, not-memory_err, err-err}
+use Rattle.stage_moves.proofs.moves.move_page.Goals as goal
+
+pub returns-in-Ok-None-clause-moved : goal.returns-in-Ok-None-clause-moved
+returns-in-Ok-None-clause-moved g c = λ _. Moved-gave_none g.S.Operator c.args.stages.now.items c.args.place c.index_mut.result.now c.give_out.new.op
+    (omega (arith, c.requires)) c.index_mut.ensures.value (none-gave g.S.Operator _ _ c.in-Ok-None.field-0 c.in-Ok-None.field-0-is ((c.in-Ok-None.ensures).gave tt))
+
+pub returns-in-Err-clause-moved : goal.returns-in-Err-clause-moved
+returns-in-Err-clause-moved g c = λ ok. Moved-gave_none g.S.Operator c.args.stages.now.items c.args.place c.index_mut.result.now c.give_out.new.op
+    (omega (arith, c.requires)) c.index_mut.ensures.value ((c.in-Err.ensures).gave ok)
+
+pub returns-in-Err-clause-fault : goal.returns-in-Err-clause-fault
+returns-in-Err-clause-fault g c = λ node kind e. SomeFails-at g.S.Operator c.args.stages.now.items c.args.place c.give_out.new.op node kind
+    (omega (arith, c.requires)) ((c.in-Err.ensures).fault node kind (err-err _ _ e))
+
+pub returns-in-Ok-clause-moved : goal.returns-in-Ok-clause-moved
+returns-in-Ok-clause-moved g c = λ _. Moved-page g.S.Operator c.args.stages.now.items c.args.place (c.args.place + 1) c.index_mut.result.now c.index_mut-2.result.now
+    c.give_out.new.op c.take_in.new.op c.in-Ok-Some.page refl c.requires c.index_mut.ensures.value c.index_mut-2.ensures.value
+    (some-gave g.S.Operator _ _ c.in-Ok-Some.field-0 c.in-Ok-Some.page c.in-Ok-Some.field-0-is ((c.in-Ok-Some.ensures).gave tt)) ((c.in-Ok.ensures).took tt)
+
+pub returns-in-Err-take_in-clause-moved : goal.returns-in-Err-take_in-clause-moved
+returns-in-Err-take_in-clause-moved g c = λ ok. Moved-page g.S.Operator c.args.stages.now.items c.args.place (c.args.place + 1) c.index_mut.result.now c.index_mut-2.result.now
+    c.give_out.new.op c.take_in.new.op c.in-Ok-Some.page refl c.requires c.index_mut.ensures.value c.index_mut-2.ensures.value
+    (some-gave g.S.Operator _ _ c.in-Ok-Some.field-0 c.in-Ok-Some.page c.in-Ok-Some.field-0-is ((c.in-Ok-Some.ensures).gave tt)) ((c.in-Err-take_in.ensures).took (not-memory_err ℕ (Unit {0}) c.in-Err-take_in.fault ok))
+
+pub returns-in-Err-take_in-clause-fault : goal.returns-in-Err-take_in-clause-fault
+returns-in-Err-take_in-clause-fault g c = λ node kind e. SomeFails-at g.S.Operator (set c.args.stages.now.items c.args.place c.give_out.new.op) (c.args.place + 1)
+    c.take_in.new.op node kind (rw (length-set c.args.stages.now.items c.args.place c.give_out.new.op) c.requires)
+    ((c.in-Err-take_in.ensures).fault node kind (err-err _ _ e))

@@ -1,0 +1,16 @@
+use Rattle.std.proofs.Common.{◌≡◌, ◌+◌, ◌-◌, ◌<◌, ◌≤◌, ℕ, List, set, length, refl, sym, ◌∙◌, ap, arith}
+use Rattle.stage_moves.proofs.MoveLemmas.{Told-links, Told-turns, Told-made}
+use Rattle.operator_core.specs.Stages.{giver_finished}
+use Rattle.stage_moves.proofs.moves.pass_end.Goals as goal
+
+pub returns-then-is_giver_finished-clause-links : goal.returns-then-is_giver_finished-clause-links
+returns-then-is_giver_finished-clause-links g c = λ X Y l. Told-links g.S.Operator c.args.stages.now.items c.args.place c.index_mut.result.now c.tell.new.op
+    c.requires c.index_mut.ensures.value c.tell.ensures X Y l
+
+pub returns-then-is_giver_finished-clause-turns : goal.returns-then-is_giver_finished-clause-turns
+returns-then-is_giver_finished-clause-turns g c = λ turns. Told-turns g.S.Operator c.args.ended c.args.stages.now.items c.args.place c.index_mut.result.now c.tell.new.op
+    c.requires c.index_mut.ensures.value (ap (λ (x : List g.row.S.Denot). giver_finished g.S.Operator c.args.ended x c.args.place) (sym c.deref.ensures.value) ∙ sym c.if-is_giver_finished.ensures) c.tell.ensures turns
+
+pub returns-then-is_giver_finished-clause-made : goal.returns-then-is_giver_finished-clause-made
+returns-then-is_giver_finished-clause-made g c = Told-made g.S.Operator c.args.stages.now.items c.args.place c.index_mut.result.now c.tell.new.op
+    c.requires c.index_mut.ensures.value c.tell.ensures

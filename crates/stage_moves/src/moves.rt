@@ -1,0 +1,118 @@
+//! The moves of a driver. A driver keeps `Linked` and `ToldInTurn` of its stages over each of them.
+ghost use Rattle.std.specs.Prelude.{◌≡◌, ◌+◌, ◌<◌, ℕ, List, [], true, length, map};
+ghost use Rattle.sql_values.specs.declared.fail.Fail.{Fail as Kind};
+ghost use Rattle.operator_core.specs.Answers.{NotMemory, gave};
+ghost use Rattle.operator_core.specs.Rows.{Row};
+ghost use Rattle.operator_core.specs.Stages.{Linked, ToldInTurn, last_finished, giver_finished};
+ghost use Rattle.stage_moves.specs.Moves.{Moved, SomeFails, first_needs};
+
+use crate::stage::Stage;
+use col_pages::Page;
+use operator_core::OpFault;
+use operator_core::stage::{give_out, take_in, tell};
+
+/// Whether a page of the source can be fed now.
+pub fn takes_input<S: Stage>(stages: &[S]) -> bool
+    ensures { result ≡ first_needs S.Operator stages.now }
+{
+    match stages.first() {
+        Some(stage) => stage.needs_input(),
+        None => true,
+    }
+}
+
+/// Whether the last stage is finished, or the source where there is no stage.
+pub fn are_finished<S: Stage>(stages: &[S], ended: bool) -> bool
+    ensures { result ≡ last_finished S.Operator ended stages.now }
+{
+    let count = stages.len();
+    if count == 0 {
+        return ended;
+    }
+    stages[count - 1].is_finished()
+}
+
+/// Whether the giver of a stage is finished: the stage before it, or the source.
+fn is_giver_finished<S: Stage>(stages: &[S], place: usize, ended: bool) -> bool
+    requires { place < length stages.now }
+    ensures { result ≡ giver_finished S.Operator ended stages.now place }
+{
+    if place == 0 {
+        return ended;
+    }
+    stages[place - 1].is_finished()
+}
+
+/// Gives a page of the source to the first stage; without a stage the page comes back.
+pub fn feed<S: Stage>(stages: &mut Vec<S>, page: Page) -> Result<Option<Page>, OpFault>
+    requires { first_needs S.Operator stages.old.items ≡ true }
+    ensures moved { NotMemory result
+        → Moved S.Operator stages.old.items stages.new.items page.rows (gave result) }
+    ensures fault { (node : ℕ) (kind : Kind) → result ≡ Err (OpFault.Expr node kind)
+        → SomeFails S.Operator stages.new.items node kind }
+{
+    let count = stages.len();
+    if count == 0 {
+        return Ok(Some(page));
+    }
+    if !stages[0].expects(&page) {
+        return Err(OpFault::Memory);
+    }
+    match take_in(&mut stages[0], page) {
+        Ok(()) => Ok(None),
+        Err(fault) => Err(fault),
+    }
+}
+
+/// Moves a page from a stage to the next one, where that takes one now. Answers its number of rows.
+pub fn move_page<S: Stage>(stages: &mut Vec<S>, place: usize) -> Result<u32, OpFault>
+    requires { place + 1 < length stages.old.items }
+    ensures moved { NotMemory result → Moved S.Operator stages.old.items stages.new.items [] [] }
+    ensures fault { (node : ℕ) (kind : Kind) → result ≡ Err (OpFault.Expr node kind)
+        → SomeFails S.Operator stages.new.items node kind }
+{
+    if !stages[place + 1].needs_input() {
+        return Ok(0);
+    }
+    let page = match give_out(&mut stages[place]) {
+        Ok(Some(page)) => page,
+        Ok(None) => return Ok(0),
+        Err(fault) => return Err(fault),
+    };
+    if !stages[place + 1].expects(&page) {
+        return Err(OpFault::Memory);
+    }
+    let rows = page.len();
+    match take_in(&mut stages[place + 1], page) {
+        Ok(()) => Ok(rows),
+        Err(fault) => Err(fault),
+    }
+}
+
+/// Tells a stage to finish, where its giver is finished.
+pub fn pass_end<S: Stage>(stages: &mut Vec<S>, place: usize, ended: bool)
+    requires { place < length stages.old.items }
+    ensures links { (X Y : List Row) → Linked S.Operator stages.old.items X Y
+        → Linked S.Operator stages.new.items X Y }
+    ensures turns { ToldInTurn S.Operator ended stages.old.items
+        → ToldInTurn S.Operator ended stages.new.items }
+    ensures made { map S.as_made stages.new.items ≡ map S.as_made stages.old.items }
+{
+    if is_giver_finished(stages, place, ended) {
+        tell(&mut stages[place]);
+    }
+}
+
+/// What the last stage gives. Without a stage it is nothing.
+pub fn drain<S: Stage>(stages: &mut Vec<S>) -> Result<Option<Page>, OpFault>
+    ensures moved { NotMemory result
+        → Moved S.Operator stages.old.items stages.new.items [] (gave result) }
+    ensures fault { (node : ℕ) (kind : Kind) → result ≡ Err (OpFault.Expr node kind)
+        → SomeFails S.Operator stages.new.items node kind }
+{
+    let count = stages.len();
+    if count == 0 {
+        return Ok(None);
+    }
+    give_out(&mut stages[count - 1])
+}

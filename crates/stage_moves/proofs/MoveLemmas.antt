@@ -1,6 +1,6 @@
 -- What a move leaves of a list of stages, from what a call of one stage leaves.
 use Rattle.std.proofs.lemmas.List.{get_or-set_other}
-use Rattle.std.proofs.Common.{◌≡◌, ℕ, zero, suc, ◌+◌, ◌-◌, ◌<◌, List, [], ◌∷◌, ◌++◌, length, get_or, set, map, Bool, true, false, Result, Ok, Err, Option, Some, None, refl, sym, ap, subst, ◌∙◌, arith, append-nil}
+use Rattle.std.proofs.Common.{◌≡◌, ℕ, zero, suc, ◌+◌, ◌-◌, ◌<◌, List, [], ◌∷◌, ◌++◌, length, get_or, set, map, Bool, true, Result, Ok, Err, Option, Some, None, refl, sym, ap, subst, ◌∙◌, arith, append-nil}
 use Rattle.sql_values.specs.declared.fail.Fail.{Fail}
 use Rattle.col_pages.specs.Pages.{TypedPage}
 use Rattle.operator_core.specs.declared.operator.Operator.{Ghosts}
@@ -13,7 +13,7 @@ use Rattle.operator_core.specs.Stages.{Steps, Linked, ToldInTurn, giver_finished
 use Rattle.operator_core.proofs.StageLemmas.{Steps-took, Steps-gave, Steps-told}
 use Rattle.operator_core.proofs.LinkLemmas.{Linked-set, Linked-moved, Linked-front, Linked-last, map-set_made}
 use Rattle.operator_core.proofs.TurnLemmas.{Turns-set, Turns-told}
-use Rattle.stage_moves.specs.Moves.{Moved, SomeFails, first_needs}
+use Rattle.stage_moves.specs.Moves.{Moved, SomeFails}
 
 pub length-set : {A : Type 0} (xs : List A) (i : ℕ) (x : A) → length (set xs i x) ≡ length xs
 length-set [] i x = refl

@@ -12,14 +12,22 @@
 //! After want of memory nothing is said of the stages. A page of other types than a stage expects counts
 //! as want of memory: the wiring never makes one.
 //!
-//! - `stage`: `Stage`, an operator that knows the types of the rows that it expects
+//! - `typed_operator`: `TypedOperator`, an operator that knows the types of the rows that it expects
 //! - `moves`: the moves
+//! - `ends`: `PageSource` and `PageTarget`, where pages come from and go to
+//! - `one_pass`: passes over all stages. `Passed` (`specs/Passes.antt`) says that what the stages took and
+//!   gave goes on as what the source gave and the target was given. `run_passes` begins no move once its
+//!   quantum of rows is moved
 #![tactic(auto)]
 
+mod ends;
 mod moves;
-mod stage;
+mod one_pass;
 #[cfg(test)]
 mod tests;
+mod typed_operator;
 
+pub use ends::{PageSource, PageTarget};
 pub use moves::{are_finished, drain, feed, move_page, pass_end, takes_input};
-pub use stage::Stage;
+pub use one_pass::{give_page, move_pages, pass, run_passes, take_page};
+pub use typed_operator::TypedOperator;

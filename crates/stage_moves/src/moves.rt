@@ -1,18 +1,19 @@
 //! The moves of a driver. A driver keeps `Linked` and `ToldInTurn` of its stages over each of them.
-ghost use Rattle.std.specs.Prelude.{◌≡◌, ◌+◌, ◌<◌, ℕ, List, [], true, length, map};
+ghost use Rattle.std.specs.Prelude.{◌≡◌, ◌+◌, ◌<◌, ◌≤◌, ℕ, List, [], true, length, map, IfOk};
 ghost use Rattle.sql_values.specs.declared.fail.Fail.{Fail as Kind};
+ghost use Rattle.col_pages.specs.Pages.{most_rows};
 ghost use Rattle.operator_core.specs.Answers.{NotMemory, gave};
 ghost use Rattle.operator_core.specs.Rows.{Row};
 ghost use Rattle.operator_core.specs.Stages.{Linked, ToldInTurn, last_finished, giver_finished};
 ghost use Rattle.stage_moves.specs.Moves.{Moved, SomeFails, first_needs};
 
-use crate::stage::Stage;
+use crate::typed_operator::TypedOperator;
 use col_pages::Page;
 use operator_core::OpFault;
 use operator_core::stage::{give_out, take_in, tell};
 
 /// Whether a page of the source can be fed now.
-pub fn takes_input<S: Stage>(stages: &[S]) -> bool
+pub fn takes_input<S: TypedOperator>(stages: &[S]) -> bool
     ensures { result ≡ first_needs S.Operator stages.now }
 {
     match stages.first() {
@@ -22,7 +23,7 @@ pub fn takes_input<S: Stage>(stages: &[S]) -> bool
 }
 
 /// Whether the last stage is finished, or the source where there is no stage.
-pub fn are_finished<S: Stage>(stages: &[S], ended: bool) -> bool
+pub fn are_finished<S: TypedOperator>(stages: &[S], ended: bool) -> bool
     ensures { result ≡ last_finished S.Operator ended stages.now }
 {
     let count = stages.len();
@@ -33,7 +34,7 @@ pub fn are_finished<S: Stage>(stages: &[S], ended: bool) -> bool
 }
 
 /// Whether the giver of a stage is finished: the stage before it, or the source.
-fn is_giver_finished<S: Stage>(stages: &[S], place: usize, ended: bool) -> bool
+fn is_giver_finished<S: TypedOperator>(stages: &[S], place: usize, ended: bool) -> bool
     requires { place < length stages.now }
     ensures { result ≡ giver_finished S.Operator ended stages.now place }
 {
@@ -44,7 +45,7 @@ fn is_giver_finished<S: Stage>(stages: &[S], place: usize, ended: bool) -> bool
 }
 
 /// Gives a page of the source to the first stage; without a stage the page comes back.
-pub fn feed<S: Stage>(stages: &mut Vec<S>, page: Page) -> Result<Option<Page>, OpFault>
+pub fn feed<S: TypedOperator>(stages: &mut Vec<S>, page: Page) -> Result<Option<Page>, OpFault>
     requires { first_needs S.Operator stages.old.items ≡ true }
     ensures moved { NotMemory result
         → Moved S.Operator stages.old.items stages.new.items page.rows (gave result) }
@@ -65,9 +66,11 @@ pub fn feed<S: Stage>(stages: &mut Vec<S>, page: Page) -> Result<Option<Page>, O
 }
 
 /// Moves a page from a stage to the next one, where that takes one now. Answers its number of rows.
-pub fn move_page<S: Stage>(stages: &mut Vec<S>, place: usize) -> Result<u32, OpFault>
+pub fn move_page<S: TypedOperator>(stages: &mut Vec<S>, place: usize) -> Result<u32, OpFault>
     requires { place + 1 < length stages.old.items }
     ensures moved { NotMemory result → Moved S.Operator stages.old.items stages.new.items [] [] }
+    ensures len { length stages.new.items ≡ length stages.old.items }
+    ensures few { IfOk result (λ rows. rows ≤ most_rows) }
     ensures fault { (node : ℕ) (kind : Kind) → result ≡ Err (OpFault.Expr node kind)
         → SomeFails S.Operator stages.new.items node kind }
 {
@@ -90,13 +93,14 @@ pub fn move_page<S: Stage>(stages: &mut Vec<S>, place: usize) -> Result<u32, OpF
 }
 
 /// Tells a stage to finish, where its giver is finished.
-pub fn pass_end<S: Stage>(stages: &mut Vec<S>, place: usize, ended: bool)
+pub fn pass_end<S: TypedOperator>(stages: &mut Vec<S>, place: usize, ended: bool)
     requires { place < length stages.old.items }
     ensures links { (X Y : List Row) → Linked S.Operator stages.old.items X Y
         → Linked S.Operator stages.new.items X Y }
     ensures turns { ToldInTurn S.Operator ended stages.old.items
         → ToldInTurn S.Operator ended stages.new.items }
     ensures made { map S.as_made stages.new.items ≡ map S.as_made stages.old.items }
+    ensures len { length stages.new.items ≡ length stages.old.items }
 {
     if is_giver_finished(stages, place, ended) {
         tell(&mut stages[place]);
@@ -104,7 +108,7 @@ pub fn pass_end<S: Stage>(stages: &mut Vec<S>, place: usize, ended: bool)
 }
 
 /// What the last stage gives. Without a stage it is nothing.
-pub fn drain<S: Stage>(stages: &mut Vec<S>) -> Result<Option<Page>, OpFault>
+pub fn drain<S: TypedOperator>(stages: &mut Vec<S>) -> Result<Option<Page>, OpFault>
     ensures moved { NotMemory result
         → Moved S.Operator stages.old.items stages.new.items [] (gave result) }
     ensures fault { (node : ℕ) (kind : Kind) → result ≡ Err (OpFault.Expr node kind)

@@ -1,13 +1,47 @@
-use crate::{Stage, are_finished, drain, feed, move_page, pass_end, takes_input};
+use crate::{
+    PageSource, PageTarget, TypedOperator, are_finished, drain, feed, give_page, move_page,
+    move_pages, pass, pass_end, run_passes, take_page, takes_input,
+};
 use col_pages::{Page, PageBuilder};
-use operator_core::OpFault;
 use operator_core::examples::NotNull;
+use operator_core::{HeldPages, OpFault};
 use sql_values::{Memory, SqlType, ValueRef};
 use std::alloc::Global;
 
-impl Stage for NotNull {
+impl TypedOperator for NotNull {
     fn expects(&self, _page: &Page) -> bool {
         true
+    }
+}
+
+/// A source without a page.
+#[derive(Drop)]
+struct Nothing {
+    is_ended: bool,
+}
+
+impl PageSource for Nothing {
+    ghost use Rattle.std.specs.Prelude.{[]};
+
+    ghost taken = { λ _. [] };
+
+    ghost is_ended = { λ s. s.is_ended };
+
+    fn is_ended(&self) -> bool {
+        self.is_ended
+    }
+
+    fn take(&mut self) -> Result<Option<Page>, Memory> {
+        self.is_ended = true;
+        Ok(None)
+    }
+}
+
+impl PageTarget for HeldPages {
+    ghost given = { λ s. s };
+
+    fn put(&mut self, page: Page) -> Result<(), Memory> {
+        self.push(page)
     }
 }
 
@@ -99,6 +133,55 @@ fn without_stages_a_page_goes_past(rt: HostRuntime) -> Result<(), Memory> {
     let alloc = rt.alloc();
     let mut stages: Vec<NotNull> = Vec::new(alloc);
     assert_eq!(rt; put(&mut stages, page(alloc, &[1])?), Some(1));
+    assert!(rt; are_finished(&stages, true));
+    Ok(())
+}
+
+/// How many rows the first page has that a target was given.
+fn first_rows(mut target: HeldPages) -> u32 {
+    match target.take_first() {
+        Some(page) => page.len(),
+        None => 0,
+    }
+}
+
+#[test]
+fn passes_end_with_the_last_stage(rt: HostRuntime) -> Result<(), Memory> {
+    let alloc = rt.alloc();
+    let mut stages = stages(alloc)?;
+    assert_eq!(rt; put(&mut stages, page(alloc, &[1, 2, 3])?), None);
+    let mut source = Nothing { is_ended: false };
+    let mut target = HeldPages::new(alloc);
+    let passed = run_passes(&rt, &mut source, &mut stages, &mut target, 100);
+    assert!(rt; passed == Ok((6, true)));
+    assert_eq!(rt; first_rows(target), 3);
+    Ok(())
+}
+
+#[test]
+fn passes_yield_at_the_quantum(rt: HostRuntime) -> Result<(), Memory> {
+    let alloc = rt.alloc();
+    let mut stages = stages(alloc)?;
+    assert_eq!(rt; put(&mut stages, page(alloc, &[1, 2, 3])?), None);
+    let mut source = Nothing { is_ended: false };
+    let mut target = HeldPages::new(alloc);
+    let passed = run_passes(&rt, &mut source, &mut stages, &mut target, 2);
+    assert!(rt; passed == Ok((3, false)));
+    assert_eq!(rt; first_rows(target), 0);
+    Ok(())
+}
+
+#[test]
+fn a_pass_is_made_of_its_moves(rt: HostRuntime) -> Result<(), Memory> {
+    let alloc = rt.alloc();
+    let mut stages = stages(alloc)?;
+    let mut source = Nothing { is_ended: false };
+    let mut target = HeldPages::new(alloc);
+    assert!(rt; take_page(&mut source, &mut stages, &mut target) == Ok(0));
+    assert_eq!(rt; put(&mut stages, page(alloc, &[1, 2])?), None);
+    assert!(rt; move_pages(&mut stages, false, 8) == Ok(2));
+    assert!(rt; give_page(&mut stages, &mut target) == Ok(2));
+    assert!(rt; pass(&mut source, &mut stages, &mut target, 8) == Ok(0));
     assert!(rt; are_finished(&stages, true));
     Ok(())
 }

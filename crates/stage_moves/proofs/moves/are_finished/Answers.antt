@@ -1,4 +1,4 @@
-use Rattle.std.proofs.Common.{◌≡◌, ◌+◌, ◌-◌, ◌<◌, ◌≤◌, ℕ, List, set, length, refl, sym, ◌∙◌, ap, arith}
+use Rattle.std.proofs.Common.{◌∙◌, arith}
 use Rattle.stage_moves.proofs.MoveLemmas.{last-is}
 use Rattle.stage_moves.proofs.moves.are_finished.Goals as goal
 

@@ -1,4 +1,4 @@
-use Rattle.std.proofs.Common.{◌≡◌, ◌+◌, ◌-◌, ◌<◌, ◌≤◌, ℕ, List, set, length, refl, sym, ◌∙◌, ap, arith}
+use Rattle.std.proofs.Common.{◌-◌, arith}
 use Rattle.stage_moves.proofs.MoveLemmas.{Moved-gave, SomeFails-at}
 use Rattle.stage_moves.proofs.moves.drain.Goals as goal
 

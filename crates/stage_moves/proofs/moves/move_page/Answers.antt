@@ -1,4 +1,4 @@
-use Rattle.std.proofs.Common.{◌≡◌, ◌+◌, ◌-◌, ◌<◌, ◌≤◌, ℕ, List, set, length, refl, sym, ◌∙◌, ap, arith}
+use Rattle.std.proofs.Common.{◌+◌, ℕ, set, refl, arith}
 use Rattle.stage_moves.proofs.MoveLemmas.{none-gave, some-gave, Moved-gave_none, Moved-page, SomeFails-at, length-set, not-memory_err, err-err}
 use Rattle.stage_moves.proofs.moves.move_page.Goals as goal
 

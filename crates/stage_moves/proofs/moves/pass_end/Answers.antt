@@ -1,4 +1,4 @@
-use Rattle.std.proofs.Common.{◌≡◌, ◌+◌, ◌-◌, ◌<◌, ◌≤◌, ℕ, List, set, length, refl, sym, ◌∙◌, ap, arith}
+use Rattle.std.proofs.Common.{List, sym, ◌∙◌, ap}
 use Rattle.stage_moves.proofs.MoveLemmas.{Told-links, Told-turns, Told-made}
 use Rattle.operator_core.specs.Stages.{giver_finished}
 use Rattle.stage_moves.proofs.moves.pass_end.Goals as goal

@@ -4,7 +4,7 @@ use col_pages::Page;
 use operator_core::Operator;
 
 /// An operator that knows the types of the rows that it expects.
-pub trait Stage: Operator {
+pub trait TypedOperator: Operator {
     /// Whether a page is of these types.
     fn expects(&self, page: &Page) -> bool
         ensures { result ≡ true → Self.takes self.now page.now };

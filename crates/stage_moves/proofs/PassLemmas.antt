@@ -1,0 +1,64 @@
+-- What a pass leaves of a driver, from what its moves leave of the stages.
+use Rattle.std.proofs.Common.{◌≡◌, List, [], ◌++◌, map, Bool, true, Option, Some, None, Ok, refl, sym, subst, ◌∙◌, append-nil}
+use Rattle.col_pages.specs.Pages.{TypedPage}
+use Rattle.operator_core.specs.declared.operator.Operator.{Ghosts}
+use Rattle.operator_core.specs.Answers.{gave}
+use Rattle.operator_core.specs.Rows.{Row}
+use Rattle.operator_core.specs.Stages.{Linked, ToldInTurn}
+use Rattle.operator_core.proofs.TurnLemmas.{Turns-later}
+use Rattle.stage_moves.specs.Moves.{Moved}
+use Rattle.stage_moves.specs.Passes.{Passed}
+
+module _ {S : Type 0} (g : Ghosts S) where
+  -- nothing moved; the source may have ended
+  pub Passed-none : (ss : List S) (X A Y : List Row) (was is : Bool) → A ≡ X → (was ≡ true → is ≡ true) → Passed g ss ss X A Y Y was is
+  Passed-none ss X A Y was is e so = record {
+    links = λ l. subst (λ (x : List Row). Linked g ss x Y) (sym e) l;
+    turns = λ t. Turns-later g was is ss so t;
+    made = refl;
+  }
+
+  -- a move took and gave these rows
+  pub Passed-moved : (old new : List S) (P Q X A Y B : List Row) (was is : Bool) → Moved g old new P Q → A ≡ X ++ P → B ≡ Y ++ Q → (was ≡ true → is ≡ true)
+      → Passed g old new X A Y B was is
+  Passed-moved old new P Q X A Y B was is moved a b so = record {
+    links = λ l. subst (λ (x : List Row). Linked g new x B) (sym a) (subst (λ (y : List Row). Linked g new (X ++ P) y) (sym b) (moved.links X Y l));
+    turns = λ t. Turns-later g was is new so (moved.turns was t);
+    made = moved.made;
+  }
+
+  -- a move that gave nothing
+  pub Passed-took : (old new : List S) (P X A Y : List Row) (was is : Bool) (o : Option TypedPage) → o ≡ None → Moved g old new P (gave (Ok o)) → A ≡ X ++ P
+      → (was ≡ true → is ≡ true) → Passed g old new X A Y Y was is
+  Passed-took old new P X A Y was is o e moved a so =
+      Passed-moved old new P [] X A Y Y was is (subst (λ (o : Option TypedPage). Moved g old new P (gave (Ok o))) e moved) a (sym (append-nil Y)) so
+
+  pub Passed-gave : (old new : List S) (P X A Y B : List Row) (was is : Bool) (o : Option TypedPage) (page : TypedPage) → o ≡ Some page → Moved g old new P (gave (Ok o)) → A ≡ X ++ P
+      → B ≡ Y ++ page.rows → (was ≡ true → is ≡ true) → Passed g old new X A Y B was is
+  Passed-gave old new P X A Y B was is o page e moved a b so =
+      Passed-moved old new P page.rows X A Y B was is (subst (λ (o : Option TypedPage). Moved g old new P (gave (Ok o))) e moved) a b so
+
+  pub Passed-then : (old mid new : List S) (X A C Y B D : List Row) (was is be : Bool) → Passed g old mid X A Y B was is → Passed g mid new A C B D is be → Passed g old new X C Y D was be
+  Passed-then old mid new X A C Y B D was is be p q = record {
+    links = λ l. q.links (p.links l);
+    turns = λ t. q.turns (p.turns t);
+    made = q.made ∙ p.made;
+  }
+
+  -- ends were passed on, and then a page was moved or not
+  pub Passed-served : (old mid new : List S) (X Y : List Row) (ended : Bool) → ((A B : List Row) → Linked g old A B → Linked g mid A B)
+      → (ToldInTurn g ended old → ToldInTurn g ended mid) → map g.as_made mid ≡ map g.as_made old → Moved g mid new [] [] → Passed g old new X X Y Y ended ended
+  Passed-served old mid new X Y ended links turns made moved = record {
+    links = λ l. subst (λ (x : List Row). Linked g new x Y) (append-nil X) (subst (λ (y : List Row). Linked g new (X ++ []) y) (append-nil Y) (moved.links X Y (links X Y l)));
+    turns = λ t. moved.turns ended (turns t);
+    made = moved.made ∙ made;
+  }
+
+  pub Passed-told : (old mid : List S) (X Y : List Row) (ended : Bool) → ((A B : List Row) → Linked g old A B → Linked g mid A B)
+      → (ToldInTurn g ended old → ToldInTurn g ended mid) → map g.as_made mid ≡ map g.as_made old → Passed g old mid X X Y Y ended ended
+  Passed-told old mid X Y ended links turns made = record { links = λ l. links X Y l; turns = turns; made = made }
+
+  -- then pages moved behind the source as it is now
+  pub Passed-on : (old mid new : List S) (X A Y B : List Row) (was is b : Bool) → b ≡ is → Passed g old mid X A Y B was is → Passed g mid new A A B B b b → Passed g old new X A Y B was is
+  Passed-on old mid new X A Y B was is b e p q =
+      Passed-then old mid new X A A Y B B was is is p (subst (λ (x : Bool). Passed g mid new A A B B x x) e q)

@@ -1,0 +1,36 @@
+ghost use Rattle.std.specs.Prelude.{◌≡◌, ◌++◌, List, Bool, true, false, IfOk, MatchOption, IsOk};
+ghost use Rattle.operator_core.specs.Rows.{Row};
+
+use col_pages::Page;
+use sql_values::Memory;
+
+/// Where the pages of a driver come from.
+pub trait PageSource {
+    // The rows that it gave so far.
+    ghost taken: { Self → List Row };
+
+    // No page comes any more.
+    ghost is_ended: { Self → Bool };
+
+    /// Whether no page comes any more. False until a call of `take` answered None.
+    fn is_ended(&self) -> bool
+        ensures { result ≡ is_ended self.now };
+
+    /// The next page; None where it is ended. After want of memory no page is lost.
+    fn take(&mut self) -> Result<Option<Page>, Memory>
+        requires { is_ended self.old ≡ false }
+        ensures page { IfOk result (λ o. MatchOption o
+            ((taken self.new ≡ taken self.old) × (is_ended self.new ≡ true))
+            (λ page. (taken self.new ≡ taken self.old ++ page.rows)
+            × (is_ended self.new ≡ false))) };
+}
+
+/// Where the pages of a driver go to.
+pub trait PageTarget {
+    // The rows that it was given so far.
+    ghost given: { Self → List Row };
+
+    /// Takes a page.
+    fn put(&mut self, page: Page) -> Result<(), Memory>
+        ensures { IsOk result → given self.new ≡ given self.old ++ page.rows };
+}

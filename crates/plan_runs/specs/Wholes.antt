@@ -1,4 +1,6 @@
--- A whole run that begins as a stopped one: what its drivers took and gave, and more behind it.
+-- A whole run that begins as a stopped one: what the drivers of one node's pipeline took and gave, and more
+-- behind it. Of the pipelines below it is said that they ran whole, not that they began as the
+-- stopped ones.
 use Rattle.std.specs.Prelude.{ℕ, ◌<◌, List, ◌++◌}
 use Rattle.bag_laws.specs.Laws.{TaskRows}
 use Rattle.plan_trees.specs.Allowed.{skipping}

@@ -22,7 +22,8 @@ use std::marker::Model;
 use std::sync::Wait;
 use std::thread::Threads;
 
-/// Keeps the rows on which the predicate is TRUE, and gives the columns' values.
+/// Keeps the rows on which the predicate is TRUE, and gives the columns' values. The predicate is typed, and not
+/// necessarily boolean: no other value than TRUE keeps a row.
 #[derive(Debug, Drop)]
 pub struct FilterProject {
     alloc: Global,

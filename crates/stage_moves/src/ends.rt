@@ -16,7 +16,8 @@ pub trait PageSource {
     fn is_ended(&self) -> bool
         ensures { result ≡ is_ended self.now };
 
-    /// The next page; None where it is ended. After want of memory no page is lost.
+    /// The next page; None where it is ended. After want of memory it has its page still: who implements this
+    /// promises so, and no clause says it.
     fn take(&mut self) -> Result<Option<Page>, Memory>
         requires { is_ended self.old ≡ false }
         ensures page { IfOk result (λ o. MatchOption o

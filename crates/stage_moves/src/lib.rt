@@ -16,8 +16,11 @@
 //! - `moves`: the moves
 //! - `ends`: `PageSource` and `PageTarget`, where pages come from and go to
 //! - `one_pass`: passes over all stages. `Passed` (`specs/Passes.antt`) says that what the stages took and
-//!   gave goes on as what the source gave and the target was given. `run_passes` begins no move once its
-//!   quantum of rows is moved
+//!   gave goes on as what the source gave and the target was given. `run_passes` answers that the last
+//!   stage is finished only where it is, and else only where it counted at least its quantum of rows
+//!
+//! The numbers of rows that moves and passes answer are bounded from above. No clause ties them yet to the
+//! rows that moved.
 #![tactic(auto)]
 
 mod ends;

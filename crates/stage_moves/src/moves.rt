@@ -65,7 +65,8 @@ pub fn feed<S: TypedOperator>(stages: &mut Vec<S>, page: Page) -> Result<Option<
     }
 }
 
-/// Moves a page from a stage to the next one, where that takes one now. Answers its number of rows.
+/// Moves a page from a stage to the next one, where that takes one now. Answers its number of rows, of which
+/// the contract says only the most.
 pub fn move_page<S: TypedOperator>(stages: &mut Vec<S>, place: usize) -> Result<u32, OpFault>
     requires { place + 1 < length stages.old.items }
     ensures moved { NotMemory result → Moved S.Operator stages.old.items stages.new.items [] [] }

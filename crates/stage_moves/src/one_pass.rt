@@ -15,7 +15,8 @@ use crate::typed_operator::TypedOperator;
 use operator_core::OpFault;
 use std::sync::Wait;
 
-/// Feeds a page of the source, where there is one and the first stage takes it. Answers its rows.
+/// Feeds a page of the source, where there is one and the first stage takes it. Answers its number of rows,
+/// of which the contract says only the most.
 pub fn take_page<I: PageSource, S: TypedOperator, T: PageTarget>(
     source: &mut I,
     stages: &mut Vec<S>,
@@ -49,7 +50,7 @@ pub fn take_page<I: PageSource, S: TypedOperator, T: PageTarget>(
 }
 
 /// Tells a stage where its giver is finished and, where fewer than `room` rows were moved, moves a page from it
-/// to the next one. Answers the rows that were moved, with those from before.
+/// to the next one. Answers the count with the rows that it moved.
 fn serve_stage<S: TypedOperator>(
     stages: &mut Vec<S>,
     place: usize,
@@ -76,7 +77,8 @@ fn serve_stage<S: TypedOperator>(
 }
 
 /// Moves pages from stage to stage, the first ones first, as long as fewer than `room` rows were moved. Each
-/// stage is told where its giver is finished. Answers the rows that were moved.
+/// stage is told where its giver is finished. Answers how many rows it moved, of which the contract says only
+/// the most.
 pub fn move_pages<S: TypedOperator>(
     stages: &mut Vec<S>,
     ended: bool,
@@ -98,7 +100,8 @@ pub fn move_pages<S: TypedOperator>(
     Ok(moved)
 }
 
-/// Gives a page of the last stage to the target, where there is one. Answers its rows.
+/// Gives a page of the last stage to the target, where there is one. Answers its number of rows, of which the
+/// contract says only the most.
 pub fn give_page<S: TypedOperator, T: PageTarget>(
     stages: &mut Vec<S>,
     target: &mut T,
@@ -123,7 +126,7 @@ pub fn give_page<S: TypedOperator, T: PageTarget>(
 }
 
 /// A page of the source is fed, pages move on, and one goes to the target. No move begins once `room` rows were
-/// moved. Answers the rows that were moved.
+/// moved. Answers how many rows it moved, of which the contract says only the most.
 pub fn pass<I: PageSource, S: TypedOperator, T: PageTarget>(
     source: &mut I,
     stages: &mut Vec<S>,
@@ -157,8 +160,11 @@ pub fn pass<I: PageSource, S: TypedOperator, T: PageTarget>(
     }
 }
 
-/// Passes until `quantum` rows were moved, or the last stage is finished. Answers the rows that were moved, and
-/// whether it is.
+/// Passes until it counted `quantum` rows, or the last stage is finished. Answers its count, and whether the
+/// last stage is finished. The contract bounds the count and does not tie it to the rows that moved.
+///
+/// It passes on for ever where nothing more moves: where a stage waits for its note, since nobody looks here,
+/// or a full stage is never told to finish.
 pub fn run_passes<I: PageSource, S: TypedOperator, T: PageTarget, R: Wait>(
     rt: &R,
     source: &mut I,

@@ -13,9 +13,9 @@ pub record IsLawful {S : Type 0} (g : Ghosts S) : Type 0 where
       → (g.holds_row s ≡ false) ↔ (B ≡ [])
   pub finished : (s : S) → (g.is_finished s ≡ true) ↔ ((g.is_told s ≡ true) × (g.holds_row s ≡ false)
       × ((node : ℕ) (kind : Fail) → g.may_still_fail s [] node kind → ⊥))
-  pub full_gives : (s : S) (Z B : List Row) → g.is_full s ≡ true → g.may_give s Z B → g.may_give s [] B
+  pub full_gives : (s : S) (Z B : List Row) → g.is_full s ≡ true → g.may_give s Z B ↔ g.may_give s [] B
   pub full_fails : (s : S) (Z : List Row) (node : ℕ) (kind : Fail) → g.is_full s ≡ true
-      → g.may_still_fail s Z node kind → g.may_still_fail s [] node kind
+      → g.may_still_fail s Z node kind ↔ g.may_still_fail s [] node kind
   pub waiting_went : (s : S) (T G : List Row) → g.waits s ≡ true → g.went s T G → (T ≡ []) × (G ≡ [])
   pub made_untold : (s : S) → g.is_told (g.as_made s) ≡ false
   pub made_knows : (s : S) → g.knows (g.as_made s) ≡ g.knows s

@@ -219,10 +219,10 @@ pub trait Operator {
     ghost full_needs_none: { (s : Self) → is_full s ≡ true → needs_input s ≡ false };
 
     ghost full_gives: { (s : Self) (X B : List Row) → is_full s ≡ true
-        → may_give s X B → may_give s [] B };
+        → may_give s X B ↔ may_give s [] B };
 
     ghost full_fails: { (s : Self) (X : List Row) (node : ℕ) (kind : Kind) → is_full s ≡ true
-        → may_still_fail s X node kind → may_still_fail s [] node kind };
+        → may_still_fail s X node kind ↔ may_still_fail s [] node kind };
 
     // While it waits for what its note does not know it needs no input, and has taken and given
     // nothing.

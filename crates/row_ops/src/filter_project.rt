@@ -238,9 +238,9 @@ impl Operator for FilterProject {
 
     ghost full_needs_none = { λ s full. Prim.cc };
 
-    ghost full_gives = { λ s X B full gives. Prim.cc };
+    ghost full_gives = { λ s X B full. Prim.cc };
 
-    ghost full_fails = { λ s X node kind full fails. Prim.cc };
+    ghost full_fails = { λ s X node kind full. Prim.cc };
 
     ghost waiting_needs_none = { λ s waits unknown. Prim.cc };
 

@@ -176,9 +176,9 @@ impl Operator for NotedLimit {
 
     ghost full_needs_none = { λ s full. Prim.cc };
 
-    ghost full_gives = { λ s X B full gives. Prim.cc };
+    ghost full_gives = { λ s X B full. Prim.cc };
 
-    ghost full_fails = { λ s X node kind full fails. Prim.cc };
+    ghost full_fails = { λ s X node kind full. Prim.cc };
 
     ghost waiting_needs_none = { λ s waits unknown. none-without (is_some s.note.known)
         (not (s.is_told || has_row s.held)) unknown };

@@ -1,9 +1,10 @@
 -- Laws of the operators of `examples` that hold rows back or have a note.
 use Rattle.std.proofs.Common.{◌≡◌, ℕ, ◌-◌, ◌+◌, List, [], ◌∷◌, ◌++◌, length, take, Bool, true, false, refl, sym, ap, ◌∙◌, append_assoc, append-nil, arith, zero, suc, Option, Some, None, inl, inr, not, ◌&&◌, ◌||◌}
-use Rattle.std.specs.Prelude.{◌↔◌, is_some, min, unwrap_or}
+use Rattle.std.proofs.lemmas.Bool.{leb-true}
+use Rattle.std.specs.Prelude.{◌≤◌, ◌↔◌, is_some, min, unwrap_or, nat_le}
 use Rattle.sql_values.specs.declared.fail.Fail.{Fail}
 use Rattle.operator_core.specs.Rows.{Row, Coming}
-use Rattle.operator_core.specs.Samples.{has_row, IsPartOf, LimitGives, WantedGives}
+use Rattle.operator_core.specs.Samples.{has_row, IsPartOf, is_reached, LimitGives, WantedGives}
 
 held_or_none : (held : List Row) → (has_row held ≡ false) ↔ (held ≡ [])
 held_or_none [] = ((λ _. refl), (λ _. refl))
@@ -50,14 +51,34 @@ limit-rest known passed held B g =
     let same : B ≡ held = g.2 ∙ ap (λ x. held ++ x) (take-none (g.0 - passed)) ∙ append-nil held in
     ((λ f. same ∙ h.0 f), (λ f. h.1 (sym same ∙ f)))
 
-pub limit-needs_none : (known told held : Bool) → (known && not (told || held)) ≡ true → told ≡ false
-limit-needs_none false told held e = cc
-limit-needs_none true true held e = cc
-limit-needs_none true false held e = refl
+pub limit-needs_none : (known told held full : Bool) → (known && not ((told || held) || full)) ≡ true → told ≡ false
+limit-needs_none false told held full e = cc
+limit-needs_none true true held full e = cc
+limit-needs_none true false held full e = refl
 
-pub limit-needs : (known told held : Bool) → told ≡ false → held ≡ false → known ≡ true → (known && not (told || held)) ≡ true
-limit-needs true told held t h w = rw (t, h) refl
-limit-needs false told held t h w = cc
+pub limit-needs : (known told held full : Bool) → told ≡ false → held ≡ false → known ≡ true → full ≡ false → (known && not ((told || held) || full)) ≡ true
+limit-needs true told held full t h w f = rw (t, h, f) refl
+limit-needs false told held full t h w f = cc
+
+-- once its number is reached it needs no input, and gives what it holds
+pub reached-needs_none : (known told held full : Bool) → full ≡ true → (known && not ((told || held) || full)) ≡ false
+reached-needs_none false told held full e = refl
+reached-needs_none true true held full e = refl
+reached-needs_none true false true full e = refl
+reached-needs_none true false false full e = rw e refl
+
+none-left : (n passed : ℕ) → nat_le n passed ≡ true → n - passed ≡ 0
+none-left n passed e = let fits : n ≤ passed = leb-true n passed e in omega arith
+
+reached-same : (k passed n : ℕ) (held X Y : List Row) → k - passed ≡ 0 → n ≡ k → held ++ take (n - passed) X ≡ held ++ take (n - passed) Y
+reached-same k passed n held X Y left e = let z : n - passed ≡ 0 = rw e left in rw z refl
+
+pub reached-gives : (known : Option ℕ) (passed : ℕ) (held X B : List Row) → is_reached known passed ≡ true
+    → LimitGives known passed held X B ↔ LimitGives known passed held [] B
+reached-gives None passed held X B e = cc
+reached-gives (Some k) passed held X B e =
+    let left : k - passed ≡ 0 = none-left k passed e in
+    ((λ g. (g.0, g.1, g.2 ∙ reached-same k passed g.0 held X [] left g.1)), (λ g. (g.0, g.1, g.2 ∙ reached-same k passed g.0 held [] X left g.1)))
 
 over-none : (told : Bool) (held Z : List Row) → Coming told Z → (told && not (has_row held)) ≡ true → (held ++ Z) ≡ []
 over-none true [] Z coming e = coming

@@ -1,5 +1,5 @@
 -- What the operators of `examples` may give.
-use Rattle.std.specs.Prelude.{◌≡◌, ℕ, ◌⊎◌, List, [], ◌∷◌, ◌++◌, Bool, true, false, ◌||◌, if◌then◌else◌, Option, Some, None, suc, zero, take, ◌-◌}
+use Rattle.std.specs.Prelude.{◌≡◌, ℕ, ◌⊎◌, List, [], ◌∷◌, ◌++◌, Bool, true, false, ◌||◌, if◌then◌else◌, Option, Some, None, suc, zero, take, ◌-◌, nat_le}
 use Rattle.sql_values.specs.declared.value.Value.{Value}
 use Rattle.sql_values.specs.declared.value.Value.TheVariants.{Null}
 use Rattle.sql_values.specs.Cells.{cell}
@@ -35,6 +35,11 @@ unlooked known = record { known = known; empty_looks = 0 }
 abbrev pub IsNumber : Option ℕ → ℕ → Type 0
 IsNumber (Some n) number = number ≡ n
 IsNumber None number = Unit {0}
+
+-- the note knows its number, and as many rows have passed
+abbrev pub is_reached : Option ℕ → ℕ → Bool
+is_reached (Some n) passed = nat_le n passed
+is_reached None passed = false
 
 -- the note knows that rows are still wanted
 abbrev pub AreWanted : Option ℕ → Type 0

@@ -2,7 +2,7 @@
 //!
 //! - `not_null`: `NotNull` gives at once, and may fail
 //! - `at_end`: `AtEnd` gives only once it was told that no page comes any more
-//! - `noted_limit`: `NotedLimit` waits for what its note tells
+//! - `noted_limit`: `NotedLimit` waits for what its note tells, and is full once as many rows passed
 //! - `while_wanted`: `WhileWanted` has a note and does not wait for it
 //! - `note`: `Note`, which stands in for the note of a cell that is set once
 

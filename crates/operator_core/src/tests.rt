@@ -132,8 +132,11 @@ fn one_waits_for_its_note(rt: HostRuntime) -> Result<(), Memory> {
     let mut bells = Still { alloc };
     assert!(rt; wait(&mut op, &rt, &mut bells)? == Some((4, 7)));
     assert!(rt; wait(&mut op, &rt, &mut bells)?.is_none());
-    assert_eq!(rt; put(alloc, &mut op, &[1, 2, 3])?.as_str(), "taken");
-    assert_eq!(rt; given(alloc, &mut op)?.as_str(), "1 2 ");
+    assert_eq!(rt; put(alloc, &mut op, &[1])?.as_str(), "taken");
+    assert_eq!(rt; given(alloc, &mut op)?.as_str(), "1 ");
+    assert_eq!(rt; put(alloc, &mut op, &[2, 3])?.as_str(), "taken");
+    assert_eq!(rt; given(alloc, &mut op)?.as_str(), "2 ");
+    assert_eq!(rt; put(alloc, &mut op, &[4])?.as_str(), "refused");
     Ok(())
 }
 

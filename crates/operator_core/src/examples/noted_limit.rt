@@ -4,7 +4,7 @@ ghost use Rattle.sql_values.specs.declared.fail.Fail.{Fail as Kind};
 ghost use Rattle.col_pages.specs.Pages.{TypedPage, most_rows};
 ghost use Rattle.operator_core.specs.Rows.{Row};
 ghost use Rattle.operator_core.specs.Calls.{IsFresh};
-ghost use Rattle.operator_core.specs.Samples.{LimitGives};
+ghost use Rattle.operator_core.specs.Samples.{is_reached, LimitGives};
 
 use crate::examples::Note;
 use crate::{HeldPages, OpFault, Operator};
@@ -15,7 +15,8 @@ use std::alloc::Global;
 use std::sync::Wait;
 use std::thread::Threads;
 
-/// Gives as many of its first rows as its note says. It takes none before the note knows.
+/// Gives as many of its first rows as its note says. It takes none before the note knows, and is full once as
+/// many have passed.
 #[derive(Debug, Drop)]
 pub struct NotedLimit {
     alloc: Global,
@@ -35,8 +36,8 @@ impl NotedLimit {
         ensures fails { (X : List Row) (node : ℕ) (kind : Kind)
             → ⟦<NotedLimit as Operator>⟧.may_still_fail result X node kind → ⊥ }
         ensures takes { (page : TypedPage) → ⟦<NotedLimit as Operator>⟧.takes result page }
-        ensures open { (⟦<NotedLimit as Operator>⟧.is_full result ≡ false)
-            × (⟦<NotedLimit as Operator>⟧.page_size result ≡ most_rows) }
+        ensures full { ⟦<NotedLimit as Operator>⟧.is_full result ≡ is_reached note.known 0 }
+        ensures size { ⟦<NotedLimit as Operator>⟧.page_size result ≡ most_rows }
         ensures late { ⟦<NotedLimit as Operator>⟧.gives_late result ≡ false }
         ensures waits { ⟦<NotedLimit as Operator>⟧.waits result ≡ true }
         ensures knows { ⟦<NotedLimit as Operator>⟧.knows result ≡ is_some note.known }
@@ -78,13 +79,23 @@ impl NotedLimit {
             None => 0,
         }
     }
+
+    /// Whether its number is known and as many rows have passed.
+    fn is_reached(&self) -> bool
+        ensures { result ≡ is_reached self.now.note.known self.now.passed }
+    {
+        match self.note.known() {
+            Some(number) => number <= self.passed,
+            None => false,
+        }
+    }
 }
 
 impl Operator for NotedLimit {
     ghost use Rattle.std.specs.Prelude.{◌≡◌, ℕ, [], Some, true, false, not, ◌&&◌, ◌||◌, refl, is_some};
     ghost use Rattle.col_pages.specs.Pages.{most_rows};
-    ghost use Rattle.operator_core.specs.Samples.{has_row, unlooked, LimitGives};
-    ghost use Rattle.operator_core.specs.NoteLaws.{limit-some, limit-rest, limit-needs_none, limit-needs, none-without, held-over, limit-goes_on};
+    ghost use Rattle.operator_core.specs.Samples.{has_row, is_reached, unlooked, LimitGives};
+    ghost use Rattle.operator_core.specs.NoteLaws.{limit-some, limit-rest, limit-needs_none, limit-needs, reached-needs_none, reached-gives, none-without, held-over, limit-goes_on};
 
     ghost may_give = { λ s X B. LimitGives s.note.known s.passed s.held X B };
 
@@ -96,11 +107,12 @@ impl Operator for NotedLimit {
 
     ghost page_size = { λ _. most_rows };
 
-    ghost is_full = { λ _. false };
+    ghost is_full = { λ s. is_reached s.note.known s.passed };
 
     ghost gives_late = { λ _. false };
 
-    ghost needs_input = { λ s. is_some s.note.known && not (s.is_told || has_row s.held) };
+    ghost needs_input = { λ s. is_some s.note.known
+        && not ((s.is_told || has_row s.held) || is_reached s.note.known s.passed) };
 
     ghost holds_row = { λ s. has_row s.held };
 
@@ -125,7 +137,7 @@ impl Operator for NotedLimit {
         × (m ≡ record s { note = unlooked (Some n); passed = 0; held = []; is_told = false }) };
 
     fn needs_input(&self) -> bool {
-        self.note.known().is_some() && !(self.is_told || !self.held.is_empty())
+        self.note.known().is_some() && !(self.is_told || !self.held.is_empty() || self.is_reached())
     }
 
     fn add_input(&mut self, page: Page) -> Result<(), OpFault> {
@@ -172,21 +184,25 @@ impl Operator for NotedLimit {
     ghost finished = { λ s. held-over s.is_told s.held };
 
     ghost needs_untold = { λ s.
-        limit-needs_none (is_some s.note.known) s.is_told (has_row s.held) };
+        limit-needs_none (is_some s.note.known) s.is_told (has_row s.held)
+        (is_reached s.note.known s.passed) };
 
-    ghost full_needs_none = { λ s full. Prim.cc };
+    ghost full_needs_none = { λ s full.
+        reached-needs_none (is_some s.note.known) s.is_told (has_row s.held)
+        (is_reached s.note.known s.passed) full };
 
-    ghost full_gives = { λ s X B full. Prim.cc };
+    ghost full_gives = { λ s X B full. reached-gives s.note.known s.passed s.held X B full };
 
-    ghost full_fails = { λ s X node kind full. Prim.cc };
+    ghost full_fails = { λ s X node kind full. ((λ e. e), (λ e. e)) };
 
     ghost waiting_needs_none = { λ s waits unknown. none-without (is_some s.note.known)
-        (not (s.is_told || has_row s.held)) unknown };
+        (not ((s.is_told || has_row s.held) || is_reached s.note.known s.passed)) unknown };
 
     ghost waiting_went = { λ s T G waits went. (went.0, went.1) };
 
-    ghost needs = { λ s told held knows _.
-        limit-needs (is_some s.note.known) s.is_told (has_row s.held) told held (knows refl) };
+    ghost needs = { λ s told held knows wanted.
+        limit-needs (is_some s.note.known) s.is_told (has_row s.held)
+        (is_reached s.note.known s.passed) told held (knows refl) wanted };
 
     ghost made_untold = { λ s. refl };
 

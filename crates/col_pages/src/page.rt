@@ -107,6 +107,13 @@ impl Page {
         self.held.types()
     }
 
+    /// The law that each row has a value of each type, or NULL.
+    pub fn rows_fit(&self)
+        ensures { All (λ row. IsTrue (fits_row self.now.types row)) self.now.rows }
+    {
+        self.held.rows_fit();
+    }
+
     /// The value in a column of the row at a place.
     pub fn cell(&self, row: u32, column: u32) -> ValueRef<'_>
         requires { row < length self.now.rows }

@@ -4,3 +4,4 @@ pub mod RowListLemmas
 pub mod ColumnRowsLemmas
 pub mod HashLemmas
 pub mod TypeTextLemmas
+pub mod FitLemmas

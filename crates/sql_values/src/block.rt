@@ -76,6 +76,13 @@ impl Block {
         Ok(block)
     }
 
+    /// The law that each cell has the variant of the block's type, or is NULL.
+    pub fn cells_fit(&self)
+        ensures { All (λ v. IsTrue (fits self.now.kind v)) self.now.cells }
+    {
+        let _held = &self.held;
+    }
+
     pub fn kind(&self) -> SqlType
         ensures { result ≡ self.now.kind }
     {

@@ -12,8 +12,9 @@ use sql_exprs::{Expr, TypeFault, typed};
 use sql_values::{Column, ColumnRows, Memory, RowList, SqlType, Table};
 use std::alloc::Global;
 
-/// Whether each expression of the tree has a type, each node is built and has a column, and tables
-/// and constants have the types that the tree says.
+/// True only where each expression of the tree has a type, each node is built and has a column, and tables
+/// and constants have the types that the tree says. It looks at a table's columns, not at its cells: a column
+/// of another type that holds only NULL fits, and the answer is false.
 pub fn fits_tables(alloc: Global, tree: &Tree, tables: &[Table]) -> Result<bool, Memory>
     requires { TablesFit tables.now }
     ensures { IfOk result

@@ -12,7 +12,7 @@
 //! - `eval`: `evaluate`
 //! - `fit`: `fits_tables`, whether a tree fits the tables
 //! - `stop`: why it stops
-//! - `node_rows`: the rows of a node, as pages
+//! - `node_rows`: the rows of a node, as pages. `list_of` makes one list of them
 //! - `leaves`: the rows of scans and constants
 //! - `judges`: filters and projects
 //! - `lists`: unions and limits
@@ -30,4 +30,6 @@ mod tests;
 
 pub use eval::evaluate;
 pub use fit::fits_tables;
+pub use lists::list_of;
+pub use node_rows::NodeRows;
 pub use stop::EvalStop;

@@ -32,13 +32,13 @@ pub record IsKept {S : Type 0} (g : Ghosts S) (old new : S) : Type 0 where
   pub size : g.page_size new ≡ g.page_size old
   pub late : g.gives_late new ≡ g.gives_late old
   pub waits : g.waits new ≡ g.waits old
+  pub bell : g.bell new ≡ g.bell old
 
 -- what stays beside that at each call but `blocked`
 pub record Stays {S : Type 0} (g : Ghosts S) (old new : S) : Type 0 where
   pub as_made : g.as_made new ≡ g.as_made old
   pub knows : g.knows new ≡ g.knows old
   pub looks : g.empty_looks new ≡ g.empty_looks old
-  pub bell : g.bell new ≡ g.bell old
   pub kept : IsKept g old new
 
 -- it takes each page that it took, and gives none that it could not give, whatever the types of those to come

@@ -50,7 +50,7 @@ pub trait Operator {
     // It takes nothing in before its note knows what it looks for.
     ghost waits: { Self → Bool };
 
-    // The number of the bell of what its note looks for. Only a look may change it.
+    // The number of the bell of what its note looks for.
     ghost bell: { Self → ℕ };
 
     // Its note knows what it looks for; also where it has no note.
@@ -166,7 +166,7 @@ pub trait Operator {
         ensures answer { IfOk result (λ on. MatchOption on
             (waits self.old ≡ true → knows self.new ≡ true)
             (λ on. (waits self.old ≡ true) × (knows self.new ≡ false)
-            × Rose (empty_looks self.old) (empty_looks self.new) × (on.bell ≡ bell self.new)
+            × Rose (empty_looks self.old) (empty_looks self.new) × (on.bell ≡ bell self.old)
             × B.shown bells.new on.bell on.seen × (on.rung ≡ false))) }
         ensures known { knows self.old ≡ true → knows self.new ≡ true }
         ensures same { IsOk result → knows self.new ≡ knows self.old
@@ -190,8 +190,8 @@ pub trait Operator {
             → may_give_page self.new types page → may_give_page self.old types page }
         ensures full { is_full self.old ≡ true → is_full self.new ≡ true }
         ensures constant { (page_size self.new ≡ page_size self.old)
-            × (gives_late self.new ≡ gives_late self.old)
-            × (waits self.new ≡ waits self.old) }
+            × (gives_late self.new ≡ gives_late self.old) × (waits self.new ≡ waits self.old)
+            × (bell self.new ≡ bell self.old) }
         ensures bells { (bell count : ℕ) → B.shown bells.old bell count
             → B.shown bells.new bell count };
 

@@ -58,7 +58,7 @@ pub fn look<O: Operator, R: Threads + Wait + Sync, B: Bells>(
     ensures answer { IfOk result (λ on. MatchOption on
         (O.waits op.old ≡ true → O.knows op.new ≡ true)
         (λ on. (O.waits op.old ≡ true) × (O.knows op.new ≡ false)
-        × Rose (O.empty_looks op.old) (O.empty_looks op.new) × (on.bell ≡ O.bell op.new)
+        × Rose (O.empty_looks op.old) (O.empty_looks op.new) × (on.bell ≡ O.bell op.old)
         × B.shown bells.new on.bell on.seen × (on.rung ≡ false))) }
     ensures looks { O.empty_looks op.old ≤ O.empty_looks op.new }
     ensures bells { (bell count : ℕ) → B.shown bells.old bell count

@@ -68,6 +68,15 @@ impl<'w> ScanSource<'w> {
         }
     }
 
+    /// Whether its seat met the end. No row is left then.
+    pub fn is_ended(&self) -> bool
+        ensures value { result ≡ self.now.seat.is_ended }
+        ensures over { result ≡ true → self.now.left ≡ 0 }
+    {
+        let _left = self.high - self.low;
+        self.seat.is_ended()
+    }
+
     /// The next page of the claimed splits, with at least one row. None comes once the seat met the
     /// end, and from then on.
     pub fn next(&mut self) -> Result<Option<Page>, Memory>

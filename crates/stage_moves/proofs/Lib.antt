@@ -1,2 +1,4 @@
+pub mod CountLemmas
 pub mod MoveLemmas
 pub mod PassLemmas
+pub mod PlaceLemmas

@@ -14,6 +14,8 @@ use Rattle.operator_core.proofs.StageLemmas.{Steps-took, Steps-gave, Steps-told}
 use Rattle.operator_core.proofs.LinkLemmas.{Linked-set, Linked-moved, Linked-front, Linked-last, map-set_made}
 use Rattle.operator_core.proofs.TurnLemmas.{Turns-set, Turns-told}
 use Rattle.stage_moves.specs.Moves.{Moved, SomeFails}
+use Rattle.stage_moves.specs.Places.{AllStay}
+use Rattle.stage_moves.proofs.PlaceLemmas.{AllStay-same, AllStay-then, AllStay-set}
 
 pub length-set : {A : Type 0} (xs : List A) (i : ℕ) (x : A) → length (set xs i x) ≡ length xs
 length-set [] i x = refl
@@ -45,11 +47,12 @@ module _ {S : Type 0} (g : Ghosts S) where
     links = λ X Y l. subst (λ (x : List Row). Linked g ss x (Y ++ [])) (sym (append-nil X)) (subst (λ (y : List Row). Linked g ss X y) (sym (append-nil Y)) l);
     turns = λ ended t. t;
     made = refl;
+    same = AllStay-same g ss;
   }
 
   -- a page goes past where there is no stage
   pub Moved-past : (ss : List S) (P : List Row) → length ss ≡ 0 → Moved g ss ss P P
-  Moved-past [] P e = record { links = λ X Y l. ap (λ x. x ++ P) l; turns = λ ended t. t; made = refl }
+  Moved-past [] P e = record { links = λ X Y l. ap (λ x. x ++ P) l; turns = λ ended t. t; made = refl; same = AllStay-same g [] }
   Moved-past (s ∷ ss) P e = absurd (omega (arith, e))
 
   -- the first stage took a page
@@ -59,6 +62,7 @@ module _ {S : Type 0} (g : Ghosts S) where
         (Linked-front g ss s t page.rows X Y h e (λ A B steps. Steps-took g s t A B page took steps) l);
     turns = λ ended turns. Turns-set g ended ss 0 s t h e (λ told. sym took.told ∙ told) took.same.kept.over turns;
     made = map-set_made g ss 0 s t h e took.same.as_made;
+    same = AllStay-set g ss 0 s t h e took.same;
   }
 
   -- the last stage gave a page, or none
@@ -70,6 +74,7 @@ module _ {S : Type 0} (g : Ghosts S) where
             (Linked-last g ss i s t P X Y h e (λ A B steps. Steps-gave g s t A B P gave steps) l);
         turns = λ ended turns. Turns-set g ended ss i s t inside e (λ told. sym gave.told ∙ told) gave.same.kept.over turns;
         made = map-set_made g ss i s t inside e gave.same.as_made;
+        same = AllStay-set g ss i s t inside e gave.same;
       }
 
   -- a stage gave nothing
@@ -79,6 +84,7 @@ module _ {S : Type 0} (g : Ghosts S) where
         (Linked-set g ss i s t X Y inside e (λ A B steps. subst (λ (b : List Row). Steps g t A b) (append-nil B) (Steps-gave g s t A B [] gave steps)) l));
     turns = λ ended turns. Turns-set g ended ss i s t inside e (λ told. sym gave.told ∙ told) gave.same.kept.over turns;
     made = map-set_made g ss i s t inside e gave.same.as_made;
+    same = AllStay-set g ss i s t inside e gave.same;
   }
 
   -- a page went from a stage to the next
@@ -95,6 +101,7 @@ module _ {S : Type 0} (g : Ghosts S) where
         turns = λ ended turns. Turns-set g ended (set ss i s') j t t' inside' et' (λ told. sym took.told ∙ told) took.same.kept.over
             (Turns-set g ended ss i s s' inside es (λ told. sym gave.told ∙ told) gave.same.kept.over turns);
         made = map-set_made g (set ss i s') j t t' inside' et' took.same.as_made ∙ map-set_made g ss i s s' inside es gave.same.as_made;
+        same = AllStay-then g ss (set ss i s') (set (set ss i s') j t') (AllStay-set g ss i s s' inside es gave.same) (AllStay-set g (set ss i s') j t t' inside' et' took.same);
       }
 
   -- a stage was told whose giver is finished
@@ -108,6 +115,9 @@ module _ {S : Type 0} (g : Ghosts S) where
 
   pub Told-made : (ss : List S) (i : ℕ) (s t : S) → i < length ss → s ≡ get_or ss i s → Told g s t → map g.as_made (set ss i t) ≡ map g.as_made ss
   Told-made ss i s t h e told = map-set_made g ss i s t h e told.same.as_made
+
+  pub Told-same : (ss : List S) (i : ℕ) (s t : S) → i < length ss → s ≡ get_or ss i s → Told g s t → AllStay g ss (set ss i t)
+  Told-same ss i s t h e told = AllStay-set g ss i s t h e told.same
 
   pub SomeFails-at : (ss : List S) (i : ℕ) (t : S) (node : ℕ) (kind : Fail) → i < length ss → FailsNow g t node kind → SomeFails g (set ss i t) node kind
   SomeFails-at ss i t node kind h fails = record { place = i; stage = t; there = rw (length-set ss i t) h; is = get-set ss i t h; fails = fails }

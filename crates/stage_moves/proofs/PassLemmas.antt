@@ -8,6 +8,8 @@ use Rattle.operator_core.specs.Stages.{Linked, ToldInTurn}
 use Rattle.operator_core.proofs.TurnLemmas.{Turns-later}
 use Rattle.stage_moves.specs.Moves.{Moved}
 use Rattle.stage_moves.specs.Passes.{Passed}
+use Rattle.stage_moves.specs.Places.{AllStay}
+use Rattle.stage_moves.proofs.PlaceLemmas.{AllStay-same, AllStay-then}
 
 module _ {S : Type 0} (g : Ghosts S) where
   -- nothing moved; the source may have ended
@@ -16,6 +18,7 @@ module _ {S : Type 0} (g : Ghosts S) where
     links = λ l. subst (λ (x : List Row). Linked g ss x Y) (sym e) l;
     turns = λ t. Turns-later g was is ss so t;
     made = refl;
+    same = AllStay-same g ss;
   }
 
   -- a move took and gave these rows
@@ -25,6 +28,7 @@ module _ {S : Type 0} (g : Ghosts S) where
     links = λ l. subst (λ (x : List Row). Linked g new x B) (sym a) (subst (λ (y : List Row). Linked g new (X ++ P) y) (sym b) (moved.links X Y l));
     turns = λ t. Turns-later g was is new so (moved.turns was t);
     made = moved.made;
+    same = moved.same;
   }
 
   -- a move that gave nothing
@@ -43,20 +47,22 @@ module _ {S : Type 0} (g : Ghosts S) where
     links = λ l. q.links (p.links l);
     turns = λ t. q.turns (p.turns t);
     made = q.made ∙ p.made;
+    same = AllStay-then g old mid new p.same q.same;
   }
 
   -- ends were passed on, and then a page was moved or not
   pub Passed-served : (old mid new : List S) (X Y : List Row) (ended : Bool) → ((A B : List Row) → Linked g old A B → Linked g mid A B)
-      → (ToldInTurn g ended old → ToldInTurn g ended mid) → map g.as_made mid ≡ map g.as_made old → Moved g mid new [] [] → Passed g old new X X Y Y ended ended
-  Passed-served old mid new X Y ended links turns made moved = record {
+      → (ToldInTurn g ended old → ToldInTurn g ended mid) → map g.as_made mid ≡ map g.as_made old → AllStay g old mid → Moved g mid new [] [] → Passed g old new X X Y Y ended ended
+  Passed-served old mid new X Y ended links turns made same moved = record {
     links = λ l. subst (λ (x : List Row). Linked g new x Y) (append-nil X) (subst (λ (y : List Row). Linked g new (X ++ []) y) (append-nil Y) (moved.links X Y (links X Y l)));
     turns = λ t. moved.turns ended (turns t);
     made = moved.made ∙ made;
+    same = AllStay-then g old mid new same moved.same;
   }
 
   pub Passed-told : (old mid : List S) (X Y : List Row) (ended : Bool) → ((A B : List Row) → Linked g old A B → Linked g mid A B)
-      → (ToldInTurn g ended old → ToldInTurn g ended mid) → map g.as_made mid ≡ map g.as_made old → Passed g old mid X X Y Y ended ended
-  Passed-told old mid X Y ended links turns made = record { links = λ l. links X Y l; turns = turns; made = made }
+      → (ToldInTurn g ended old → ToldInTurn g ended mid) → map g.as_made mid ≡ map g.as_made old → AllStay g old mid → Passed g old mid X X Y Y ended ended
+  Passed-told old mid X Y ended links turns made same = record { links = λ l. links X Y l; turns = turns; made = made; same = same }
 
   -- then pages moved behind the source as it is now
   pub Passed-on : (old mid new : List S) (X A Y B : List Row) (was is b : Bool) → b ≡ is → Passed g old mid X A Y B was is → Passed g mid new A A B B b b → Passed g old new X A Y B was is

@@ -5,12 +5,14 @@ use Rattle.operator_core.specs.declared.operator.Operator.{Ghosts}
 use Rattle.operator_core.specs.Rows.{Row}
 use Rattle.operator_core.specs.Calls.{FailsNow}
 use Rattle.operator_core.specs.Stages.{Linked, ToldInTurn}
+use Rattle.stage_moves.specs.Places.{AllStay}
 
 -- the stages took some more rows and gave some more, and are in turn and made as before
 pub record Moved {S : Type 0} (g : Ghosts S) (old new : List S) (taken given : List Row) : Type 0 where
   pub links : (X Y : List Row) → Linked g old X Y → Linked g new (X ++ taken) (Y ++ given)
   pub turns : (ended : Bool) → ToldInTurn g ended old → ToldInTurn g ended new
   pub made : map g.as_made new ≡ map g.as_made old
+  pub same : AllStay g old new
 
 -- one of the stages fails so, whatever rows still come to it
 pub record SomeFails {S : Type 0} (g : Ghosts S) (stages : List S) (node : ℕ) (kind : Fail) : Type 0 where

@@ -12,6 +12,9 @@ pub trait PageSource {
     // No page comes any more.
     ghost is_ended: { Self → Bool };
 
+    // It as it was made.
+    ghost as_made: { Self → Self };
+
     /// Whether no page comes any more. False until a call of `take` answered None.
     fn is_ended(&self) -> bool
         ensures { result ≡ is_ended self.now };
@@ -20,6 +23,7 @@ pub trait PageSource {
     /// promises so, and no clause says it.
     fn take(&mut self) -> Result<Option<Page>, Memory>
         requires { is_ended self.old ≡ false }
+        ensures made { as_made self.new ≡ as_made self.old }
         ensures page { IfOk result (λ o. MatchOption o
             ((taken self.new ≡ taken self.old) × (is_ended self.new ≡ true))
             (λ page. (taken self.new ≡ taken self.old ++ page.rows)

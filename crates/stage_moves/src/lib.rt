@@ -7,23 +7,23 @@
 //!   gave, is what they took and gave after it
 //! - `ToldInTurn` stays: a stage is told to finish only where its giver is finished
 //! - each stage was made as before
+//! - the rows that it answers are those that entered a stage or the target, no more and no fewer: `LinkedBy`
+//!   counts them, and `Counted` says that the count rose by the answer (`specs/Counts.antt`)
 //! - a failure is one of a stage here, whatever rows still come to it (`specs/Moves.antt`)
 //!
-//! After want of memory nothing is said of the stages. A page of other types than a stage expects counts
-//! as want of memory: the wiring never makes one.
+//! After want of memory nothing is said of the stages, and after a failure no number is. A page of other types
+//! than a stage expects counts as want of memory: the wiring never makes one.
 //!
 //! - `typed_operator`: `TypedOperator`, an operator that knows the types of the rows that it expects
 //! - `moves`: the moves
 //! - `ends`: `PageSource` and `PageTarget`, where pages come from and go to
-//! - `one_pass`: passes over all stages. `Passed` (`specs/Passes.antt`) says that what the stages took and
-//!   gave goes on as what the source gave and the target was given. `run_passes` answers that the last
-//!   stage is finished only where it is, and else only where it counted at least its quantum of rows
-//!
-//! The numbers of rows that moves and passes answer are bounded from above. No clause ties them yet to the
-//! rows that moved.
+//! - `one_pass`: one pass over all stages. `Passed` (`specs/Passes.antt`) says that what the stages took and
+//!   gave goes on as what the source gave and the target was given
+//! - `examples`: the small operators of `operator_core` as stages
 #![tactic(auto)]
 
 mod ends;
+mod examples;
 mod moves;
 mod one_pass;
 #[cfg(test)]
@@ -32,5 +32,5 @@ mod typed_operator;
 
 pub use ends::{PageSource, PageTarget};
 pub use moves::{are_finished, drain, feed, move_page, pass_end, takes_input};
-pub use one_pass::{give_page, move_pages, pass, run_passes, take_page};
+pub use one_pass::{give_page, move_pages, pass, take_page};
 pub use typed_operator::TypedOperator;

@@ -1,11 +1,13 @@
 //! The moves of a driver. A driver keeps `Linked` and `ToldInTurn` of its stages over each of them.
-ghost use Rattle.std.specs.Prelude.{◌≡◌, ◌+◌, ◌<◌, ◌≤◌, ℕ, List, [], true, length, map, IfOk};
+ghost use Rattle.std.specs.Prelude.{◌≡◌, ◌+◌, ◌<◌, ◌≤◌, ◌++◌, ℕ, List, [], true, length, map, IfOk, OnOk};
 ghost use Rattle.sql_values.specs.declared.fail.Fail.{Fail as Kind};
 ghost use Rattle.col_pages.specs.Pages.{most_rows};
 ghost use Rattle.operator_core.specs.Answers.{NotMemory, gave};
 ghost use Rattle.operator_core.specs.Rows.{Row};
 ghost use Rattle.operator_core.specs.Stages.{Linked, ToldInTurn, last_finished, giver_finished};
+ghost use Rattle.stage_moves.specs.Counts.{Counted};
 ghost use Rattle.stage_moves.specs.Moves.{Moved, SomeFails, first_needs};
+ghost use Rattle.stage_moves.specs.Places.{AllStay};
 
 use crate::typed_operator::TypedOperator;
 use col_pages::Page;
@@ -49,6 +51,8 @@ pub fn feed<S: TypedOperator>(stages: &mut Vec<S>, page: Page) -> Result<Option<
     requires { first_needs S.Operator stages.old.items ≡ true }
     ensures moved { NotMemory result
         → Moved S.Operator stages.old.items stages.new.items page.rows (gave result) }
+    ensures counts { OnOk result ((X Y : List Row) → Counted S.Operator stages.old.items
+        stages.new.items X (X ++ page.rows) Y (Y ++ gave result) (length page.rows)) }
     ensures fault { (node : ℕ) (kind : Kind) → result ≡ Err (OpFault.Expr node kind)
         → SomeFails S.Operator stages.new.items node kind }
 {
@@ -65,11 +69,12 @@ pub fn feed<S: TypedOperator>(stages: &mut Vec<S>, page: Page) -> Result<Option<
     }
 }
 
-/// Moves a page from a stage to the next one, where that takes one now. Answers its number of rows, of which
-/// the contract says only the most.
+/// Moves a page from a stage to the next one, where that takes one now. Answers its number of rows.
 pub fn move_page<S: TypedOperator>(stages: &mut Vec<S>, place: usize) -> Result<u32, OpFault>
     requires { place + 1 < length stages.old.items }
     ensures moved { NotMemory result → Moved S.Operator stages.old.items stages.new.items [] [] }
+    ensures counts { IfOk result (λ rows. (X Y : List Row)
+        → Counted S.Operator stages.old.items stages.new.items X X Y Y rows) }
     ensures len { length stages.new.items ≡ length stages.old.items }
     ensures few { IfOk result (λ rows. rows ≤ most_rows) }
     ensures fault { (node : ℕ) (kind : Kind) → result ≡ Err (OpFault.Expr node kind)
@@ -98,9 +103,12 @@ pub fn pass_end<S: TypedOperator>(stages: &mut Vec<S>, place: usize, ended: bool
     requires { place < length stages.old.items }
     ensures links { (X Y : List Row) → Linked S.Operator stages.old.items X Y
         → Linked S.Operator stages.new.items X Y }
+    ensures counts { (X Y : List Row)
+        → Counted S.Operator stages.old.items stages.new.items X X Y Y 0 }
     ensures turns { ToldInTurn S.Operator ended stages.old.items
         → ToldInTurn S.Operator ended stages.new.items }
     ensures made { map S.as_made stages.new.items ≡ map S.as_made stages.old.items }
+    ensures same { AllStay S.Operator stages.old.items stages.new.items }
     ensures len { length stages.new.items ≡ length stages.old.items }
 {
     if is_giver_finished(stages, place, ended) {
@@ -112,6 +120,8 @@ pub fn pass_end<S: TypedOperator>(stages: &mut Vec<S>, place: usize, ended: bool
 pub fn drain<S: TypedOperator>(stages: &mut Vec<S>) -> Result<Option<Page>, OpFault>
     ensures moved { NotMemory result
         → Moved S.Operator stages.old.items stages.new.items [] (gave result) }
+    ensures counts { OnOk result ((X Y : List Row) → Counted S.Operator stages.old.items
+        stages.new.items X X Y (Y ++ gave result) (length (gave result))) }
     ensures fault { (node : ℕ) (kind : Kind) → result ≡ Err (OpFault.Expr node kind)
         → SomeFails S.Operator stages.new.items node kind }
 {

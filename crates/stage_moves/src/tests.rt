@@ -1,18 +1,12 @@
 use crate::{
-    PageSource, PageTarget, TypedOperator, are_finished, drain, feed, give_page, move_page,
-    move_pages, pass, pass_end, run_passes, take_page, takes_input,
+    PageSource, PageTarget, are_finished, drain, feed, give_page, move_page, move_pages, pass,
+    pass_end, take_page, takes_input,
 };
 use col_pages::{Page, PageBuilder};
 use operator_core::examples::NotNull;
 use operator_core::{HeldPages, OpFault};
 use sql_values::{Memory, SqlType, ValueRef};
 use std::alloc::Global;
-
-impl TypedOperator for NotNull {
-    fn expects(&self, _page: &Page) -> bool {
-        true
-    }
-}
 
 /// A source without a page.
 #[derive(Drop)]
@@ -21,11 +15,13 @@ struct Nothing {
 }
 
 impl PageSource for Nothing {
-    ghost use Rattle.std.specs.Prelude.{[]};
+    ghost use Rattle.std.specs.Prelude.{[], false};
 
     ghost taken = { λ _. [] };
 
     ghost is_ended = { λ s. s.is_ended };
+
+    ghost as_made = { λ s. record s { is_ended = false } };
 
     fn is_ended(&self) -> bool {
         self.is_ended
@@ -47,7 +43,7 @@ impl PageTarget for HeldPages {
 
 /// A page of one column; 0 stands for NULL.
 fn page(alloc: Global, numbers: &[i64]) -> Result<Page, Memory> {
-    let mut builder = PageBuilder::new(alloc, &[SqlType::Bigint], 8)?;
+    let mut builder = PageBuilder::new(alloc, &[SqlType::Bigint], 16)?;
     for number in numbers {
         let value = match *number {
             0 => ValueRef::Null,
@@ -134,40 +130,6 @@ fn without_stages_a_page_goes_past(rt: HostRuntime) -> Result<(), Memory> {
     let mut stages: Vec<NotNull> = Vec::new(alloc);
     assert_eq!(rt; put(&mut stages, page(alloc, &[1])?), Some(1));
     assert!(rt; are_finished(&stages, true));
-    Ok(())
-}
-
-/// How many rows the first page has that a target was given.
-fn first_rows(mut target: HeldPages) -> u32 {
-    match target.take_first() {
-        Some(page) => page.len(),
-        None => 0,
-    }
-}
-
-#[test]
-fn passes_end_with_the_last_stage(rt: HostRuntime) -> Result<(), Memory> {
-    let alloc = rt.alloc();
-    let mut stages = stages(alloc)?;
-    assert_eq!(rt; put(&mut stages, page(alloc, &[1, 2, 3])?), None);
-    let mut source = Nothing { is_ended: false };
-    let mut target = HeldPages::new(alloc);
-    let passed = run_passes(&rt, &mut source, &mut stages, &mut target, 100);
-    assert!(rt; passed == Ok((6, true)));
-    assert_eq!(rt; first_rows(target), 3);
-    Ok(())
-}
-
-#[test]
-fn passes_yield_at_the_quantum(rt: HostRuntime) -> Result<(), Memory> {
-    let alloc = rt.alloc();
-    let mut stages = stages(alloc)?;
-    assert_eq!(rt; put(&mut stages, page(alloc, &[1, 2, 3])?), None);
-    let mut source = Nothing { is_ended: false };
-    let mut target = HeldPages::new(alloc);
-    let passed = run_passes(&rt, &mut source, &mut stages, &mut target, 2);
-    assert!(rt; passed == Ok((3, false)));
-    assert_eq!(rt; first_rows(target), 0);
     Ok(())
 }
 

@@ -1,5 +1,6 @@
 use Rattle.std.proofs.Common.{◌-◌, arith}
 use Rattle.stage_moves.proofs.MoveLemmas.{Moved-gave, SomeFails-at}
+use Rattle.stage_moves.proofs.CountLemmas.{Counted-drained}
 use Rattle.stage_moves.proofs.moves.drain.Goals as goal
 
 pub returns-clause-moved : goal.returns-clause-moved
@@ -9,3 +10,7 @@ returns-clause-moved g c = λ ok. Moved-gave g.S.Operator c.args.stages.now.item
 pub returns-clause-fault : goal.returns-clause-fault
 returns-clause-fault g c = λ node kind e. SomeFails-at g.S.Operator c.args.stages.now.items (c.len-count.result - 1) c.give_out.new.op node kind
     (omega (arith, c.len-count.ensures, c.if-count-eq0.false)) (c.give_out.ensures.fault node kind e)
+
+pub returns-clause-counts : goal.returns-clause-counts
+returns-clause-counts g c = Counted-drained g.S.Operator c.give_out.result c.args.stages.now.items (c.len-count.result - 1) c.index_mut.result.now c.give_out.new.op
+    (omega (arith, c.len-count.ensures, c.if-count-eq0.false)) c.index_mut.ensures.value (λ ok. c.give_out.ensures.gave ok)

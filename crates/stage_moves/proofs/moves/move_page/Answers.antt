@@ -1,5 +1,6 @@
-use Rattle.std.proofs.Common.{◌+◌, ℕ, set, refl, arith}
-use Rattle.stage_moves.proofs.MoveLemmas.{none-gave, some-gave, Moved-gave_none, Moved-page, SomeFails-at, length-set, not-memory_err, err-err}
+use Rattle.std.proofs.Common.{◌+◌, ℕ, set, refl, sym, arith}
+use Rattle.stage_moves.proofs.MoveLemmas.{none-gave, some-gave, Moved-none, Moved-gave_none, Moved-page, SomeFails-at, length-set, not-memory_err, err-err}
+use Rattle.stage_moves.proofs.CountLemmas.{Counted-gave_none, Counted-page, Counted-is}
 use Rattle.stage_moves.proofs.moves.move_page.Goals as goal
 
 pub returns-in-Ok-None-clause-moved : goal.returns-in-Ok-None-clause-moved
@@ -28,3 +29,16 @@ pub returns-in-Err-take_in-clause-fault : goal.returns-in-Err-take_in-clause-fau
 returns-in-Err-take_in-clause-fault g c = λ node kind e. SomeFails-at g.S.Operator (set c.args.stages.now.items c.args.place c.give_out.new.op) (c.args.place + 1)
     c.take_in.new.op node kind (rw (length-set c.args.stages.now.items c.args.place c.give_out.new.op) c.requires)
     ((c.in-Err-take_in.ensures).fault node kind (err-err _ _ e))
+
+pub returns-in-Ok-None-clause-counts : goal.returns-in-Ok-None-clause-counts
+returns-in-Ok-None-clause-counts g c = λ X Y. Counted-gave_none g.S.Operator c.args.stages.now.items c.args.place c.index_mut.result.now c.give_out.new.op X Y
+    (omega (arith, c.requires)) c.index_mut.ensures.value (none-gave g.S.Operator _ _ c.in-Ok-None.field-0 c.in-Ok-None.field-0-is ((c.in-Ok-None.ensures).gave tt))
+
+pub returns-in-Ok-clause-counts : goal.returns-in-Ok-clause-counts
+returns-in-Ok-clause-counts g c = λ X Y. Counted-is g.S.Operator _ _ X X Y Y _ _ (sym (c.len-rows.ensures).len)
+    (Counted-page g.S.Operator c.args.stages.now.items c.args.place (c.args.place + 1) c.index_mut.result.now c.index_mut-2.result.now
+    c.give_out.new.op c.take_in.new.op c.in-Ok-Some.page X Y refl c.requires c.index_mut.ensures.value c.index_mut-2.ensures.value
+    (some-gave g.S.Operator _ _ c.in-Ok-Some.field-0 c.in-Ok-Some.page c.in-Ok-Some.field-0-is ((c.in-Ok-Some.ensures).gave tt)) ((c.in-Ok.ensures).took tt))
+
+pub returns-then-not-needs_input-clause-moved : goal.returns-then-not-needs_input-clause-moved
+returns-then-not-needs_input-clause-moved g c = λ _. Moved-none g.S.Operator c.args.stages.now.items

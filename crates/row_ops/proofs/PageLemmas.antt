@@ -14,3 +14,6 @@ fits_one types row n t r = rw (t, r) refl
 
 pub one_more : (rows : List (List Value)) (row : List Value) (n : ℤ) → AllFit (Bigint ∷ []) rows → row ≡ value.Bigint n ∷ [] → AllFit (Bigint ∷ []) (rows ++ row ∷ [])
 one_more rows row n fit r = All-push (λ row. IsTrue (fits_row (Bigint ∷ []) row)) rows row fit (fits_one (Bigint ∷ []) row n refl r)
+
+pub row_more : (types : List SqlType) (rows : List (List Value)) (row : List Value) → AllFit types rows → IsTrue (fits_row types row) → AllFit types (rows ++ row ∷ [])
+row_more types rows row fit fits = All-push (λ row. IsTrue (fits_row types row)) rows row fit fits

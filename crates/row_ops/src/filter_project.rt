@@ -100,6 +100,13 @@ impl FilterProject {
         }
     }
 
+    /// The types of its input.
+    pub fn types(&self) -> &[SqlType]
+        ensures { result.now ≡ self.now.types }
+    {
+        self.types.as_slice()
+    }
+
     fn fault(&self, kind: Fail) -> OpFault
         ensures { result ≡ OpFault.Expr self.now.node kind }
     {

@@ -1,15 +1,17 @@
-//! Rows worked out by hand. The operators are at node 7, over one column of whole numbers.
-ghost use Rattle.std.specs.Prelude.{◌≡◌, [], ◌∷◌, IfOk, IfSome};
+//! Rows worked out by hand. Filters are at node 7, over one column of whole numbers, and so are limits.
+ghost use Rattle.std.specs.Prelude.{◌≡◌, [], ◌∷◌, IfOk, IfSome, IsTrue};
 ghost use Rattle.sql_values.specs.declared.types.SqlType.TheVariants as kind;
 ghost use Rattle.sql_values.specs.declared.value.Value.TheVariants as value;
 ghost use Rattle.col_pages.specs.Pages.{TypedPage};
+ghost use Rattle.page_judges.specs.Typed.{AllFit};
+ghost use Rattle.sql_values.specs.ColumnRows.{fits_row};
 ghost use Rattle.row_ops.specs.RowJudges.{IsOf};
 
-use crate::{FilterProject, are_typed};
+use crate::{FilterProject, LimitOp, ValuesOp, are_typed};
 use col_pages::{Page, PageBuilder};
 use operator_core::Operator;
 use sql_exprs::{CallName, Expr};
-use sql_values::{Memory, Row, SqlType, Value, ValueRef};
+use sql_values::{Memory, Row, RowList, SqlType, Text, Value, ValueRef};
 use std::alloc::Global;
 
 const WHOLE: SqlType = SqlType::Bigint;
@@ -190,5 +192,101 @@ fn a_column_fails_before_a_later_row_of_the_filter(rt: HostRuntime) -> Result<()
             assert_eq!(rt; given(alloc, &mut op)?.as_str(), "9223372036854775807 ");
         }
     }
+    Ok(())
+}
+
+#[test]
+fn a_limit_gives_the_first_rows_and_takes_in_the_rest(rt: HostRuntime) -> Result<(), Memory> {
+    let alloc = rt.alloc();
+    let mut op = LimitOp::new(alloc, 4);
+    assert_eq!(rt; put(alloc, &mut op, &[1, 2, 3])?.as_str(), "taken");
+    assert_eq!(rt; put(alloc, &mut op, &[4])?.as_str(), "refused");
+    assert_eq!(rt; given(alloc, &mut op)?.as_str(), "1 2 3 ");
+    assert_eq!(rt; put(alloc, &mut op, &[4, 5])?.as_str(), "taken");
+    assert_eq!(rt; given(alloc, &mut op)?.as_str(), "4 ");
+    assert_eq!(rt; put(alloc, &mut op, &[6])?.as_str(), "taken");
+    assert_eq!(rt; given(alloc, &mut op)?.as_str(), "none");
+    assert!(rt; !op.is_finished());
+    op.finish();
+    assert!(rt; op.is_finished());
+    Ok(())
+}
+
+#[test]
+fn a_limit_of_no_row_gives_none(rt: HostRuntime) -> Result<(), Memory> {
+    let alloc = rt.alloc();
+    let mut op = LimitOp::new(alloc, 0);
+    assert_eq!(rt; put(alloc, &mut op, &[1, 2])?.as_str(), "taken");
+    assert_eq!(rt; put(alloc, &mut op, &[3])?.as_str(), "taken");
+    assert_eq!(rt; given(alloc, &mut op)?.as_str(), "none");
+    Ok(())
+}
+
+/// The types of a text and a day.
+fn text_and_day(alloc: Global) -> Result<Vec<SqlType>, Memory>
+    ensures { IfOk result (λ types. types.items ≡ kind.Varchar ∷ kind.Date ∷ []) }
+{
+    let mut types = Vec::new(alloc);
+    types.push(SqlType::Varchar)?;
+    types.push(SqlType::Date)?;
+    Ok(types)
+}
+
+fn text_row(alloc: Global, text: &str, day: i32) -> Result<Row, Memory>
+    ensures { IfOk result (λ r. IsTrue (fits_row (kind.Varchar ∷ kind.Date ∷ []) r)) }
+{
+    let mut values = Vec::new(alloc);
+    values.push(Value::Varchar(Text::copy_of(alloc, text)?))?;
+    values.push(Value::Date(day))?;
+    Ok(Row::of(values))
+}
+
+fn null_row(alloc: Global) -> Result<Row, Memory>
+    ensures { IfOk result (λ r. IsTrue (fits_row (kind.Varchar ∷ kind.Date ∷ []) r)) }
+{
+    let mut values = Vec::new(alloc);
+    values.push(Value::Null)?;
+    values.push(Value::Null)?;
+    Ok(Row::of(values))
+}
+
+#[tactic(auto, using(crate::proofs::PageLemmas::row_more))]
+fn three_rows(alloc: Global) -> Result<RowList, Memory>
+    ensures { IfOk result (λ rows. AllFit (kind.Varchar ∷ kind.Date ∷ []) rows) }
+{
+    let mut rows = RowList::new(alloc);
+    rows.push(text_row(alloc, "apple", 0)?)?;
+    rows.push(null_row(alloc)?)?;
+    rows.push(text_row(alloc, "", -1)?)?;
+    Ok(rows)
+}
+
+/// What a call of `get_output` answers, the rows as texts and days.
+fn texts_given(alloc: Global, op: &mut ValuesOp) -> Result<String, Memory> {
+    let mut text = String::new(alloc);
+    if let Ok(Some(page)) = op.get_output() {
+        for place in 0..page.len() {
+            match (page.cell(place, 0), page.cell(place, 1)) {
+                (ValueRef::Varchar(word), ValueRef::Date(day)) => write!(text, "{word}:{day} ")?,
+                (ValueRef::Null, ValueRef::Null) => text.push_str("null ")?,
+                _ => text.push_str("other ")?,
+            }
+        }
+    }
+    Ok(text)
+}
+
+#[test]
+fn values_are_given_page_by_page(rt: HostRuntime) -> Result<(), Memory> {
+    let alloc = rt.alloc();
+    let rows = three_rows(alloc)?;
+    let mut op = ValuesOp::new(alloc, rows, text_and_day(alloc)?, 2);
+    assert!(rt; !op.needs_input());
+    assert_eq!(rt; texts_given(alloc, &mut op)?.as_str(), "apple:0 null ");
+    op.finish();
+    assert!(rt; !op.is_finished());
+    assert_eq!(rt; texts_given(alloc, &mut op)?.as_str(), ":-1 ");
+    assert!(rt; op.is_finished());
+    assert_eq!(rt; texts_given(alloc, &mut op)?.as_str(), "");
     Ok(())
 }

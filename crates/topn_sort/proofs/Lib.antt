@@ -1,0 +1,4 @@
+pub mod JoinLemmas
+pub mod PlaceLemmas
+pub mod TopLemmas
+pub mod BufferLemmas

@@ -1,0 +1,22 @@
+//! Operators that give their rows in the order of keys, once no row comes any more.
+//!
+//! - `sort`: `SortOp` gives all rows
+//! - `topn`: `TopNOp` gives as many of the first rows as its count says, and keeps no more of them
+//!   beside the page that it takes in
+//! - `buffer`: `SortBuffer`, the rows of either, in typed columns. No row is moved while they are put in
+//!   order: their places are, and pages are gathered by these
+//! - `places`: places of rows by the order of keys
+//! - `joins`: columns behind columns
+//!
+//! `specs/Sorting.antt` says what the operators may give. NULL is last, ascending and descending, and rows
+//! that the keys do not tell apart stand in any order.
+#![tactic(auto)]
+
+mod buffer;
+mod joins;
+mod places;
+mod sort;
+mod topn;
+
+pub use sort::SortOp;
+pub use topn::TopNOp;

@@ -1,0 +1,217 @@
+ghost use Rattle.std.specs.Prelude.{◌≡◌, ◌<◌, ◌≤◌, ◌↔◌, ℕ, List, [], true, false, length, IfOk};
+ghost use Rattle.sql_values.specs.declared.fail.Fail.{Fail as Kind};
+ghost use Rattle.sql_values.specs.declared.types.SqlType.{SqlType as Typed};
+ghost use Rattle.col_pages.specs.Pages.{TypedPage, most_rows};
+ghost use Rattle.bag_laws.specs.Firsts.{IsTopOf};
+ghost use Rattle.operator_core.specs.Rows.{Row};
+ghost use Rattle.operator_core.specs.Calls.{IsFresh};
+ghost use Rattle.topn_sort.specs.Sorting.{AllFit, AreCandidates, FitsTypes};
+
+use crate::buffer::SortBuffer;
+use blocked::{Bells, BlockedOn};
+use col_pages::Page;
+use operator_core::{OpFault, Operator};
+use sql_values::{ColumnRows, KeySpec, Memory, SqlType};
+use std::alloc::Global;
+use std::marker::Model;
+use std::sync::Wait;
+use std::thread::Threads;
+
+/// Gives the first rows in the order of keys, as many as its count, once it was told that no page comes any more.
+/// It holds no more rows than these beside the page that it takes in.
+#[derive(Debug, Drop)]
+pub struct TopNOp {
+    count: u32,
+    buffer: SortBuffer,
+    is_told: bool,
+}
+
+impl Model for TopNOp {
+    ghost use Rattle.topn_sort.specs.Sorting.{TopState, IsTop};
+
+    ghost Value = { TopState };
+
+    ghost view = { λ s. record { count = s.count; buffer = s.buffer; is_told = s.is_told } };
+
+    ghost invariant = { λ s. IsTop s.count s.buffer s.is_told };
+}
+
+impl TopNOp {
+    /// That of rows of these types, in pages of at most `page` rows.
+    pub fn new(
+        alloc: Global,
+        count: u32,
+        keys: Vec<KeySpec>,
+        types: Vec<SqlType>,
+        page: u32,
+    ) -> Result<TopNOp, Memory>
+        requires some { 0 < length types.items }
+        requires page { (0 < page) × (page ≤ most_rows) }
+        ensures fresh { IfOk result (λ op. IsFresh ⟦<TopNOp as Operator>⟧ op) }
+        ensures gives { IfOk result (λ op. (X B : List Row)
+            → ⟦<TopNOp as Operator>⟧.may_give op X B ↔ IsTopOf keys.items count X B) }
+        ensures fails { IfOk result (λ op. (X : List Row) (node : ℕ) (kind : Kind)
+            → ⟦<TopNOp as Operator>⟧.may_still_fail op X node kind → ⊥) }
+        ensures takes { IfOk result (λ op. (page : TypedPage)
+            → ⟦<TopNOp as Operator>⟧.takes op page ↔ FitsTypes types.items page) }
+        ensures pages { IfOk result (λ op. (before : List Typed) (page : TypedPage)
+            → ⟦<TopNOp as Operator>⟧.may_give_page op before page ↔ FitsTypes types.items page) }
+        ensures open { IfOk result (λ op. ⟦<TopNOp as Operator>⟧.is_full op ≡ false) }
+        ensures size { IfOk result (λ op. ⟦<TopNOp as Operator>⟧.page_size op ≡ page) }
+        ensures late { IfOk result (λ op. ⟦<TopNOp as Operator>⟧.gives_late op ≡ true) }
+        ensures waits { IfOk result (λ op. ⟦<TopNOp as Operator>⟧.waits op ≡ false) }
+        ensures knows { IfOk result (λ op. ⟦<TopNOp as Operator>⟧.knows op ≡ true) }
+        ensures learns { IfOk result
+            (λ op. (m : _) → ⟦<TopNOp as Operator>⟧.may_learn op m → ⊥) }
+    {
+        Ok(TopNOp {
+            count,
+            buffer: SortBuffer::new(alloc, keys, &types, page)?,
+            is_told: false,
+        })
+    }
+
+    /// The rows of a page, or where there are as many rows as are wanted those that stand before the last one.
+    fn candidates(&self, page: Page) -> Result<ColumnRows, Memory>
+        requires some { 0 < self.now.count }
+        requires begun { self.now.buffer.begun ≡ false }
+        requires fit { FitsTypes self.now.buffer.types page }
+        ensures types { IfOk result (λ r. (r.types ≡ self.now.buffer.types) × (r.begun ≡ [])) }
+        ensures fit { IfOk result (λ r. AllFit r.types r.rows) }
+        ensures rows { IfOk result (λ r.
+            AreCandidates self.now.buffer.keys self.now.count self.now.buffer.rows page.rows r.rows) }
+    {
+        let rows = self.buffer.columns_of(page)?;
+        if self.buffer.len() < self.count as usize {
+            return Ok(rows);
+        }
+        let earlier = self.buffer.before_last(rows)?;
+        Ok(earlier)
+    }
+}
+
+impl Operator for TopNOp {
+    ghost use Rattle.std.specs.Prelude.{◌≡◌, [], true, false, not, ◌&&◌, refl};
+    ghost use Rattle.operator_core.specs.Samples.{has_row};
+    ghost use Rattle.operator_core.specs.NoteLaws.{held-finished, none-without, told-needs_none, told-needs};
+    ghost use Rattle.topn_sort.specs.Sorting.{FitsTypes, TopGives, top_rows};
+    ghost use Rattle.topn_sort.specs.SortingLaws.{top-some, top-rest};
+
+    ghost may_give = { λ s X B. TopGives s.buffer.begun s.buffer.keys s.count s.buffer.rows X B };
+
+    ghost may_still_fail = { λ _ _ _ _. ⊥ };
+
+    ghost takes = { λ s page. FitsTypes s.buffer.types page };
+
+    ghost may_give_page = { λ s _ page. FitsTypes s.buffer.types page };
+
+    ghost page_size = { λ s. s.buffer.page };
+
+    ghost is_full = { λ _. false };
+
+    ghost gives_late = { λ _. true };
+
+    ghost needs_input = { λ s. not s.is_told };
+
+    ghost holds_row = { λ s.
+        s.is_told && has_row (top_rows s.buffer.begun s.count s.buffer.rows) };
+
+    ghost is_told = { λ s. s.is_told };
+
+    ghost is_finished = { λ s.
+        s.is_told && not (has_row (top_rows s.buffer.begun s.count s.buffer.rows)) };
+
+    ghost waits = { λ _. false };
+
+    ghost bell = { λ _. 0 };
+
+    ghost knows = { λ _. true };
+
+    ghost empty_looks = { λ _. 0 };
+
+    ghost went = { λ _ _ _. Unit {0} };
+
+    ghost as_made = { λ s.
+        record s { buffer = record s.buffer { rows = []; begun = false }; is_told = false } };
+
+    ghost may_learn = { λ _ _. ⊥ };
+
+    fn needs_input(&self) -> bool {
+        !self.is_told
+    }
+
+    fn add_input(&mut self, page: Page) -> Result<(), OpFault> {
+        if self.count == 0 {
+            return Ok(());
+        }
+        let rows = self.candidates(page)?;
+        if rows.len() > 0 {
+            self.buffer.add_first(rows, self.count)?;
+        }
+        Ok(())
+    }
+
+    fn get_output(&mut self) -> Result<Option<Page>, OpFault> {
+        if !self.is_told || !self.buffer.holds_row() {
+            return Ok(None);
+        }
+        self.buffer.begin()?;
+        Ok(Some(self.buffer.next_page()?))
+    }
+
+    fn finish(&mut self) {
+        self.is_told = true;
+    }
+
+    fn is_finished(&self) -> bool {
+        self.is_told && !self.buffer.holds_row()
+    }
+
+    fn blocked<R: Threads + Wait + Sync, B: Bells>(
+        &mut self,
+        _rt: &R,
+        _bells: &mut B,
+    ) -> Result<Option<BlockedOn>, Memory> {
+        Ok(None)
+    }
+
+    ghost some_rows = { λ s X coming.
+        top-some s.buffer.begun s.buffer.keys s.count s.buffer.rows X };
+
+    ghost holds_rest = { λ s B told g.
+        top-rest s.buffer.begun s.is_told s.buffer.keys s.count s.buffer.rows B (told refl) g };
+
+    ghost late_holds_none = { λ s late told.
+        none-without s.is_told (has_row (top_rows s.buffer.begun s.count s.buffer.rows)) told };
+
+    ghost finished = { λ s.
+        held-finished s.is_told (top_rows s.buffer.begun s.count s.buffer.rows) };
+
+    ghost needs_untold = { λ s. told-needs_none s.is_told };
+
+    ghost full_needs_none = { λ s full. Prim.cc };
+
+    ghost full_gives = { λ s X B full. Prim.cc };
+
+    ghost full_fails = { λ s X node kind full. Prim.cc };
+
+    ghost waiting_needs_none = { λ s waits unknown. Prim.cc };
+
+    ghost waiting_went = { λ s T G waits went. Prim.cc };
+
+    ghost needs = { λ s told _ _ _. told-needs s.is_told told };
+
+    ghost made_untold = { λ s. refl };
+
+    ghost made_knows = { λ s. refl };
+
+    ghost made_went = { λ s. tt };
+
+    ghost made_again = { λ s. refl };
+
+    ghost learns_as_made = { λ s m. ((λ e. e), (λ e. e)) };
+
+    ghost learns_made = { λ s m e. absurd e };
+
+    ghost any_note = { λ s m T G Z knows went learns coming. absurd learns };
+}

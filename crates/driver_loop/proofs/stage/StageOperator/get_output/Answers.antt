@@ -1,0 +1,31 @@
+use Rattle.driver_loop.proofs.stage.StageOperator.get_output.Goals as goal
+
+pub returns-in-Filter-clause-fails : goal.returns-in-Filter-clause-fails
+returns-in-Filter-clause-fails c = rw c.in-Filter.is c.get_output.ensures.fails
+
+pub returns-in-Filter-clause-none : goal.returns-in-Filter-clause-none
+returns-in-Filter-clause-none c = rw c.in-Filter.is c.get_output.ensures.none
+
+pub returns-in-Filter-clause-went : goal.returns-in-Filter-clause-went
+returns-in-Filter-clause-went c = rw c.in-Filter.is c.get_output.ensures.went
+
+pub returns-in-Filter-clause-page : goal.returns-in-Filter-clause-page
+returns-in-Filter-clause-page c = rw c.in-Filter.is c.get_output.ensures.page
+
+pub returns-in-Filter-clause-pages : goal.returns-in-Filter-clause-pages
+returns-in-Filter-clause-pages c = rw c.in-Filter.is c.get_output.ensures.pages
+
+pub returns-in-Limit-clause-fails : goal.returns-in-Limit-clause-fails
+returns-in-Limit-clause-fails c = rw c.in-Limit.is c.get_output-in-Limit.ensures.fails
+
+pub returns-in-Limit-clause-none : goal.returns-in-Limit-clause-none
+returns-in-Limit-clause-none c = rw c.in-Limit.is c.get_output-in-Limit.ensures.none
+
+pub returns-in-Limit-clause-went : goal.returns-in-Limit-clause-went
+returns-in-Limit-clause-went c = rw c.in-Limit.is c.get_output-in-Limit.ensures.went
+
+pub returns-in-Limit-clause-page : goal.returns-in-Limit-clause-page
+returns-in-Limit-clause-page c = rw c.in-Limit.is c.get_output-in-Limit.ensures.page
+
+pub returns-in-Limit-clause-pages : goal.returns-in-Limit-clause-pages
+returns-in-Limit-clause-pages c = rw c.in-Limit.is c.get_output-in-Limit.ensures.pages

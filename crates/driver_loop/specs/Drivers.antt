@@ -1,0 +1,67 @@
+-- A driver as it is seen, and what it keeps over its turns.
+use Rattle.std.specs.Prelude.{◌≡◌, ℕ, List, Bool, true, Option, Some, None, map, min}
+use Rattle.sql_values.specs.declared.fail.Fail.{Fail}
+use Rattle.blocked.specs.Counts.{most_count}
+use Rattle.operator_core.specs.Rows.{Row, Coming}
+use Rattle.operator_core.specs.Stages.{Linked, ToldInTurn, Chain, AreMadeOf, GoesOn, last_finished}
+use Rattle.stage_moves.specs.Counts.{LinkedBy}
+use Rattle.stage_moves.specs.Moves.{SomeFails}
+use Rattle.driver_turns.specs.Turns.{StageFailed, WentOn}
+use Rattle.driver_loop.specs.declared.run_fault.RunFault.{RunFault}
+use Rattle.driver_loop.specs.declared.run_fault.RunFault.TheVariants.{ExprFailed, Memory}
+use Rattle.driver_loop.specs.declared.source.Source.{Source}
+use Rattle.driver_loop.specs.declared.stage.Stage.{Stage}
+use Rattle.driver_loop.specs.declared.target.Target.{Target}
+use Rattle.driver_loop.specs.contracts.stage.StageOperator.TheImpl.{ghosts}
+use Rattle.driver_loop.specs.Ends.{rows_taken, has_ended, rows_given}
+
+-- its number, its parts, how many rows entered its stages and its target, and how its last turn ended it
+pub record DriverState : Type 0 where
+  pub number : ℕ
+  pub source : Source
+  pub stages : List Stage
+  pub target : Target
+  pub work : ℕ
+  pub is_finished : Bool
+  pub fault : Option RunFault
+
+-- it did not fail for want of memory
+abbrev pub IsWhole : Option RunFault → Type 0
+IsWhole None = Unit {0}
+IsWhole (Some (ExprFailed node kind)) = Unit {0}
+IsWhole (Some Memory) = ⊥
+
+-- the work is the number of these rows, up to the most that the count holds
+pub record HasCounted (d : DriverState) : Type 0 where
+  pub rows : ℕ
+  pub entered : LinkedBy ghosts d.stages (rows_taken d.source) (rows_given d.target) rows
+  pub work : d.work ≡ min rows most_count
+
+-- what its stages took and gave goes on from what it took of its source to what it gave to its target, and each was
+-- told to finish only where its giver was finished; and it is finished, or failed, as it says
+pub record IsDriver (d : DriverState) : Type 0 where
+  pub links : IsWhole d.fault → Linked ghosts d.stages (rows_taken d.source) (rows_given d.target)
+  pub turns : IsWhole d.fault → ToldInTurn ghosts (has_ended d.source) d.stages
+  pub counts : d.fault ≡ None → HasCounted d
+  pub over : d.is_finished ≡ true → (d.fault ≡ None) × (last_finished ghosts (has_ended d.source) d.stages ≡ true)
+  pub failed : (node : ℕ) (kind : Fail) → d.fault ≡ Some (ExprFailed node kind) → SomeFails ghosts d.stages node kind
+
+-- Its source had ended, and what it gave is what its stages, as they were made, may give for what it took. Nothing of it
+-- fails.
+pub record IsOver (d : DriverState) : Type 0 where
+  pub ended : has_ended d.source ≡ true
+  pub chain : Chain ghosts true (map ghosts.as_made d.stages) (rows_taken d.source) (rows_given d.target)
+
+-- one of its stages, as it was made, fails so on what the stages before it gave, whatever rows still come
+abbrev pub HasFailed : DriverState → ℕ → Fail → Type 0
+HasFailed d node kind = StageFailed ghosts d.stages (has_ended d.source) (rows_taken d.source) node kind
+
+-- whatever rows still come, and whatever the notes of its stages come to know, it can go on from what it gave
+abbrev pub CanGoOn : DriverState → Type 0
+CanGoOn d =
+    (made : List Stage) (Z : List Row) → AreMadeOf ghosts d.stages made → Coming (has_ended d.source) Z
+    → GoesOn ghosts made (rows_taken d.source) (rows_given d.target) Z (last_finished ghosts (has_ended d.source) d.stages)
+
+-- what its stages took and gave goes on from the one state to the other, and they came from what they came from
+abbrev pub Went : DriverState → DriverState → Type 0
+Went d e = WentOn ghosts d.stages e.stages (rows_taken d.source) (rows_taken e.source) (rows_given d.target) (rows_given e.target) (has_ended d.source) (has_ended e.source)

@@ -1,0 +1,38 @@
+-- What the sources of drivers gave, and their targets were given.
+use Rattle.std.specs.Prelude.{◌≡◌, List, [], Bool, false, Option, Some, None}
+use Rattle.operator_core.specs.Rows.{Row}
+use Rattle.split_source.specs.Scans.{given}
+use Rattle.split_source.specs.Seats.{SeatState, new_seat}
+use Rattle.driver_loop.specs.declared.source.Source.{Source}
+use Rattle.driver_loop.specs.declared.source.Source.TheVariants.{Scan, Rows}
+use Rattle.driver_loop.specs.declared.target.Target.{Target}
+use Rattle.driver_loop.specs.declared.target.Target.TheVariants.{Result}
+
+-- the rows that a source gave
+abbrev pub rows_taken : Source → List Row
+rows_taken (Scan scan) = given scan
+rows_taken (Rows rows) = rows.given
+
+-- it was told that no page comes any more
+abbrev pub has_ended : Source → Bool
+has_ended (Scan scan) = scan.seat.is_ended
+has_ended (Rows rows) = rows.is_ended
+
+-- it as it was made
+abbrev pub source_made : Source → Source
+source_made (Scan scan) = Scan (record scan { seat = new_seat scan.seat.claims; left = 0 })
+source_made (Rows rows) = Rows (record rows { given = []; is_ended = false })
+
+-- no row is left
+abbrev pub IsDrained : Source → Type 0
+IsDrained (Scan scan) = scan.left ≡ 0
+IsDrained (Rows rows) = rows.given ≡ rows.rows
+
+-- the seat by which it claims splits
+abbrev pub claim_of : Source → Option SeatState
+claim_of (Scan scan) = Some scan.seat
+claim_of (Rows rows) = None
+
+-- the rows that a target was given
+abbrev pub rows_given : Target → List Row
+rows_given (Result rows types) = rows

@@ -1,0 +1,223 @@
+//! A driver: one source, stages in order, one target.
+ghost use Rattle.std.specs.Prelude.{◌≡◌, ◌+◌, ◌<◌, ◌≤◌, ℕ, [], true, false, Ok, Some, None, map, min};
+ghost use Rattle.sql_values.specs.declared.fail.Fail.{Fail as Kind};
+ghost use Rattle.blocked.specs.Counts.{most_count};
+ghost use Rattle.col_pages.specs.Pages.{most_rows};
+ghost use Rattle.futures.specs.Task.{Covers, Keeps};
+ghost use Rattle.driver_turns.specs.Turns.{StageBlocked};
+ghost use Rattle.driver_loop.specs.Ends.{rows_taken, rows_given, has_ended, source_made, IsDrained};
+ghost use Rattle.driver_loop.specs.Drivers.{IsDriver, IsOver, HasFailed, CanGoOn, IsWhole, Went};
+ghost use Rattle.driver_loop.specs.Turns.{IsLeftBy, IfBlocked, ArePiecesOf};
+
+use crate::pieces::Pieces;
+use crate::run_fault::RunFault;
+use crate::source::Source;
+use crate::stage::Stage;
+use crate::target::Target;
+use crate::turn::{Turn, hear};
+use blocked::{Bells, BlockedOn};
+use driver_turns::{Turned, turn};
+use futures::Future;
+use futures::task::Context;
+use operator_core::{Operator, laws};
+use sql_values::Memory;
+use std::alloc::Global;
+use std::marker::{Model, PhantomData};
+use std::sync::Wait;
+use std::thread::Threads;
+
+/// Moves pages from its source through its stages to its target, a turn at a time.
+#[derive(Drop)]
+pub struct Driver<'w> {
+    number: u32,
+    source: Source<'w>,
+    stages: Vec<Stage>,
+    target: Target,
+    work: u64,
+    is_finished: bool,
+    fault: Option<RunFault>,
+}
+
+impl<'w> Model for Driver<'w> {
+    ghost use Rattle.driver_loop.specs.Drivers.{DriverState};
+
+    ghost Value = { DriverState };
+
+    ghost use Rattle.sql_exprs.specs.contracts.expr.Expr as e;
+    ghost use Rattle.std.specs.Coded.{codes};
+
+    ghost coded = { Prim.hlevel (codes, e.the_row.coded) };
+
+    ghost use Rattle.driver_loop.specs.InDriver.{driver_view};
+    ghost use Rattle.driver_loop.specs.Drivers.{IsDriver};
+
+    ghost view = { driver_view };
+
+    ghost invariant = { λ d. IsDriver (driver_view d) };
+}
+
+impl<'w> Driver<'w> {
+    /// A driver of parts as they were made. The lists of its `Pieces` want no memory yet.
+    pub fn new(
+        _alloc: Global,
+        number: u32,
+        source: Source<'w>,
+        stages: Vec<Stage>,
+        target: Target,
+    ) -> Result<Driver<'w>, Memory>
+        requires source { rows_taken source ≡ [] }
+        requires stages { map ⟦<Stage as Operator>⟧.as_made stages.items ≡ stages.items }
+        requires target { rows_given target ≡ [] }
+        ensures { result ≡ Ok (record {
+          number = number;
+          source = source.entry;
+          stages = stages.items;
+          target = target;
+          work = 0;
+          is_finished = false;
+          fault = None;
+        }) }
+    {
+        laws::laws::<Stage>(PhantomData);
+        Ok(Driver {
+            number,
+            source,
+            stages,
+            target,
+            work: 0,
+            is_finished: false,
+            fault: None,
+        })
+    }
+
+    pub fn number(&self) -> u32
+        ensures { result ≡ self.now.number }
+    {
+        self.number
+    }
+
+    /// How many rows entered its stages and its target, up to the most that the count holds.
+    pub fn work(&self) -> u64
+        ensures { result ≡ self.now.work }
+    {
+        self.work
+    }
+
+    /// Whether a turn answered Finished.
+    pub fn is_finished(&self) -> bool
+        ensures { result ≡ self.now.is_finished }
+    {
+        self.is_finished
+    }
+
+    /// What the turn answered that failed.
+    pub fn fault(&self) -> Option<RunFault>
+        ensures { result ≡ self.now.fault }
+    {
+        self.fault
+    }
+
+    /// What it keeps over its turns, and what follows from it.
+    pub fn keeps(&self)
+        ensures kept { IsDriver self.now }
+        ensures drained { has_ended self.now.source ≡ true → IsDrained self.now.source }
+        ensures over { self.now.is_finished ≡ true → IsOver self.now }
+        ensures failed { (node : ℕ) (kind : Kind)
+            → self.now.fault ≡ Some (RunFault.ExprFailed node kind) → HasFailed self.now node kind }
+        ensures goes_on { IsWhole self.now.fault → CanGoOn self.now }
+    {
+        laws::laws::<Stage>(PhantomData);
+        self.source.drains();
+    }
+
+    /// Moves rows until its last stage is finished, `quantum` of them entered a stage or the target, or nothing
+    /// moves and a stage waits. The future of one who waits has then registered with the context.
+    pub fn turn<R: Threads + Wait + Sync, B: Bells>(
+        &mut self,
+        rt: &R,
+        quantum: u32,
+        cx: &mut Context<'_>,
+        bells: &mut B,
+    ) -> Turn
+        requires running { (self.old.is_finished ≡ false) × (self.old.fault ≡ None) }
+        ensures number { self.new.number ≡ self.old.number }
+        ensures source { source_made self.new.source ≡ source_made self.old.source }
+        ensures state { IsLeftBy result self.new }
+        ensures went { IsWhole self.new.fault → Went self.old self.new }
+        ensures work { (self.old.work ≤ self.new.work)
+            × (self.new.work < self.old.work + (quantum + most_rows)) }
+        ensures yields { result ≡ Turn.Yield
+            → min (self.old.work + quantum) most_count ≤ self.new.work }
+        ensures blocked { IfBlocked result (λ on. StageBlocked ⟦<Stage as Operator>⟧
+            self.old.stages self.new.stages (B.shown bells.new) on) }
+        ensures heard { IfBlocked result (λ on. Covers cx.new (⟦<BlockedOn as Future>⟧.needs on)) }
+        ensures over { result ≡ Turn.Finished → IsOver self.new }
+        ensures failed { (node : ℕ) (kind : Kind)
+            → result ≡ Turn.Failed (RunFault.ExprFailed node kind) → HasFailed self.new node kind }
+        ensures context { Keeps cx.old cx.new }
+        ensures bells { (bell count : ℕ) → B.shown bells.old bell count
+            → B.shown bells.new bell count }
+    {
+        laws::laws::<Stage>(PhantomData);
+        let (units, turned) = match turn(
+            rt,
+            &mut self.source,
+            &mut self.stages,
+            &mut self.target,
+            quantum,
+            bells,
+        ) {
+            Ok(turned) => turned,
+            Err(fault) => {
+                let fault = RunFault::of(fault);
+                self.fault = Some(fault);
+                return Turn::Failed(fault);
+            }
+        };
+        self.work = self.work.saturating_add(units);
+        match turned {
+            Turned::Yield => Turn::Yield,
+            Turned::Blocked(on) => Turn::Blocked(hear(on, cx)),
+            Turned::Finished => {
+                self.is_finished = true;
+                Turn::Finished
+            }
+        }
+    }
+
+    /// Hands its parts back, where it is finished.
+    pub fn into_pieces(self) -> Pieces<'w>
+        requires { self.is_finished ≡ true }
+        ensures pieces { ArePiecesOf self.entry result }
+        ensures over { IsOver self.entry }
+        ensures drained { IsDrained self.entry.source }
+    {
+        self.keeps();
+        self.take_apart()
+    }
+
+    /// Hands its parts back as they stand.
+    pub fn stop(self) -> Pieces<'w>
+        ensures pieces { ArePiecesOf self.entry result }
+        ensures kept { IsDriver self.entry }
+    {
+        self.keeps();
+        self.take_apart()
+    }
+
+    fn take_apart(self) -> Pieces<'w>
+        ensures { ArePiecesOf self.entry result }
+    {
+        let Driver {
+            number,
+            source,
+            target,
+            ..
+        } = self;
+        Pieces {
+            number,
+            claim: source.into_claim(),
+            rows: target.into_rows(),
+        }
+    }
+}

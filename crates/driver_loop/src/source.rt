@@ -1,0 +1,68 @@
+//! Where the pages of a driver come from, one variant each.
+ghost use Rattle.std.specs.Prelude.{◌≡◌, true};
+ghost use Rattle.driver_loop.specs.Ends.{has_ended, claim_of, IsDrained};
+
+use crate::rows_source::RowsSource;
+use col_pages::Page;
+use split_source::{ClaimSeat, ScanSource};
+use sql_values::Memory;
+use stage_moves::PageSource;
+
+/// Where the pages of a driver come from.
+#[derive(Drop)]
+pub enum Source<'w> {
+    /// Splits of a table.
+    Scan(ScanSource<'w>),
+    /// Rows of the plan.
+    Rows(RowsSource),
+}
+
+impl<'w> PageSource for Source<'w> {
+    ghost use Rattle.driver_loop.specs.Ends.{rows_taken, has_ended, source_made};
+
+    ghost taken = { rows_taken };
+
+    ghost is_ended = { has_ended };
+
+    ghost as_made = { source_made };
+
+    fn is_ended(&self) -> bool {
+        match self {
+            Source::Scan(scan) => scan.is_ended(),
+            Source::Rows(rows) => rows.is_ended(),
+        }
+    }
+
+    fn take(&mut self) -> Result<Option<Page>, Memory> {
+        match self {
+            Source::Scan(scan) => scan.next(),
+            Source::Rows(rows) => rows.next(),
+        }
+    }
+}
+
+impl<'w> Source<'w> {
+    /// The law that no row is left where it has ended.
+    pub fn drains(&self)
+        ensures { has_ended self.now ≡ true → IsDrained self.now }
+    {
+        match self {
+            Source::Scan(scan) => {
+                scan.is_ended();
+            }
+            Source::Rows(rows) => {
+                rows.is_ended();
+            }
+        }
+    }
+
+    /// The seat by which it claims splits, as it stands.
+    pub fn into_claim(self) -> Option<ClaimSeat<'w>>
+        ensures { result ≡ claim_of self.entry }
+    {
+        match self {
+            Source::Scan(scan) => Some(scan.into_seat()),
+            Source::Rows(_) => None,
+        }
+    }
+}

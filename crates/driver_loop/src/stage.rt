@@ -1,0 +1,282 @@
+//! The steps of a pipeline, one variant each.
+
+use crate::types::are_same;
+use blocked::{Bells, BlockedOn};
+use col_pages::Page;
+use operator_core::{OpFault, Operator};
+use row_ops::{FilterProject, LimitOp};
+use sql_values::{Memory, Types};
+use stage_moves::TypedOperator;
+use std::sync::Wait;
+use std::thread::Threads;
+
+/// A step of a pipeline. It behaves as its operator does. Where the operator does not keep the types of the
+/// rows that it is given, they stand beside it.
+#[derive(Debug, Drop)]
+pub enum Stage {
+    Filter(FilterProject),
+    Limit(LimitOp, Types),
+}
+
+impl Operator for Stage {
+    ghost use Rattle.std.specs.Prelude.{◌≡◌};
+    ghost use Rattle.std.proofs.Common.{ap};
+    ghost use Rattle.row_ops.specs.RowsHeld.{FilterState};
+    ghost use Rattle.row_ops.specs.declared.limit.LimitOp.{LimitOp as LimitState};
+    ghost use Rattle.driver_loop.specs.declared.stage.Stage.TheVariants.{Filter, Limit};
+
+    ghost may_give = { elim [
+      | Filter op ↦ ⟦<FilterProject as Operator>⟧.may_give op
+      | Limit op types ↦ ⟦<LimitOp as Operator>⟧.may_give op
+    ] };
+
+    ghost may_still_fail = { elim [
+      | Filter op ↦ ⟦<FilterProject as Operator>⟧.may_still_fail op
+      | Limit op types ↦ ⟦<LimitOp as Operator>⟧.may_still_fail op
+    ] };
+
+    ghost takes = { elim [
+      | Filter op ↦ ⟦<FilterProject as Operator>⟧.takes op
+      | Limit op types ↦ ⟦<LimitOp as Operator>⟧.takes op
+    ] };
+
+    ghost may_give_page = { elim [
+      | Filter op ↦ ⟦<FilterProject as Operator>⟧.may_give_page op
+      | Limit op types ↦ ⟦<LimitOp as Operator>⟧.may_give_page op
+    ] };
+
+    ghost page_size = { elim [
+      | Filter op ↦ ⟦<FilterProject as Operator>⟧.page_size op
+      | Limit op types ↦ ⟦<LimitOp as Operator>⟧.page_size op
+    ] };
+
+    ghost is_full = { elim [
+      | Filter op ↦ ⟦<FilterProject as Operator>⟧.is_full op
+      | Limit op types ↦ ⟦<LimitOp as Operator>⟧.is_full op
+    ] };
+
+    ghost gives_late = { elim [
+      | Filter op ↦ ⟦<FilterProject as Operator>⟧.gives_late op
+      | Limit op types ↦ ⟦<LimitOp as Operator>⟧.gives_late op
+    ] };
+
+    ghost needs_input = { elim [
+      | Filter op ↦ ⟦<FilterProject as Operator>⟧.needs_input op
+      | Limit op types ↦ ⟦<LimitOp as Operator>⟧.needs_input op
+    ] };
+
+    ghost holds_row = { elim [
+      | Filter op ↦ ⟦<FilterProject as Operator>⟧.holds_row op
+      | Limit op types ↦ ⟦<LimitOp as Operator>⟧.holds_row op
+    ] };
+
+    ghost is_told = { elim [
+      | Filter op ↦ ⟦<FilterProject as Operator>⟧.is_told op
+      | Limit op types ↦ ⟦<LimitOp as Operator>⟧.is_told op
+    ] };
+
+    ghost is_finished = { elim [
+      | Filter op ↦ ⟦<FilterProject as Operator>⟧.is_finished op
+      | Limit op types ↦ ⟦<LimitOp as Operator>⟧.is_finished op
+    ] };
+
+    ghost waits = { elim [
+      | Filter op ↦ ⟦<FilterProject as Operator>⟧.waits op
+      | Limit op types ↦ ⟦<LimitOp as Operator>⟧.waits op
+    ] };
+
+    ghost bell = { elim [
+      | Filter op ↦ ⟦<FilterProject as Operator>⟧.bell op
+      | Limit op types ↦ ⟦<LimitOp as Operator>⟧.bell op
+    ] };
+
+    ghost knows = { elim [
+      | Filter op ↦ ⟦<FilterProject as Operator>⟧.knows op
+      | Limit op types ↦ ⟦<LimitOp as Operator>⟧.knows op
+    ] };
+
+    ghost empty_looks = { elim [
+      | Filter op ↦ ⟦<FilterProject as Operator>⟧.empty_looks op
+      | Limit op types ↦ ⟦<LimitOp as Operator>⟧.empty_looks op
+    ] };
+
+    ghost went = { elim [
+      | Filter op ↦ ⟦<FilterProject as Operator>⟧.went op
+      | Limit op types ↦ ⟦<LimitOp as Operator>⟧.went op
+    ] };
+
+    ghost as_made = { elim [
+      | Filter op ↦ Filter (⟦<FilterProject as Operator>⟧.as_made op)
+      | Limit op types ↦ Limit (⟦<LimitOp as Operator>⟧.as_made op) types
+    ] };
+
+    ghost may_learn = { λ s m. elim s [
+      | Filter op ↦ (to : FilterState) × (m ≡ Filter to)
+          × ⟦<FilterProject as Operator>⟧.may_learn op to
+      | Limit op types ↦ (to : LimitState) × (m ≡ Limit to types)
+          × ⟦<LimitOp as Operator>⟧.may_learn op to
+    ] };
+
+    fn needs_input(&self) -> bool {
+        match self {
+            Stage::Filter(op) => op.needs_input(),
+            Stage::Limit(op, _) => op.needs_input(),
+        }
+    }
+
+    fn add_input(&mut self, page: Page) -> Result<(), OpFault> {
+        match self {
+            Stage::Filter(op) => op.add_input(page),
+            Stage::Limit(op, _) => op.add_input(page),
+        }
+    }
+
+    fn get_output(&mut self) -> Result<Option<Page>, OpFault> {
+        match self {
+            Stage::Filter(op) => op.get_output(),
+            Stage::Limit(op, _) => op.get_output(),
+        }
+    }
+
+    fn finish(&mut self) {
+        match self {
+            Stage::Filter(op) => op.finish(),
+            Stage::Limit(op, _) => op.finish(),
+        }
+    }
+
+    fn is_finished(&self) -> bool {
+        match self {
+            Stage::Filter(op) => op.is_finished(),
+            Stage::Limit(op, _) => op.is_finished(),
+        }
+    }
+
+    fn blocked<R: Threads + Wait + Sync, B: Bells>(
+        &mut self,
+        rt: &R,
+        bells: &mut B,
+    ) -> Result<Option<BlockedOn>, Memory> {
+        match self {
+            Stage::Filter(op) => op.blocked(rt, bells),
+            Stage::Limit(op, _) => op.blocked(rt, bells),
+        }
+    }
+
+    ghost use Rattle.row_ops.specs.contracts.filter_project.FilterProjectOperator.TheImpl.Laws as filter_laws;
+    ghost use Rattle.row_ops.specs.contracts.limit.LimitOpOperator.TheImpl.Laws as limit_laws;
+
+    ghost some_rows = { elim [
+      | Filter op ↦ filter_laws.some_rows-law op
+      | Limit op types ↦ limit_laws.some_rows-law op
+    ] };
+
+    ghost holds_rest = { elim [
+      | Filter op ↦ filter_laws.holds_rest-law op
+      | Limit op types ↦ limit_laws.holds_rest-law op
+    ] };
+
+    ghost late_holds_none = { elim [
+      | Filter op ↦ filter_laws.late_holds_none-law op
+      | Limit op types ↦ limit_laws.late_holds_none-law op
+    ] };
+
+    ghost finished = { elim [
+      | Filter op ↦ filter_laws.finished-law op
+      | Limit op types ↦ limit_laws.finished-law op
+    ] };
+
+    ghost needs_untold = { elim [
+      | Filter op ↦ filter_laws.needs_untold-law op
+      | Limit op types ↦ limit_laws.needs_untold-law op
+    ] };
+
+    ghost full_needs_none = { elim [
+      | Filter op ↦ filter_laws.full_needs_none-law op
+      | Limit op types ↦ limit_laws.full_needs_none-law op
+    ] };
+
+    ghost full_gives = { elim [
+      | Filter op ↦ filter_laws.full_gives-law op
+      | Limit op types ↦ limit_laws.full_gives-law op
+    ] };
+
+    ghost full_fails = { elim [
+      | Filter op ↦ filter_laws.full_fails-law op
+      | Limit op types ↦ limit_laws.full_fails-law op
+    ] };
+
+    ghost waiting_needs_none = { elim [
+      | Filter op ↦ filter_laws.waiting_needs_none-law op
+      | Limit op types ↦ limit_laws.waiting_needs_none-law op
+    ] };
+
+    ghost waiting_went = { elim [
+      | Filter op ↦ filter_laws.waiting_went-law op
+      | Limit op types ↦ limit_laws.waiting_went-law op
+    ] };
+
+    ghost needs = { elim [
+      | Filter op ↦ filter_laws.needs-law op
+      | Limit op types ↦ limit_laws.needs-law op
+    ] };
+
+    ghost made_untold = { elim [
+      | Filter op ↦ filter_laws.made_untold-law op
+      | Limit op types ↦ limit_laws.made_untold-law op
+    ] };
+
+    ghost made_knows = { elim [
+      | Filter op ↦ filter_laws.made_knows-law op
+      | Limit op types ↦ limit_laws.made_knows-law op
+    ] };
+
+    ghost made_went = { elim [
+      | Filter op ↦ filter_laws.made_went-law op
+      | Limit op types ↦ limit_laws.made_went-law op
+    ] };
+
+    ghost made_again = { elim [
+      | Filter op ↦ ap Filter (filter_laws.made_again-law op)
+      | Limit op types ↦ ap (λ x. Limit x types) (limit_laws.made_again-law op)
+    ] };
+
+    ghost learns_as_made = { elim [
+      | Filter op ↦ λ m. (
+        (λ e. (e.0, e.1, (filter_laws.learns_as_made-law op e.0).0 e.2)),
+        (λ e. (e.0, e.1, (filter_laws.learns_as_made-law op e.0).1 e.2)),
+      )
+      | Limit op types ↦ λ m. (
+        (λ e. (e.0, e.1, (limit_laws.learns_as_made-law op e.0).0 e.2)),
+        (λ e. (e.0, e.1, (limit_laws.learns_as_made-law op e.0).1 e.2)),
+      )
+    ] };
+
+    ghost learns_made = { elim [
+      | Filter op ↦ λ m e.
+          let learned = filter_laws.learns_made-law op e.0 e.2 in
+          Prim.rw e.1 (learned.0, learned.1, ap Filter learned.2)
+      | Limit op types ↦ λ m e.
+          let learned = limit_laws.learns_made-law op e.0 e.2 in
+          Prim.rw e.1 (learned.0, learned.1, ap (λ x. Limit x types) learned.2)
+    ] };
+
+    ghost any_note = { elim [
+      | Filter op ↦ λ m T G Z knows went learns coming.
+          let any = filter_laws.any_note-law op learns.0 T G Z knows went learns.2 coming in
+          (any.0, Prim.rw learns.1 any.1, any.2)
+      | Limit op types ↦ λ m T G Z knows went learns coming.
+          let any = limit_laws.any_note-law op learns.0 T G Z knows went learns.2 coming in
+          (any.0, Prim.rw learns.1 any.1, any.2)
+    ] };
+}
+
+impl TypedOperator for Stage {
+    fn expects(&self, page: &Page) -> bool {
+        page.rows_fit();
+        match self {
+            Stage::Filter(op) => are_same(page.types(), op.types()),
+            Stage::Limit(_, types) => are_same(page.types(), types.as_slice()),
+        }
+    }
+}

@@ -1,7 +1,7 @@
 -- The rows of a table fit the types of its columns.
-use Rattle.std.proofs.Common.{◌≡◌, ℕ, ◌+◌, Bool, true, false, List, [], ◌∷◌, length, map, refl, ap, sym, arith, subst, Option, Some, None}
+use Rattle.std.proofs.Common.{◌≡◌, ℕ, ◌+◌, ◌≤◌, Bool, true, false, List, [], ◌∷◌, length, map, refl, ap, sym, arith, subst, Option, Some, None}
 use Rattle.std.specs.Prelude.{All, IsTrue, Result, Ok, Err, ◌==◌, not, if◌then◌else◌, nat_le, option_map, ℤ}
-use Rattle.std.proofs.lemmas.Bool.{eqb-true}
+use Rattle.std.proofs.lemmas.Bool.{eqb-false, eqb-true}
 use Rattle.std.proofs.lemmas.List.Elements.{All-cons, All-nil}
 use Rattle.std.specs.Str.{is_utf8}
 use Rattle.scalar_texts.specs.Booleans.{boolean_of}
@@ -134,3 +134,27 @@ under_fits columns limit (Some column) more rows e = cc
 pub table_fits : (columns : List Column) (limit : ℕ) (records : List (List (List ℕ))) (rows : List (List Value)) → table_of columns limit records ≡ Ok rows → All (Fits columns) rows
 table_fits columns limit [] rows e = cc
 table_fits columns limit (header ∷ more) rows e = under_fits columns limit (differs_at 0 header columns) more rows e
+
+-- a row is not past the last
+row_within : (columns : List Column) (row : ℕ) (fields : List (List ℕ)) (past same : Bool) (p q : Place) (vs : List Value)
+    → (if past then Err p else if same then cells_from row 0 columns fields else Err q) ≡ Ok vs → past ≡ false
+row_within columns row fields true same p q vs e = cc
+row_within columns row fields false same p q vs e = refl
+
+rows_few : (columns : List Column) (limit row : ℕ) (records : List (List (List ℕ))) (rows : List (List Value)) → row ≤ limit + 1
+    → rows_from columns limit row records ≡ Ok rows → row + length rows ≤ limit + 1
+rows_few columns limit row [] rows h e = let none : rows ≡ [] = list_same (Ok rows) rows [] refl (sym e) in omega (arith, h, ap length none)
+rows_few columns limit row (fields ∷ more) rows h e =
+    let p = parts (row_of columns limit row fields) (rows_from columns limit (row + 1) more) rows e in
+    let within : (row == limit + 1) ≡ false = row_within columns row fields (row == limit + 1) (length fields == length columns) _ _ p.first p.here_is in
+    let before : row + 1 ≤ limit + 1 = omega (arith, h, eqb-false row (limit + 1) within) in
+    let later = rows_few columns limit (row + 1) more p.others before p.later_is in
+    omega (arith, later, ap length p.all_is)
+
+under_few : (columns : List Column) (limit : ℕ) (difference : Option ℕ) (more : List (List (List ℕ))) (rows : List (List Value)) → rows_under difference columns limit more ≡ Ok rows → length rows ≤ limit
+under_few columns limit None more rows e = omega (arith, rows_few columns limit 1 more rows (omega arith) e)
+under_few columns limit (Some column) more rows e = cc
+
+pub table_few : (columns : List Column) (limit : ℕ) (records : List (List (List ℕ))) (rows : List (List Value)) → table_of columns limit records ≡ Ok rows → length rows ≤ limit
+table_few columns limit [] rows e = cc
+table_few columns limit (header ∷ more) rows e = under_few columns limit (differs_at 0 header columns) more rows e

@@ -26,6 +26,12 @@ pub fn rows_of_a_table_fit(columns: &[Column], limit: u32, bytes: &[u8], rows: &
     ensures { All (λ row. IsTrue (fits_row (map (λ column. column.kind) columns.now) row)) rows.now }
 {}
 
+/// The law that a table has no more rows than it may have.
+pub fn rows_of_a_table_are_few(columns: &[Column], limit: u32, bytes: &[u8], rows: &RowList)
+    requires { IsTable columns.now limit bytes.now rows.now }
+    ensures { length rows.now ≤ limit }
+{}
+
 #[tactic(auto, using(crate::proofs::ReadBackLemmas::bigint_back))]
 fn bigint_reads_back(n: i64)
     ensures { value_of_field type.Bigint (field_text type.Bigint (value.Bigint n))

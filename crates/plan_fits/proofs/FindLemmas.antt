@@ -4,15 +4,15 @@ use Rattle.std.specs.Prelude.{slice_get, not, ◌&&◌, ◌||◌, option_map}
 use Rattle.std.specs.Option.{is_some, option_or}
 use Rattle.std.specs.List.{find, flat_map}
 
-first_false : {A : Type 0} (b : Bool) (x : A) (r : Option A) → cond b (Some x) r ≡ None → b ≡ false
+pub first_false : {A : Type 0} (b : Bool) (x : A) (r : Option A) → cond b (Some x) r ≡ None → b ≡ false
 first_false true x r e = cc
 first_false false x r e = refl
 
-rest_none : {A : Type 0} (b : Bool) (x : A) (r : Option A) → cond b (Some x) r ≡ None → r ≡ None
+pub rest_none : {A : Type 0} (b : Bool) (x : A) (r : Option A) → cond b (Some x) r ≡ None → r ≡ None
 rest_none true x r e = cc
 rest_none false x r e = e
 
-both_none : {A : Type 0} (b : Bool) (x : A) (r : Option A) → b ≡ false → r ≡ None → cond b (Some x) r ≡ None
+pub both_none : {A : Type 0} (b : Bool) (x : A) (r : Option A) → b ≡ false → r ≡ None → cond b (Some x) r ≡ None
 both_none true x r h e = cc
 both_none false x r h e = e
 

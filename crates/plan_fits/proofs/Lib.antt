@@ -3,3 +3,5 @@ pub mod PlaceLemmas
 pub mod NodeLemmas
 pub mod TreeLemmas
 pub mod PlanLemmas
+pub mod NameLemmas
+pub mod PipeLemmas

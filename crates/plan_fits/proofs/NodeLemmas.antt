@@ -19,7 +19,7 @@ use Rattle.plan_grammar.specs.declared.words.OpWord.TheVariants as op
 use Rattle.plan_grammar.specs.declared.words.StepWord.{StepWord}
 use Rattle.plan_grammar.specs.declared.words.StepWord.TheVariants as word
 use Rattle.plan_grammar.specs.Grammar.{aggregate_parts, join_parts, level_of, limit_parts, parts_of_node, topn_parts}
-use Rattle.plan_grammar.specs.Json.{entries_under, has_key, text_of, text_under, under}
+use Rattle.plan_grammar.specs.Json.{entries_under, has_key, text_of, text_under}
 use Rattle.plan_grammar.specs.Tables.{part}
 use Rattle.plan_grammar.specs.Tables as table
 use Rattle.plan_grammar.specs.Words.{op_named, op_of, step_of}
@@ -37,7 +37,7 @@ use Rattle.plan_docs.specs.ReadNodes.{inner_node, node_at, node_by}
 use Rattle.plan_docs.specs.Words.{small}
 use Rattle.tree_evaluator.specs.Fits.{ColumnFits, ColumnsFit, IsOrMissing, kinds}
 use Rattle.plan_fits.proofs.FindLemmas.{not_false}
-use Rattle.plan_fits.proofs.PlaceLemmas.{Part-at, Passes, counted, not_beyond, not_unbuilt, part_passes, under_is}
+use Rattle.plan_fits.proofs.PlaceLemmas.{Part-at, Passes, counted, not_beyond, not_unbuilt, part_passes, text_is, under_is}
 
 -- the columns of a declared table, if there is one, have these types at these places
 abbrev pub ScanFits : Option TableDoc → List ℕ → List SqlType → Type 0
@@ -67,10 +67,10 @@ pub record IsNarrow (document : Data) : Type 0 where
   pub tables : length (entries_under key.Tables document) ≤ 64
   pub columns : (i : ℕ) (t : Data) → slice_get (entries_under key.Tables document) i ≡ Some t → length (entries_under key.Columns t) ≤ 256
 
-small_same : (n : ℕ) → n ≤ 256 → small n ≡ n
+pub small_same : (n : ℕ) → n ≤ 256 → small n ≡ n
 small_same n h = let below : n < 2 ^ 32 = omega (arith, h) in ap (λ b. if b then n else 0) (lt-ltb n (2 ^ 32) below)
 
-place_within : (t : List ℕ) (ds : List Data) → place_named t ds ≤ length ds
+pub place_within : (t : List ℕ) (ds : List Data) → place_named t ds ≤ length ds
 place_within t [] = omega arith
 place_within t (d ∷ ds) = by_test (has_name t d) (place_named t ds) (length ds) (place_within t ds)
   where
@@ -140,16 +140,13 @@ node_word op.Union d = refl
 node_word op.Unknown d = refl
 
 -- the operator of a node that passes is built
-built_word : (nodes filters : ℕ) (d : Data) (path : List Step) (owner : Data) (level : ℕ) → Passes nodes filters d path owner kind.Node level → is_built (op_of d) ≡ true
+pub built_word : (nodes filters : ℕ) (d : Data) (path : List Step) (owner : Data) (level : ℕ) → Passes nodes filters d path owner kind.Node level → is_built (op_of d) ≡ true
 built_word nodes filters d path owner level p =
     let at : Part-at nodes filters d path key.Op kind.Op level =
     part_passes nodes filters d path owner kind.Node level (parts_of_node (op_of d) d) 1 key.Op kind.Op p refl refl (node_word (op_of d) d) in
     let built = not_false (is_built (op_named (text_of at.value))) (not_unbuilt nodes filters at.value (path ++ step.Key key.Op ∷ []) d kind.Op level at.passes) in
     let same : op_named (text_of at.value) ≡ op_of d = ap op_named (sym (text_is key.Op d at.value at.is)) in
     subst (λ (w : OpWord). is_built w ≡ true) same built
-  where
-    text_is : (k : Key) (d e : Data) → under k d ≡ Some e → text_under k d ≡ text_of e
-    text_is k d e is = rw is refl
 
 -- how many entries stand under a key of a node
 listed : (nodes filters : ℕ) (d : Data) (path : List Step) (owner : Data) (level : ℕ) (parts : List Part) (i least most : ℕ) (k : Key) (inner : Kind)

@@ -13,7 +13,7 @@ use Rattle.plan_places.specs.Places.{key_text}
 use Rattle.plan_grammar.specs.declared.kind.Kind.{Kind}
 use Rattle.plan_grammar.specs.declared.tables.Part.{Part}
 use Rattle.plan_grammar.specs.Grammar.{element_of, has_entries, level_of, parts_of}
-use Rattle.plan_grammar.specs.Json.{count_of, entries, entries_count, entries_in, entries_of, entries_under, has_key, under}
+use Rattle.plan_grammar.specs.Json.{count_of, entries, entries_count, entries_in, entries_of, entries_under, has_key, text_of, text_under, under}
 use Rattle.plan_grammar.specs.Spots.{Spot, inner_of, inner_spots, item_spots, part_spots, spot, spots}
 use Rattle.plan_grammar.specs.Tables.{part}
 use Rattle.plan_grammar.proofs.WalkLemmas.{spots_are}
@@ -32,7 +32,7 @@ walked : (test : Spot → Bool) (d : Data) (path : List Step) (owner : Data) (ki
     → Free test d path owner kind level → find test (spot d path owner kind level ∷ inner_spots (spot d path owner kind level)) ≡ None
 walked test d path owner kind level free = subst (λ (all : List Spot). find test all ≡ None) (spots_are d path owner kind level) free
 
-free_here : (test : Spot → Bool) (d : Data) (path : List Step) (owner : Data) (kind : Kind) (level : ℕ)
+pub free_here : (test : Spot → Bool) (d : Data) (path : List Step) (owner : Data) (kind : Kind) (level : ℕ)
     → Free test d path owner kind level → test (spot d path owner kind level) ≡ false
 free_here test d path owner kind level free =
     none_here test (spot d path owner kind level) (inner_spots (spot d path owner kind level)) (walked test d path owner kind level free)
@@ -52,7 +52,7 @@ no_array name (array ds) e is = absurd cc
 no_array name (object ms) e is = refl
 
 -- what stands under a key
-free_part : (test : Spot → Bool) (d : Data) (path : List Step) (owner : Data) (kind : Kind) (level : ℕ) (parts : List Part) (i : ℕ) (k : Key) (inner : Kind) (e : Data)
+pub free_part : (test : Spot → Bool) (d : Data) (path : List Step) (owner : Data) (kind : Kind) (level : ℕ) (parts : List Part) (i : ℕ) (k : Key) (inner : Kind) (e : Data)
     → Free test d path owner kind level → parts_of kind d ≡ parts → slice_get parts i ≡ Some (part k inner) → under k d ≡ Some e
     → Free test e (path ++ step.Key k ∷ []) d inner (level_of inner level)
 free_part test d path owner kind level parts i k inner e free own at is =
@@ -78,7 +78,7 @@ free_items test (item d ds) path owner kind level i (suc j) n e free is at =
     free_items test ds path owner kind level (i + 1) j n e
     (none_right test (spots d (path ++ step.Index i ∷ []) owner (element_of kind i) (level_of (element_of kind i) level)) (item_spots ds path owner kind level (i + 1)) free) is later
 
-free_entry : (test : Spot → Bool) (d : Data) (path : List Step) (owner : Data) (kind : Kind) (level : ℕ) (ds : Items) (j : ℕ) (e : Data)
+pub free_entry : (test : Spot → Bool) (d : Data) (path : List Step) (owner : Data) (kind : Kind) (level : ℕ) (ds : Items) (j : ℕ) (e : Data)
     → Free test d path owner kind level → as_array d ≡ Some ds → has_entries kind ≡ true → slice_get (entries_of ds) j ≡ Some e
     → Free test e (path ++ step.Index j ∷ []) owner (element_of kind j) (level_of (element_of kind j) level)
 free_entry test d path owner kind level ds j e free is listed at =
@@ -172,6 +172,20 @@ counted nodes filters d path owner kind level least most p is =
     at_most : (a b : ℕ) → nat_le a b ≡ true → a ≤ b
     at_most a b h = leb-true a b h
 
+-- the list in which an entry stands
+pub record Listed (o : Option Items) (i : ℕ) (e : Data) : Type 0 where
+  pub items : Items
+  pub is : o ≡ Some items
+  pub at : slice_get (entries_of items) i ≡ Some e
+
+pub in_list : (o : Option Items) (i : ℕ) (e : Data) → slice_get (entries o) i ≡ Some e → Listed o i e
+in_list None i e h = absurd cc
+in_list (Some ds) i e h = record { items = ds; is = refl; at = h }
+
 -- the entries under a key
 pub under_is : (k : Key) (d e : Data) → under k d ≡ Some e → entries_under k d ≡ entries_in e
 under_is k d e is = rw is refl
+
+-- the text under a key
+pub text_is : (k : Key) (d e : Data) → under k d ≡ Some e → text_under k d ≡ text_of e
+text_is k d e is = rw is refl

@@ -1,9 +1,9 @@
 -- The tree of a plan that was read, over tables of the columns that it declares.
-use Rattle.std.proofs.Common.{◌≡◌, ℕ, ◌≤◌, suc, List, [], ◌∷◌, ◌++◌, length, map, Option, Some, None, refl, ap, sym, ◌∙◌, subst, arith}
+use Rattle.std.proofs.Common.{◌≡◌, ℕ, ◌≤◌, suc, List, [], ◌∷◌, ◌++◌, length, map, Bool, true, false, Some, None, refl, ap, sym, ◌∙◌, subst, arith}
 use Rattle.std.specs.Prelude.{Result, Ok, Err, slice_get}
 use Rattle.std.specs.Option.{option_or}
 use Rattle.std.specs.List.{count_by, find}
-use Rattle.serde_json.specs.Data.{Data, Items}
+use Rattle.serde_json.specs.Data.{Data}
 use Rattle.serde_json.specs.Find.{as_array}
 use Rattle.sql_values.specs.declared.table.Table.{Table}
 use Rattle.plan_places.specs.declared.key.Key.TheVariants as key
@@ -12,7 +12,7 @@ use Rattle.plan_places.specs.declared.step.Step.TheVariants as step
 use Rattle.sql_exprs.proofs.TypingLemmas.{typed_then_ok}
 use Rattle.sql_exprs.specs.Typing.{typed_then}
 use Rattle.plan_grammar.specs.declared.kind.Kind.TheVariants as kind
-use Rattle.plan_grammar.specs.Json.{entries, entries_in, entries_of, entries_under, under}
+use Rattle.plan_grammar.specs.Json.{entries_in, entries_under, under}
 use Rattle.plan_grammar.specs.Spots.{Spot, places_of}
 use Rattle.plan_grammar.specs.Tables as table
 use Rattle.plan_checks.specs.Built.{first_unbuilt, is_further, is_unbuilt}
@@ -36,17 +36,19 @@ use Rattle.tree_evaluator.specs.Fits.{FitsTables, TablesFit}
 use Rattle.tree_evaluator.specs.Stops.{rows_of}
 use Rattle.plan_fits.specs.Tables.{HaveColumns, WasRead}
 use Rattle.plan_fits.proofs.FindLemmas.{first_option, second_option, unmapped}
-use Rattle.plan_fits.proofs.PlaceLemmas.{Part-at, Passes, counted, entry_passes, part_passes, under_is}
+use Rattle.plan_fits.proofs.PlaceLemmas.{Free, Part-at, Passes, counted, entry_passes, free_entry, free_here, free_part, in_list, part_passes, under_is}
 use Rattle.plan_fits.proofs.NodeLemmas.{IsNarrow, IsSound, node_sound}
 use Rattle.plan_fits.proofs.TreeLemmas.{node_agrees}
 
 -- the groups of checks of which none fails
-record NoneFails (all : List Spot) : Type 0 where
-  shaped : find is_misshapen all ≡ None
-  within : first_beyond all ≡ None
-  built : find is_unbuilt all ≡ None
+pub record NoneFails (document : Data) (all : List Spot) : Type 0 where
+  pub shaped : find is_misshapen all ≡ None
+  pub within : first_beyond all ≡ None
+  pub named : first_misnamed document [] all ≡ None
+  pub alone : find is_further all ≡ None
+  pub built : find is_unbuilt all ≡ None
 
-none_fails : (document : Data) (all : List Spot) → first_refused document all ≡ None → NoneFails all
+none_fails : (document : Data) (all : List Spot) → first_refused document all ≡ None → NoneFails document all
 none_fails document all e =
     let shapes = at 2 (find is_misshapen all) in
     let limits = at 3 (first_beyond all) in
@@ -60,25 +62,18 @@ none_fails document all e =
     record {
       shaped = unmapped (λ (s : Spot). (2, s)) (find is_misshapen all) (first_option shapes (option_or limits (option_or names (option_or built others))) e);
       within = unmapped (λ (s : Spot). (3, s)) (first_beyond all) (first_option limits (option_or names (option_or built others)) e2);
+      named = unmapped (λ (s : Spot). (4, s)) (first_misnamed document [] all) (first_option names (option_or built others) e3);
+      alone = first_option (find is_further all) (find is_unbuilt all) e5;
       built = second_option (find is_further all) (find is_unbuilt all) e5;
     }
 
-document_passes : (d : Data) → refusal_of d ≡ None → Passes (count_by is_node (places_of d)) (count_by is_filter (places_of d)) d [] d kind.Document 0
-document_passes d e =
-    let none = none_fails d (places_of d) (unmapped refusal (first_refused d (places_of d)) e) in
-    record { shaped = none.shaped; within = none.within; built = none.built }
+pub none_refused : (d : Data) → refusal_of d ≡ None → NoneFails d (places_of d)
+none_refused d e = none_fails d (places_of d) (unmapped refusal (first_refused d (places_of d)) e)
 
--- the list in which an entry stands
-record Listed (o : Option Items) (i : ℕ) (e : Data) : Type 0 where
-  items : Items
-  is : o ≡ Some items
-  at : slice_get (entries_of items) i ≡ Some e
+pub document_passes : (d : Data) → NoneFails d (places_of d) → Passes (count_by is_node (places_of d)) (count_by is_filter (places_of d)) d [] d kind.Document 0
+document_passes d none = record { shaped = none.shaped; within = none.within; built = none.built }
 
-in_list : (o : Option Items) (i : ℕ) (e : Data) → slice_get (entries o) i ≡ Some e → Listed o i e
-in_list None i e h = absurd cc
-in_list (Some ds) i e h = record { items = ds; is = refl; at = h }
-
-narrow : (nodes filters : ℕ) (d : Data) → Passes nodes filters d [] d kind.Document 0 → IsNarrow d
+pub narrow : (nodes filters : ℕ) (d : Data) → Passes nodes filters d [] d kind.Document 0 → IsNarrow d
 narrow nodes filters d p =
     let tables : Part-at nodes filters d [] key.Tables kind.Tables 0 = part_passes nodes filters d [] d kind.Document 0 table.document 2 key.Tables kind.Tables p refl refl refl in
     let path = step.Key key.Tables ∷ [] in
@@ -103,30 +98,48 @@ begins : (es : List Data) → 1 ≤ length es → Begins es
 begins [] h = absurd (omega (arith, h))
 begins (e ∷ es) h = record { first = e; rest = es; is = refl }
 
--- the first fragment, whose root passes
-record Rooted (nodes filters : ℕ) (d : Data) : Type 0 where
-  first : Data
-  rest : List Data
-  are : entries_under key.Fragments d ≡ first ∷ rest
-  path : List Step
-  root : Part-at nodes filters first path key.Root kind.Node 0
+-- the first fragment, whose root passes, and is free of what the document is free of
+pub record Rooted (nodes filters : ℕ) (d : Data) : Type 0 where
+  pub first : Data
+  pub rest : List Data
+  pub are : entries_under key.Fragments d ≡ first ∷ rest
+  pub alone : Free is_further d [] d kind.Document 0 → rest ≡ []
+  pub path : List Step
+  pub root : Part-at nodes filters first path key.Root kind.Node 0
+  pub free : (test : Spot → Bool) → Free test d [] d kind.Document 0 → Free test root.value (path ++ step.Key key.Root ∷ []) first kind.Node 1
 
-rooted : (nodes filters : ℕ) (d : Data) → Passes nodes filters d [] d kind.Document 0 → Rooted nodes filters d
+-- a list of fragments has no second entry where there is no further fragment
+none_further : (d owner : Data) (path : List Step) (e : Data) (rest : List Data) → entries_in d ≡ e ∷ rest → Free is_further d path owner kind.Fragments 0 → rest ≡ []
+none_further d owner path e [] are free = refl
+none_further d owner path e (second ∷ rest) are free =
+    let here = in_list (as_array d) 1 second (ap (λ (es : List Data). slice_get es 1) are) in
+    let inside : Free is_further second (path ++ step.Index 1 ∷ []) owner kind.Fragment 0 = free_entry is_further d path owner kind.Fragments 0 here.items 1 second free here.is refl here.at in
+    let further : true ≡ false = free_here is_further second (path ++ step.Index 1 ∷ []) owner kind.Fragment 0 inside in
+    cc
+
+pub rooted : (nodes filters : ℕ) (d : Data) → Passes nodes filters d [] d kind.Document 0 → Rooted nodes filters d
 rooted nodes filters d p =
     let fragments : Part-at nodes filters d [] key.Fragments kind.Fragments 0 = part_passes nodes filters d [] d kind.Document 0 table.document 3 key.Fragments kind.Fragments p refl refl refl in
-    let path = step.Key key.Fragments ∷ [] in
-    let some = begins (entries_in fragments.value) (counted nodes filters fragments.value path d kind.Fragments 0 1 64 fragments.passes refl).0 in
+    let list = step.Key key.Fragments ∷ [] in
+    let path = list ++ step.Index 0 ∷ [] in
+    let some = begins (entries_in fragments.value) (counted nodes filters fragments.value list d kind.Fragments 0 1 64 fragments.passes refl).0 in
     let at = in_list (as_array fragments.value) 0 some.first (ap (λ (es : List Data). slice_get es 0) some.is) in
-    let one = entry_passes nodes filters fragments.value path d kind.Fragments 0 at.items 0 some.first fragments.passes at.is refl at.at in
+    let one = entry_passes nodes filters fragments.value list d kind.Fragments 0 at.items 0 some.first fragments.passes at.is refl at.at in
+    let root : Part-at nodes filters some.first path key.Root kind.Node 0 = part_passes nodes filters some.first path d kind.FirstFragment 0 table.first_fragment 2 key.Root kind.Node one refl refl refl in
+    let listed = λ (test : Spot → Bool) (free : Free test d [] d kind.Document 0). free_part test d [] d kind.Document 0 table.document 3 key.Fragments kind.Fragments fragments.value free refl refl fragments.is in
     record {
       first = some.first;
       rest = some.rest;
       are = under_is key.Fragments d fragments.value fragments.is ∙ some.is;
-      path = path ++ step.Index 0 ∷ [];
-      root = part_passes nodes filters some.first (path ++ step.Index 0 ∷ []) d kind.FirstFragment 0 table.first_fragment 2 key.Root kind.Node one refl refl refl;
+      alone = λ free. none_further fragments.value d list some.first some.rest some.is (listed is_further free);
+      path = path;
+      root = root;
+      free = λ test free.
+          let inside = free_entry test fragments.value list d kind.Fragments 0 at.items 0 some.first (listed test free) at.is refl at.at in
+          free_part test some.first path d kind.FirstFragment 0 table.first_fragment 2 key.Root kind.Node root.value inside refl refl root.is;
     }
 
-root_is : (d g r : Data) → under key.Root g ≡ Some r → (fragment_of d g).root ≡ node_at 32 d r
+pub root_is : (d g r : Data) → under key.Root g ≡ Some r → (fragment_of d g).root ≡ node_at 32 d r
 unfolding node_form
 root_is d g r is = ap (inner_node (node_form d)) is
 
@@ -161,20 +174,26 @@ tree_first : (plan : PlanForm) (f : FragmentForm) (fs : List FragmentForm) → p
 unfolding tree_of
 tree_first plan f fs same = ap (λ (l : List FragmentForm). fragment_tree (length l) l 0) same ∙ tree_more (length fs) f fs
 
-fragments_of : (d : Data) → (plan_of d).fragments ≡ map (fragment_of d) (entries_under key.Fragments d)
+pub fragments_of : (d : Data) → (plan_of d).fragments ≡ map (fragment_of d) (entries_under key.Fragments d)
 unfolding plan_of
 fragments_of d = refl
 
-tables_of : (d : Data) → (plan_of d).tables ≡ map table_of (entries_under key.Tables d)
+pub tables_of : (d : Data) → (plan_of d).tables ≡ map table_of (entries_under key.Tables d)
 unfolding plan_of
 tables_of d = refl
+
+pub root_sound : (nodes filters : ℕ) (d : Data) → Passes nodes filters d [] d kind.Document 0 → (r : Rooted nodes filters d)
+    → IsSound (map table_of (entries_under key.Tables d)) (fragment_of d r.first).root
+root_sound nodes filters d p r =
+    let bottom = node_sound nodes filters 32 d r.root.value (r.path ++ step.Key key.Root ∷ []) r.first 1 refl (narrow nodes filters d p) r.root.passes in
+    subst (IsSound (map table_of (entries_under key.Tables d))) (sym (root_is d r.first r.root.value r.root.is)) bottom
 
 document_fits : (d : Data) (tables : List Table) → judgement_of d ≡ None → HaveColumns (plan_of d).tables tables → TablesFit tables
     → FitsTables (tree_of (plan_of d)) (map rows_of tables)
 document_fits d tables passes own fit =
     let nodes = count_by is_node (places_of d) in
     let filters = count_by is_filter (places_of d) in
-    let p = document_passes d (first_option (refusal_of d) (plan_refusal (plan_of d)) passes) in
+    let p = document_passes d (none_refused d (first_option (refusal_of d) (plan_refusal (plan_of d)) passes)) in
     let later = second_option (refusal_of d) (plan_refusal (plan_of d)) passes in
     let typed = typed_is (plan_types (plan_of d)) (first_option (untyped (plan_types (plan_of d))) (misplaced (slice_get (plan_of d).fragments 0)) later) in
     let r = rooted nodes filters d p in
@@ -183,8 +202,7 @@ document_fits d tables passes own fit =
     let fragments : (plan_of d).fragments ≡ f ∷ fs = fragments_of d ∙ ap (map (fragment_of d)) r.are in
     let first = plan_first (plan_of d) f fs typed.0 fragments typed.1 in
     let docs = map table_of (entries_under key.Tables d) in
-    let bottom = node_sound nodes filters 32 d r.root.value (r.path ++ step.Key key.Root ∷ []) r.first 1 refl (narrow nodes filters d p) r.root.passes in
-    let sound : IsSound docs f.root = subst (IsSound docs) (sym (root_is d r.first r.root.value r.root.is)) bottom in
+    let sound : IsSound docs f.root = root_sound nodes filters d p r in
     let columns = subst (λ ds. HaveColumns ds tables) (tables_of d) own in
     let reads = fragment_tree (length fs) (f ∷ fs) in
     let agrees = node_agrees docs tables columns fit 1 first.later (root_path 0) reads f.root first.types sound first.is in

@@ -1,10 +1,14 @@
-//! The law that the tree of a plan that was read fits the tables that are read for it: each column
-//! that a scan takes has the type that the plan declares, each expression has a type, and each node
-//! has a column. So an evaluator may ask for it, and no run refuses a plan that was read.
+//! The laws of a plan that was read, over the tables that are read for it.
 //!
-//! - `laws`: `tree_of_a_plan_fits`
+//! - `laws`: `tree_of_a_plan_fits`: its tree fits the tables: each column that a scan takes has the
+//!   type that the plan declares, each expression has a type, and each node has a column. So an
+//!   evaluator may ask for it, and no run refuses a plan that was read.
+//! - `pipelines`: `plans_are_pipelines`: it is one fragment, and its root one pipeline over a table
+//!   that there is. So an executor may ask for it, and finds the table with its columns.
 #![tactic(auto)]
 
 mod laws;
+mod pipelines;
 
 pub use laws::tree_of_a_plan_fits;
+pub use pipelines::plans_are_pipelines;

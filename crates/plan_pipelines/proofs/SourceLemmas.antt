@@ -1,0 +1,59 @@
+-- What the tables' types say of a pipeline's source.
+use Rattle.std.proofs.Common.{◌≡◌, List, ◌++◌, length, refl, sym, ap, ◌∙◌, subst}
+use Rattle.std.specs.Prelude.{IsTrue}
+use Rattle.std.proofs.lemmas.List.Elements.{All-weaker}
+use Rattle.std.proofs.lemmas.List.Sorted.{All-permutation}
+use Rattle.sql_values.specs.declared.types.SqlType.{SqlType}
+use Rattle.sql_values.specs.declared.value.Value.{Value}
+use Rattle.sql_values.specs.ColumnRows.{fits_row}
+use Rattle.bag_laws.specs.Weights.{SameWeights}
+use Rattle.bag_laws.proofs.BagLemmas.{bag_from_same, same-sym}
+use Rattle.page_judges.specs.Typed.{AllFit}
+use Rattle.plan_trees.specs.Widths.{FitsWidths}
+use Rattle.plan_trees.specs.TreeForms.{TreeForm}
+use Rattle.plan_trees.specs.TreeForms as tree
+use Rattle.tree_evaluator.specs.Fits.{FitsTables}
+use Rattle.plan_runs.specs.RunPlans.{RunPlan, tree_of_run, scan, values, remote, filter, project, join, aggregate, aggregate_parts, sort, topn, topn_parts, limit, limit_parts, union}
+use Rattle.plan_runs.specs.Spreads.{Tables}
+use Rattle.stage_meanings.proofs.MeaningLemmas.{front-fits}
+use Rattle.stage_meanings.proofs.RowLemmas.{fits-width}
+use Rattle.plan_pipelines.specs.Sources.{IsPipeline, source_rows, source_types}
+
+-- a tree that fits tables fits in its widths
+pub fits_widths : (t : TreeForm) (tables : Tables) → FitsTables t tables → FitsWidths t
+fits_widths (tree.scan id table columns types) tables fits = sym fits.1
+fits_widths (tree.values id types rows) tables fits =
+    All-weaker (λ (row : List Value). IsTrue (fits_row types row)) (λ (row : List Value). length row ≡ length types) (λ row fit. fits-width types row fit) rows fits.1
+fits_widths (tree.remote id input) tables fits = fits_widths input tables fits
+fits_widths (tree.filter id predicate input) tables fits = fits_widths input tables fits.1
+fits_widths (tree.project id columns input) tables fits = fits_widths input tables fits.2
+fits_widths (tree.join id kind on left right) tables fits = absurd fits
+fits_widths (tree.aggregate id keys calls input) tables fits = absurd fits
+fits_widths (tree.sort id keys input) tables fits = absurd fits
+fits_widths (tree.topn id count keys input) tables fits = absurd fits
+fits_widths (tree.limit id count input) tables fits = fits_widths input tables fits
+fits_widths (tree.union id left right) tables fits = (fits_widths left tables fits.1, fits_widths right tables fits.2, ap length fits.0)
+
+-- and the rows of a pipeline's source fit their types
+pub source_fits : (run : RunPlan) → IsPipeline run → (tables : Tables) → FitsTables (tree_of_run run) tables → AllFit (source_types run) (source_rows tables run)
+source_fits (scan id table columns types) one tables fits = fits.2
+source_fits (values id types rows) one tables fits = fits.1
+source_fits (remote id output tasks input) one tables fits = absurd one
+source_fits (filter id predicate input) one tables fits = source_fits input one tables fits.1
+source_fits (project id columns input) one tables fits = source_fits input one tables fits.2
+source_fits (join id kind on left right) one tables fits = absurd one
+source_fits (aggregate id keys calls input) one tables fits = absurd fits
+source_fits (aggregate_parts id source output tasks keys calls input) one tables fits = absurd one
+source_fits (sort id keys input) one tables fits = absurd fits
+source_fits (topn id count keys input) one tables fits = absurd fits
+source_fits (topn_parts id source output tasks count keys input) one tables fits = absurd one
+source_fits (limit id count input) one tables fits = source_fits input one tables fits
+source_fits (limit_parts id source output tasks count input) one tables fits = absurd one
+source_fits (union id left right) one tables fits = absurd one
+
+pub same_fits : (types : List SqlType) (took rows : List (List Value)) → SameWeights took rows → AllFit types rows → AllFit types took
+same_fits types took rows same fit =
+    All-permutation (λ (row : List Value). IsTrue (fits_row types row)) rows took (bag_from_same rows took (same-sym same)) fit
+
+pub front_of_source : (types : List SqlType) (took rest rows : List (List Value)) → SameWeights (took ++ rest) rows → AllFit types rows → AllFit types took
+front_of_source types took rest rows same fit = front-fits types took rest (same_fits types (took ++ rest) rows same fit)

@@ -1,0 +1,3 @@
+pub mod Fragments
+pub mod Sources
+pub mod Scans

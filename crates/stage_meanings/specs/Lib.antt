@@ -1,0 +1,3 @@
+pub mod Pipelines
+pub mod Meanings
+pub mod RowMeanings

@@ -1,7 +1,8 @@
 -- The command line: which words are one, and what it asks for.
-use Rattle.std.specs.Prelude.{ℕ, List, length, map, drop, Bool, true, not, ◌&&◌, ◌==◌, nat_lt, nat_eq, slice_index, slice_index_or, [], ◌∷◌, Option, Some, None, option_map, unwrap_or, slice_get, if◌then◌else◌, codes}
+use Rattle.std.specs.Prelude.{ℕ, List, length, map, drop, take, Bool, true, not, ◌&&◌, ◌==◌, ◌≤◌, nat_lt, slice_index_or, [], ◌∷◌, Option, None, option_map, option_and_then, unwrap_or, slice_get, if◌then◌else◌, codes}
 use Rattle.std.specs.List.{before_first, after_first, list_all, list_any, position_from}
-use Rattle.std.specs.Cmp.Lexicographic.{pointwise}
+use Rattle.command_line.specs.Options.{are_options, begins_with_dash, number_in, option_words, same_text}
+use Rattle.command_line.specs.declared.options.NumberOption.TheVariants as option
 use Rattle.command_line.specs.declared.words as words
 
 -- a table's name and its file
@@ -9,24 +10,31 @@ pub record NamedFile : Type 0 where
   pub name : List ℕ
   pub file : List ℕ
 
--- what a command line asks for: the plan's file, and the files of tables by their names
+-- what a command line asks for: the plan's file, the most rows of a split and of a page, the rows after
+-- whose move a driver's turn ends, and the files of tables by their names
 pub record Job : Type 0 where
   pub plan : List ℕ
+  pub split : ℕ
+  pub page : ℕ
+  pub quantum : ℕ
   pub files : List NamedFile
 
-abbrev pub same_text : List ℕ → List ℕ → Bool
-same_text = pointwise nat_eq
+-- the numbers of a job are within their bounds
+pub record HasBounds (job : Job) : Type 0 where
+  pub split_has_rows : 1 ≤ job.split
+  pub split_is_bounded : job.split ≤ 1000000
+  pub page_has_rows : 1 ≤ job.page
+  pub page_is_bounded : job.page ≤ 8192
+  pub quantum_has_rows : 1 ≤ job.quantum
+  pub quantum_is_bounded : job.quantum ≤ 1000000
 
--- the bytes of `-` and of `=`
-abbrev pub dash : ℕ
-dash = 45
-
+-- the byte of `=`
 abbrev pub equals_sign : ℕ
 equals_sign = 61
 
 -- a word that may name a file: not empty, and no option
 abbrev pub is_file_name : List ℕ → Bool
-is_file_name word = nat_lt 0 (length word) && not (slice_index word 0 == dash)
+is_file_name word = nat_lt 0 (length word) && not (begins_with_dash word)
 
 -- the two parts of a word round its first `=`
 abbrev pub name_part : List ℕ → List ℕ
@@ -55,11 +63,20 @@ names_differ (word ∷ words) = not (list_any (names (name_part word)) words) &&
 abbrev pub are_named_files : List (List ℕ) → Bool
 are_named_files words = list_all is_named_file words && names_differ words
 
--- the words `--plan FILE NAME=FILE ..`
+-- what the options and the files behind a plan's file ask for
+abbrev pub job_with : List ℕ → List (List ℕ) → List (List ℕ) → Option Job
+job_with plan options files =
+    if are_options options && are_named_files files
+    then option_and_then (λ split. option_and_then (λ page. option_map (λ quantum.
+    record { plan = plan; split = split; page = page; quantum = quantum; files = map named_file files })
+    (number_in option.Quantum options)) (number_in option.Page options)) (number_in option.Split options)
+    else None
+
+-- the words `--plan FILE`, then options with their numbers, then `NAME=FILE ..`
 abbrev pub job_of_parts : List ℕ → List ℕ → List (List ℕ) → Option Job
-job_of_parts option plan files =
-    if same_text option (codes "--plan") && is_file_name plan && are_named_files files
-    then Some (record { plan = plan; files = map named_file files })
+job_of_parts first plan words =
+    if same_text first (codes "--plan") && is_file_name plan
+    then job_with plan (take (option_words words) words) (drop (option_words words) words)
     else None
 
 -- what the words ask for; None where they are no command line
@@ -71,7 +88,13 @@ job_of words =
 
 -- what a job that borrows its words asks for
 abbrev pub asked : words.Job.Job → Job
-asked job = record { plan = job.plan.now; files = map named_file job.files.now }
+asked job = record {
+  plan = job.plan.now;
+  split = job.split;
+  page = job.page;
+  quantum = job.quantum;
+  files = map named_file job.files.now;
+}
 
 -- a file is that of the table of this name
 abbrev pub is_named : List ℕ → NamedFile → Bool

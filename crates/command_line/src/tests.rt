@@ -50,3 +50,51 @@ fn a_plan_may_have_no_table(rt: HostRuntime) -> Result<(), Fail> {
     assert!(rt; !is_refused(rt.alloc(), "--plan p")?);
     Ok(())
 }
+
+/// The most rows of a split and of a page and the rows of a turn that the words ask for, or `none`.
+fn numbers_of(alloc: Global, line: &str) -> Result<String, Fail> {
+    let words = words_in(alloc, line)?;
+    match read_words(&words) {
+        Some(job) => { Ok(format!(in alloc; "{} {} {}", job.split, job.page, job.quantum)?) }
+        None => Ok(format!(in alloc; "none")?),
+    }
+}
+
+#[test]
+fn options_give_numbers(rt: HostRuntime) -> Result<(), Fail> {
+    for (options, numbers) in [
+        ("", "10000 1024 100000"),
+        ("t=t", "10000 1024 100000"),
+        ("--split 1 t=t", "1 1024 100000"),
+        ("--split 1000000", "1000000 1024 100000"),
+        ("--split 1000001", "none"),
+        ("--split 0", "none"),
+        ("--page 1 t=t u=u", "10000 1 100000"),
+        ("--page 8192", "10000 8192 100000"),
+        ("--page 8193", "none"),
+        ("--page 0", "none"),
+        ("--quantum 1", "10000 1024 1"),
+        ("--quantum 1000000", "10000 1024 1000000"),
+        ("--quantum 1000001", "none"),
+        ("--quantum 0", "none"),
+        ("--quantum 3 --split 007 --page 2 t=t", "7 2 3"),
+        ("--split 18446744073709551617", "none"),
+        ("--split 1 --split 1", "none"),
+        ("--page 1 --split 1 --page 1 t=t", "none"),
+        ("--workers 1", "none"),
+        ("--spli 1", "none"),
+        ("--split", "none"),
+        ("--page 1 --split", "none"),
+        ("--split t=t", "none"),
+        ("--split=1", "none"),
+        ("--split +1", "none"),
+        ("--split -1", "none"),
+        ("--split 1.0", "none"),
+        ("t=t --split 1", "none"),
+    ] {
+        let line = format!(in rt.alloc(); "--plan p {options}")?;
+        let found = numbers_of(rt.alloc(), line.as_str())?;
+        assert_eq!(rt; found.as_str(), numbers, "{options}");
+    }
+    Ok(())
+}

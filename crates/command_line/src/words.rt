@@ -1,19 +1,29 @@
-ghost use Rattle.std.specs.Prelude.{◌≡◌, ◌<◌, true, map, drop, length, slice_index_or, [], option_map, slice_get};
+ghost use Rattle.std.specs.Prelude.{◌≡◌, ◌<◌, true, map, drop, take, length, slice_index_or, [], option_map, slice_get, IfSome};
 ghost use Rattle.std.specs.List.{list_all, list_any, position_from};
-ghost use Rattle.command_line.specs.Words.{is_file_name, is_named_file, is_named, names, name_part, file_part, named_file, names_differ, are_named_files, job_of, job_of_parts, asked, asked_file, file_at, file_of};
+ghost use Rattle.command_line.specs.Words.{HasBounds, is_file_name, is_named_file, is_named, names, name_part, file_part, named_file, names_differ, are_named_files, job_of, job_of_parts, job_with, asked, asked_file, file_at, file_of};
 
+use crate::options::{NumberOption, are_options, begins_with_dash, option_words};
 use sql_values::Text;
 
-/// What the words ask for: the plan's file, and a word `NAME=FILE` for each table that has one.
+/// What the words ask for: the plan's file, the numbers of the options, and a word `NAME=FILE` for each
+/// table that has one.
 #[derive(Clone, Copy, Debug)]
 pub struct Job<'a> {
     pub plan: &'a str,
+    /// The most rows of a split.
+    pub split: u32,
+    /// The most rows of a page.
+    pub page: u32,
+    /// The rows after whose move a driver's turn ends.
+    pub quantum: u32,
     pub files: &'a [Text],
 }
 
-/// Reads the words `--plan FILE NAME=FILE ..`; None where they are no command line.
+/// Reads the words `--plan FILE`, options with their numbers, `NAME=FILE ..`; None where they are no
+/// command line.
 pub fn read_words(words: &[Text]) -> Option<Job<'_>>
-    ensures { option_map asked result ≡ job_of words.now }
+    ensures job { option_map asked result ≡ job_of words.now }
+    ensures bounds { IfSome result (λ job. HasBounds (asked job)) }
 {
     if words.len() < 2 {
         return None;
@@ -21,20 +31,41 @@ pub fn read_words(words: &[Text]) -> Option<Job<'_>>
     job_of_parts(words[0].as_str(), words[1].as_str(), &words[2..])
 }
 
-fn job_of_parts<'a>(option: &str, plan: &'a str, files: &'a [Text]) -> Option<Job<'a>>
-    ensures { option_map asked result ≡ job_of_parts option.now plan.entry.now files.entry.now }
+fn job_of_parts<'a>(first: &str, plan: &'a str, words: &'a [Text]) -> Option<Job<'a>>
+    ensures job { option_map asked result ≡ job_of_parts first.now plan.entry.now words.entry.now }
+    ensures bounds { IfSome result (λ job. HasBounds (asked job)) }
 {
-    if option != "--plan" || !is_file_name(plan) || !are_named_files(files) {
+    if first != "--plan" || !is_file_name(plan) {
         return None;
     }
-    Some(Job { plan, files })
+    let count = option_words(words);
+    job_with(plan, &words[..count], &words[count..])
+}
+
+fn job_with<'a>(plan: &'a str, options: &[Text], files: &'a [Text]) -> Option<Job<'a>>
+    ensures job { option_map asked result ≡ job_with plan.entry.now options.now files.entry.now }
+    ensures bounds { IfSome result (λ job. HasBounds (asked job)) }
+{
+    if !are_options(options) || !are_named_files(files) {
+        return None;
+    }
+    let split = NumberOption::Split.number_in(options)?;
+    let page = NumberOption::Page.number_in(options)?;
+    let quantum = NumberOption::Quantum.number_in(options)?;
+    Some(Job {
+        plan,
+        split,
+        page,
+        quantum,
+        files,
+    })
 }
 
 /// Whether a word may name a file: it is not empty and no option.
 fn is_file_name(word: &str) -> bool
     ensures { result ≡ is_file_name word.now }
 {
-    !word.is_empty() && word.as_bytes()[0] != b'-'
+    !word.is_empty() && !begins_with_dash(word)
 }
 
 /// The part of a word before its first `=`.

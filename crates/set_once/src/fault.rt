@@ -1,0 +1,7 @@
+/// Why a value was not kept. It is handed back.
+#[derive(Debug, Drop)]
+pub enum SetFault<T> {
+    /// The cell holds another value, or a thread set one in the same moment.
+    Refused(T),
+    Memory(T),
+}

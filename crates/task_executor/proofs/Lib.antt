@@ -1,0 +1,4 @@
+pub mod PipelineLemmas
+pub mod WiringLemmas
+pub mod SourceLemmas
+pub mod ClosingLemmas

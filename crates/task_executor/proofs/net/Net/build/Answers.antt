@@ -1,0 +1,23 @@
+use Rattle.std.proofs.Common.{map, subst}
+use Rattle.plan_pipelines.specs.Scans.{scan_of}
+use Rattle.plan_trees.specs.Allowed.{scanned}
+use Rattle.task_executor.specs.Nets.{ReadsAlone}
+use Rattle.plan_docs.specs.Plans.{plan_view}
+use Rattle.tree_evaluator.specs.Stops.{rows_of}
+use Rattle.plan_docs.specs.Nodes.{node_view}
+use Rattle.task_executor.proofs.WiringLemmas.{net_is, ok_same, root_fits}
+use Rattle.task_executor.proofs.net.Net.build.Goals as goal
+
+pub of-requires-clause-fits : goal.of-requires-clause-fits
+of-requires-clause-fits c =
+    root_fits (plan_view c.args.plan.now) c.requires.runnable.root (node_view c.root_of-root.result.now) (map rows_of c.args.tables.now)
+    c.requires.runnable.one c.root_of-root.ensures c.requires.fits
+
+pub returns : goal.returns
+returns c =
+    net_is (plan_view c.args.plan.now) c.args.tables.now c.requires.runnable.root (node_view c.root_of-root.result.now) c.in_ok-source.source
+    c.in_ok-pipeline.pipeline _ c.in_ok-driver.driver c.requires.runnable.one c.requires.runnable.built c.root_of-root.ensures c.requires.fits
+    (subst (λ n. ReadsAlone c.in_ok-source.source (scanned (map rows_of c.args.tables.now) n (scan_of (node_view c.root_of-root.result.now)).columns)) c.scan_below-scan.ensures.table
+    (subst (λ columns. ReadsAlone c.in_ok-source.source (scanned (map rows_of c.args.tables.now) c.scan_below-scan.result.table columns)) c.scan_below-scan.ensures.columns
+    c.in_ok-source.ensures.reads))
+    c.in_ok-pipeline.ensures (ok_same _ _ c.in_ok-driver.ensures)

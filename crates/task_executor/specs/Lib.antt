@@ -1,0 +1,4 @@
+pub mod Pipelines
+pub mod Wirings
+pub mod Turns
+pub mod Nets

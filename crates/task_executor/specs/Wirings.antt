@@ -1,0 +1,36 @@
+-- What the drivers of a run share.
+use Rattle.std.specs.Prelude.{◌≡◌, ◌<◌, ◌≤◌, ◌^◌, ℕ, List, [], All, length, false, slice_get, unwrap_or, option_map}
+use Rattle.sql_values.specs.declared.table.Table.{Table}
+use Rattle.sql_values.specs.declared.value.Value.{Value}
+use Rattle.plan_docs.specs.Nodes.{NodeForm}
+use Rattle.plan_docs.specs.Nodes as node
+use Rattle.plan_docs.specs.Plans.{PlanForm}
+use Rattle.split_source.specs.Splits.{split_count}
+use Rattle.plan_pipelines.specs.Scans.{scan_of}
+use Rattle.task_executor.specs.declared.shape.Shape.{Shape}
+use Rattle.task_executor.specs.declared.wiring.Wiring.{Wiring}
+
+-- a split, a page and a turn have a row, and a page no more than the most
+pub record IsShape (shape : Shape) : Type 0 where
+  pub split : 0 < shape.split
+  pub page : 0 < shape.page
+  pub few : shape.page ≤ 8192
+  pub quantum : 0 < shape.quantum
+
+-- no table has more rows than 32 bits count
+abbrev pub AreFew : List Table → Type 0
+AreFew tables = All (λ table. length table.rows < 2 ^ 32) tables
+
+-- the root of a plan's first fragment; where there is none, no rows
+abbrev pub root_in : PlanForm → NodeForm
+root_in plan = unwrap_or (option_map (λ fragment. fragment.root) (slice_get plan.fragments 0)) (node.values 0 [] [])
+
+-- the rows of the table at a place; where there is none, no rows
+abbrev pub rows_at : List Table → ℕ → List (List Value)
+rows_at tables place = unwrap_or (option_map (λ table. table.rows) (slice_get tables place)) []
+
+-- one seat, not handed out yet, claims the splits of the table that the plan scans
+pub record IsWiredFor (plan : PlanForm) (tables : List Table) (shape : Shape) (wiring : Wiring) : Type 0 where
+  pub fresh : wiring.claims.is_handed_out ≡ false
+  pub seats : wiring.claims.id.of.seats ≡ 1
+  pub count : wiring.claims.id.of.count ≡ split_count (length (rows_at tables (scan_of (root_in plan)).table)) shape.split

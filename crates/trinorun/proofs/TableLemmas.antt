@@ -1,5 +1,5 @@
 -- The tables that are asked for, one after the other, and as a whole.
-use Rattle.std.proofs.Common.{◌≡◌, ◌≤◌, ◌<◌, ℕ, zero, suc, ◌+◌, take, length, map, slice_index_or, List, [], ◌∷◌, ◌++◌, Option, Some, None, true, false, refl, sym, ◌∙◌, ap, subst, slice_get, unwrap_or, is_none, cond, add-one}
+use Rattle.std.proofs.Common.{◌≡◌, ◌≤◌, ◌<◌, ℕ, zero, suc, ◌+◌, ◌^◌, take, length, map, slice_index_or, List, [], ◌∷◌, ◌++◌, Option, Some, None, true, false, refl, sym, ◌∙◌, ap, subst, slice_get, unwrap_or, is_none, cond, add-one}
 use native.Mathlib.Omega.{arith}
 use Rattle.std.specs.List.{position_from}
 use Rattle.sql_values.specs.declared.value.Value.{Value}
@@ -15,6 +15,7 @@ use Rattle.std.proofs.lemmas.List.Elements.{All-push}
 use Rattle.page_judges.specs.Typed.{AllFit}
 use Rattle.plan_fits.specs.Tables.{HaveColumns}
 use Rattle.tree_evaluator.specs.Fits.{TablesFit, kinds}
+use Rattle.task_executor.specs.Wirings.{AreFew}
 use Rattle.trinorun.specs.Loading.{FirstIsRefused, SomeTableIsUnread, TableFails, TableIsRefused, TablesFail}
 use Rattle.trinorun.specs.declared.status.Status.{Status}
 use Rattle.trinorun.specs.declared.status.Status.TheVariants as status
@@ -161,6 +162,11 @@ loop_step before held job docs xs ys table i doc done same is one grown =
 pub fits_more : (xs ys : List Table) (table : Table) → TablesFit xs → AllFit (kinds table.columns) table.rows → ys ≡ xs ++ table ∷ [] → TablesFit ys
 fits_more xs ys table all one grown =
     subst TablesFit (sym grown) (All-push (λ (t : Table). AllFit (kinds t.columns) t.rows) xs table all one)
+
+-- one table more whose rows are few
+pub few_more : (xs ys : List Table) (table : Table) → AreFew xs → length table.rows < 2 ^ 32 → ys ≡ xs ++ table ∷ [] → AreFew ys
+few_more xs ys table all one grown =
+    subst AreFew (sym grown) (All-push (λ (t : Table). length t.rows < 2 ^ 32) xs table all one)
 
 -- the columns of one table more
 next_columns : (docs : List TableDoc) (tables : List Table) (i : ℕ) (doc : TableDoc) (table : Table) → HaveColumns (take i docs) tables → slice_get docs i ≡ Some doc

@@ -117,9 +117,9 @@ pub record PlanRan (job : Job) (seen : Seen) (heard : Heard) (answer : Status) :
 abbrev pub JobAnswered : Job → Seen → Heard → Status → Type 0
 JobAnswered job seen heard answer = PlanIsUnread job seen heard answer ⊎ PlanRan job seen heard answer
 
--- a job of no file, for the message of words that are no command line
+-- a job of no file and of the usual numbers, for the message of words that are no command line
 abbrev pub no_job : Job
-no_job = record { plan = []; files = [] }
+no_job = record { plan = []; split = 10000; page = 1024; quantum = 100000; files = [] }
 
 -- the words are no command line
 pub record WordsAreBad (seen : Seen) (heard : Heard) (answer : Status) : Type 0 where

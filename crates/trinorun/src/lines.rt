@@ -40,6 +40,9 @@ pub fn tell_first<E: Sink>(err: &mut E, status: &Status)
 {
     let none = Job {
         plan: "",
+        split: 10_000,
+        page: 1024,
+        quantum: 100_000,
         files: &[],
     };
     tell(err, &none, &[], status);

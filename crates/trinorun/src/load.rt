@@ -1,8 +1,9 @@
-ghost use Rattle.std.specs.Prelude.{◌≡◌, ◌≤◌, IfOk, MatchResult, map, None, Some};
+ghost use Rattle.std.specs.Prelude.{◌≡◌, ◌<◌, ◌≤◌, ◌^◌, IfOk, MatchResult, length, map, None, Some};
 ghost use Rattle.run_ports.specs.Reading.{AreBytesOf};
 ghost use Rattle.plan_docs.specs.Plans.{plan_view};
 ghost use Rattle.command_line.specs.Words.{asked, asked_file, file_of};
 ghost use Rattle.page_judges.specs.Typed.{AllFit};
+ghost use Rattle.task_executor.specs.Wirings.{AreFew};
 ghost use Rattle.tree_evaluator.specs.Fits.{TablesFit, kinds};
 ghost use Rattle.plan_fits.specs.Tables.{HaveColumns, WasRead};
 ghost use Rattle.trinorun.specs.Jobs.{AreTablesAsked, first_without_file, IsPlanAsked, IsTableAsked, rows_of};
@@ -10,7 +11,7 @@ ghost use Rattle.trinorun.specs.Loading.{FilesFail, PlanFails, name_path, ReadFa
 
 use crate::status::Status;
 use command_line::{Job, TableFile};
-use csv_tables::{TableFault, read_table, rows_of_a_table_fit};
+use csv_tables::{TableFault, read_table, rows_of_a_table_are_few, rows_of_a_table_fit};
 use plan_places::{Key, Step, pointer_of};
 use plan_reader::{Plan, PlanFault, TableDoc, read_plan};
 use run_ports::{FileFault, Files};
@@ -115,6 +116,7 @@ pub fn load_tables<F: Files>(
         ≡ map (λ doc. file_of doc.name (asked job.now).files) docs.now }
     ensures columns { IfOk result (λ tables. HaveColumns docs.now tables.items) }
     ensures fits { IfOk result (λ tables. TablesFit tables.items) }
+    ensures few { IfOk result (λ tables. AreFew tables.items) }
     ensures same { F.holds files.new ≡ F.holds files.old }
     ensures later { F.faults files.old ≤ F.faults files.new }
     ensures answer { MatchResult result
@@ -143,6 +145,7 @@ fn load_table<F: Files>(
     requires { file_of doc.now.name (asked job.now).files ≡ Some (asked_file found) }
     ensures columns { IfOk result (λ table. table.columns ≡ doc.now.columns) }
     ensures fits { IfOk result (λ table. AllFit (kinds table.columns) table.rows) }
+    ensures few { IfOk result (λ table. length table.rows < 2 ^ 32) }
     ensures same { F.holds files.new ≡ F.holds files.old }
     ensures later { F.faults files.old ≤ F.faults files.new }
     ensures answer { MatchResult result
@@ -154,12 +157,9 @@ fn load_table<F: Files>(
     let bytes = read_file(alloc, files, found.file, number)?;
     match read_table(alloc, doc.columns.as_slice(), ROW_LIMIT, bytes.as_slice()) {
         Ok(table) => {
-            rows_of_a_table_fit(
-                doc.columns.as_slice(),
-                ROW_LIMIT,
-                bytes.as_slice(),
-                &table.rows,
-            );
+            let columns = doc.columns.as_slice();
+            rows_of_a_table_fit(columns, ROW_LIMIT, bytes.as_slice(), &table.rows);
+            rows_of_a_table_are_few(columns, ROW_LIMIT, bytes.as_slice(), &table.rows);
             Ok(table)
         }
         Err(TableFault::Refused { row, column, why }) => Err(Status::TableRefused {

@@ -1,14 +1,25 @@
 //! `run` over the objects in memory: each row is a plan over a table, and the answer: the exit
 //! status, what was written and what was told, with a `|` between them.
-use crate::top::run;
+ghost use Rattle.plan_docs.specs.Plans.{plan_view};
+ghost use Rattle.plan_fits.specs.Tables.{HaveColumns, WasRead};
+ghost use Rattle.tree_evaluator.specs.Fits.{TablesFit};
+
+use crate::load;
+use crate::top::{result_of, run, shape_of};
+use command_line::read_words;
+use csv_tables::text_of;
+use plan_fits::tree_of_a_plan_fits;
+use plan_reader::{Plan, tree};
+use plan_trees::types_of_tree;
 use run_ports::{MemFiles, MemSink, NamedBytes, NoMeet, ReplayCourier};
-use sql_values::Text;
+use sql_values::{Table, Text};
 use std::alloc::Global;
 use std::random::RandomSource;
 use std::str;
 use std::sync::Wait;
 use std::test::Fail;
 use std::thread::Threads;
+use tree_evaluator::evaluate;
 
 const WORDS: &str = "--plan p t=t";
 
@@ -235,5 +246,87 @@ fn tables_that_are_refused(rt: HostRuntime) -> Result<(), Fail> {
 fn a_result_that_cannot_be_written_whole(rt: HostRuntime) -> Result<(), Fail> {
     let answer = "7|a\n3\n1\n\\N|trinorun: cannot write\n";
     assert!(rt; scan_gives(&rt, WORDS, "a\n3\n1\n\\N\n", (0, 3), answer)?);
+    Ok(())
+}
+
+/// A project of `10 / (a - 4)` over a filter that leaves out the 4.
+const DIVIDES: &str =
+    "{\"id\":1,\"op\":\"project\",\"columns\":[{\"col\":0},{\"call\":\"/\",\"args\":[\
+    {\"lit\":\"10\",\"type\":\"bigint\"},{\"call\":\"-\",\"args\":[{\"col\":0},{\"lit\":\"4\",\
+    \"type\":\"bigint\"}]}]}],\"input\":{\"id\":2,\"op\":\"filter\",\"predicate\":{\"call\":\"<>\",\
+    \"args\":[{\"col\":0},{\"lit\":\"4\",\"type\":\"bigint\"}]},\"input\":{\"id\":9,\"op\":\"scan\",\
+    \"table\":\"t\",\"columns\":[\"a\"]}}}";
+
+const TEN_ROWS: &str = "a\n1\n2\n3\n4\n5\n\\N\n7\n8\n9\n10\n";
+
+/// The text of what the plain evaluator gives.
+fn plain_text(alloc: Global, plan: &Plan, tables: &[Table]) -> Result<Vec<u8>, Fail>
+    requires read { WasRead (plan_view plan.now) }
+    requires columns { HaveColumns (plan_view plan.now).tables tables.now }
+    requires fit { TablesFit tables.now }
+{
+    let tree = tree(alloc, plan)?;
+    tree_of_a_plan_fits(plan, tables);
+    let rows = evaluate(alloc, &tree, tables)?;
+    let types = types_of_tree(alloc, &tree)?;
+    Ok(text_of(alloc, plan.output.as_slice(), types.as_slice(), &rows)?)
+}
+
+/// Whether a run under these words and picks gives what the plain evaluator gives.
+fn gives_the_same<R: Threads + Wait + Sync + RandomSource + AllocGlobal>(
+    rt: &R,
+    words: &str,
+    plan: &str,
+    picks: &[u32],
+) -> Result<bool, Fail> {
+    let alloc = rt.alloc();
+    let words = words_in(alloc, words)?;
+    let Some(job) = read_words(&words) else {
+        return Ok(false);
+    };
+    let mut files = files_of(alloc, plan, TEN_ROWS, 0)?;
+    let Ok(plan) = load::load_plan(alloc, &job, &mut files) else {
+        return Ok(false);
+    };
+    let docs = plan.tables.as_slice();
+    let Ok(found) = load::files_of(alloc, &job, docs) else {
+        return Ok(false);
+    };
+    let Ok(tables) = load::load_tables(alloc, &job, docs, &found, &mut files) else {
+        return Ok(false);
+    };
+    let Ok(text) = result_of(rt, alloc, &shape_of(&job), &plan, &tables, picks) else {
+        return Ok(false);
+    };
+    Ok(text == plain_text(alloc, &plan, &tables)?)
+}
+
+#[test]
+fn every_cutting_gives_what_the_plain_evaluator_gives(rt: HostRuntime) -> Result<(), Fail> {
+    let alloc = rt.alloc();
+    let plan = plan_of(alloc, A, "\"a\",\"q\"", DIVIDES)?;
+    for split in 1..13u32 {
+        for page in 1..13u32 {
+            let cut = format!(in alloc; "--plan p --split {split} --page {page} t=t")?;
+            assert!(rt; gives_the_same(&rt, &cut, &plan, &[])?);
+        }
+    }
+    let small = "--plan p --quantum 1 --page 3 --split 4 t=t";
+    assert!(rt; gives_the_same(&rt, small, &plan, &[])?);
+    assert!(rt; gives_the_same(&rt, small, &plan, &[0, 0, 0])?);
+    assert!(rt; gives_the_same(&rt, WORDS, &plan, &[7, 1, 4294967295])?);
+    Ok(())
+}
+
+#[test]
+fn rows_of_every_split_are_kept(rt: HostRuntime) -> Result<(), Fail> {
+    let words = "--plan p --split 4 --page 3 --quantum 1 t=t";
+    let root = "{\"id\":1,\"op\":\"filter\",\"predicate\":{\"call\":\">\",\"args\":[{\"col\":0},\
+        {\"lit\":\"1\",\"type\":\"bigint\"}]},\"input\":{\"id\":9,\"op\":\"scan\",\"table\":\"t\",\
+        \"columns\":[\"a\"]}}";
+    let plan = plan_of(rt.alloc(), A, "\"a\"", root)?;
+    let table = "a\n1\n2\n3\n4\n5\n6\n7\n8\n9\n10\n";
+    let answer = answer_of(&rt, words, &plan, table, (0, 0))?;
+    assert_eq!(rt; answer.as_str(), "0|a\n2\n3\n4\n5\n6\n7\n8\n9\n10\n|");
     Ok(())
 }

@@ -1,7 +1,8 @@
 ghost use Rattle.std.specs.Prelude.{◌≡◌, ◌↔◌, ◌≤◌, ℕ, [], map, None, Ok, Err, IfOk, MatchResult};
 ghost use Rattle.plan_docs.specs.Plans.{plan_view};
-ghost use Rattle.command_line.specs.Words.{asked, job_of};
+ghost use Rattle.command_line.specs.Words.{HasBounds, asked, job_of};
 ghost use Rattle.plan_fits.specs.Tables.{HaveColumns, WasRead};
+ghost use Rattle.task_executor.specs.Wirings.{AreFew, IsShape};
 ghost use Rattle.tree_evaluator.specs.Fits.{TablesFit};
 ghost use Rattle.trinorun.specs.Answers.{Answered, IsComplete, IsTextOf, JobAnswered, PlanAnswered, RunFails, status_of};
 ghost use Rattle.trinorun.specs.Jobs.{Contents, rows_of};
@@ -11,7 +12,7 @@ use crate::load::{files_of, load_plan, load_tables};
 use crate::status::Status;
 use command_line::{Job, read_words};
 use csv_tables::text_of;
-use plan_fits::tree_of_a_plan_fits;
+use plan_fits::{plans_are_pipelines, tree_of_a_plan_fits};
 use plan_reader::{Plan, tree};
 use plan_trees::types_of_tree;
 use run_ports::{Courier, Files, Meet, Sink, write_whole};
@@ -20,13 +21,13 @@ use std::alloc::Global;
 use std::random::RandomSource;
 use std::sync::Wait;
 use std::thread::Threads;
-use tree_evaluator::{EvalStop, evaluate};
+use task_executor::{Net, RunFault, Shape, Wiring, run_alone};
 
 /// Runs the plan that the words name over the tables that they name, and writes the result's text
 /// to `out`. For each answer but Ok it writes one line to `err`.
 #[tactic(auto, using(crate::proofs::CompletenessLemmas::complete))]
 pub fn run<R, F, O, E, C, M>(
-    _rt: &R,
+    rt: &R,
     alloc: Global,
     words: &[Text],
     files: &mut F,
@@ -73,17 +74,24 @@ where
         tell_first(err, &Status::BadWords);
         return Status::BadWords;
     };
-    run_job(alloc, &job, files, out, err)
+    run_job(rt, alloc, &job, files, out, err)
 }
 
 /// Does what the words ask for.
-fn run_job<F: Files, O: Sink, E: Sink>(
+fn run_job<R, F, O, E>(
+    rt: &R,
     alloc: Global,
     job: &Job<'_>,
     files: &mut F,
     out: &mut O,
     err: &mut E,
 ) -> Status
+where
+    R: Threads + Wait + Sync + RandomSource + AllocGlobal,
+    F: Files,
+    O: Sink,
+    E: Sink,
+    requires { HasBounds (asked job.now) }
     ensures answer { JobAnswered (asked job.now) (record {
       held = F.holds files.old;
       read_faults_before = F.faults files.old;
@@ -107,7 +115,7 @@ fn run_job<F: Files, O: Sink, E: Sink>(
             return status;
         }
     };
-    let status = status_of(run_plan(alloc, job, &plan, files, out));
+    let status = status_of(run_plan(rt, alloc, job, &plan, files, out));
     tell(err, job, plan.tables.as_slice(), &status);
     status
 }
@@ -123,14 +131,20 @@ fn status_of(done: Result<(), Status>) -> Status
 }
 
 /// Runs the plan over its tables.
-fn run_plan<F: Files, O: Sink>(
+fn run_plan<R, F, O>(
+    rt: &R,
     alloc: Global,
     job: &Job<'_>,
     plan: &Plan,
     files: &mut F,
     out: &mut O,
 ) -> Result<(), Status>
-    requires { WasRead (plan_view plan.now) }
+where
+    R: Threads + Wait + Sync + RandomSource + AllocGlobal,
+    F: Files,
+    O: Sink,
+    requires bounds { HasBounds (asked job.now) }
+    requires read { WasRead (plan_view plan.now) }
     ensures same { F.holds files.new ≡ F.holds files.old }
     ensures later { F.faults files.old ≤ F.faults files.new }
     ensures answer { (held : Contents) (before : ℕ)
@@ -148,26 +162,54 @@ fn run_plan<F: Files, O: Sink>(
 {
     let found = files_of(alloc, job, plan.tables.as_slice())?;
     let tables = load_tables(alloc, job, plan.tables.as_slice(), found.as_slice(), files)?;
-    let text = result_of(alloc, plan, tables.as_slice())?;
+    let text = result_of(rt, alloc, &shape_of(job), plan, tables.as_slice(), &[])?;
     write_whole(out, text.as_slice())?;
     Ok(())
 }
 
-/// The text of what the plan gives over its tables.
-fn result_of(alloc: Global, plan: &Plan, tables: &[Table]) -> Result<Vec<u8>, Status>
+/// The text of what the plan gives over its tables, under these picks of drivers.
+pub(crate) fn result_of<R>(
+    rt: &R,
+    alloc: Global,
+    shape: &Shape,
+    plan: &Plan,
+    tables: &[Table],
+    picks: &[u32],
+) -> Result<Vec<u8>, Status>
+where
+    R: Threads + Wait + Sync + RandomSource + AllocGlobal,
+    requires shape { IsShape shape.now }
     requires read { WasRead (plan_view plan.now) }
     requires columns { HaveColumns (plan_view plan.now).tables tables.now }
     requires fit { TablesFit tables.now }
+    requires few { AreFew tables.now }
     ensures { MatchResult result
         (λ text. IsTextOf (plan_view plan.now) (map rows_of tables.now) text.items)
         (RunFails (plan_view plan.now) (map rows_of tables.now)) }
 {
-    let tree = tree(alloc, plan)?;
-    let types = types_of_tree(alloc, &tree)?;
+    let types = types_of_tree(alloc, &tree(alloc, plan)?)?;
     tree_of_a_plan_fits(plan, tables);
-    match evaluate(alloc, &tree, tables) {
-        Ok(rows) => Ok(text_of(alloc, plan.output.as_slice(), types.as_slice(), &rows)?),
-        Err(EvalStop::ExprFailed { node, kind }) => Err(Status::ExprFailed { node, kind }),
-        Err(EvalStop::Memory) => Err(Status::Memory),
+    plans_are_pipelines(plan, tables);
+    let mut wiring = Wiring::build(alloc, plan, tables, shape)?;
+    let net = Net::build(alloc, plan, tables, &mut wiring, shape)?;
+    match run_alone(rt, alloc, net, shape, picks) {
+        Ok(done) => {
+            let rows = &done.rows;
+            Ok(text_of(alloc, plan.output.as_slice(), types.as_slice(), rows)?)
+        }
+        Err(RunFault::ExprFailed { node, kind }) => Err(Status::ExprFailed { node, kind }),
+        Err(RunFault::Memory) => Err(Status::Memory),
+    }
+}
+
+/// How a job cuts its tables and its work.
+pub(crate) fn shape_of(job: &Job<'_>) -> Shape
+    requires { HasBounds (asked job.now) }
+    ensures { IsShape result }
+{
+    Shape {
+        split: job.split,
+        page: job.page,
+        quantum: job.quantum,
     }
 }

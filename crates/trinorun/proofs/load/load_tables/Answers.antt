@@ -1,7 +1,7 @@
 use Rattle.std.proofs.Common.{◌≡◌, ◌≤◌, ◌<◌, ℕ, length, Some, ◌∙◌, sym, ap}
 use native.Mathlib.Omega.{arith}
 use Rattle.command_line.specs.Words.{asked}
-use Rattle.trinorun.proofs.TableLemmas.{columns_more, fits_more, item_there, loop_step}
+use Rattle.trinorun.proofs.TableLemmas.{columns_more, few_more, fits_more, item_there, loop_step}
 use Rattle.trinorun.proofs.load.load_tables.Goals as goal
 
 -- src/load.rt:114:5
@@ -22,4 +22,5 @@ loop-place-preserved g c =
       columns_more c.args.docs.now c.loop-place.tables.items c.push.new.self.items c.in_ok-table.table c.loop-place.place c.index-docs-place.result
           c.loop-place.invariant.3 here c.in_ok-table.ensures.columns c.in_ok-push.ensures.items,
       fits_more c.loop-place.tables.items c.push.new.self.items c.in_ok-table.table c.loop-place.invariant.4 c.in_ok-table.ensures.fits c.in_ok-push.ensures.items,
+      few_more c.loop-place.tables.items c.push.new.self.items c.in_ok-table.table c.loop-place.invariant.5 c.in_ok-table.ensures.few c.in_ok-push.ensures.items,
     )

@@ -2,6 +2,7 @@ use Rattle.std.proofs.Common.{◌≡◌, ℕ, ◌+◌, ◌-◌, ◌*◌, ◌<◌
 use Rattle.command_line.specs.Words.{asked, asked_file, file_of}
 use Rattle.trinorun.specs.Jobs.{AreTablesAsked, rows_of}
 use Rattle.plan_fits.specs.Tables.{HaveColumns}
+use Rattle.task_executor.specs.Wirings.{AreFew}
 use Rattle.tree_evaluator.specs.Fits.{TablesFit}
 use Rattle.trinorun.proofs.load.load_tables.Given as goal
 
@@ -12,3 +13,4 @@ invariant-loop-place g l =
     × (g.F.Files.faults l.initial.files ≤ g.F.Files.faults l.files)
     × HaveColumns (take l.place l.docs) l.tables.items
     × TablesFit l.tables.items
+    × AreFew l.tables.items

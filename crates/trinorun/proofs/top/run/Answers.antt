@@ -5,7 +5,7 @@ use Rattle.trinorun.proofs.top.run.Goals as goal
 
 pub returns-clause-complete : goal.returns-clause-complete
 returns-clause-complete g c =
-    let is : job_of c.args.words.now ≡ Some (asked c.in-Some.job) = sym c.read_words.ensures ∙ ap (option_map asked) c.in-Some.is in
+    let is : job_of c.args.words.now ≡ Some (asked c.in-Some.job) = sym c.read_words.ensures.job ∙ ap (option_map asked) c.in-Some.is in
     complete (job_of c.args.words.now)
     (record {
       held = g.F.Files.holds c.args.files.now;

@@ -16,7 +16,7 @@ use Rattle.tree_evaluator.specs.Fits.{FitsTables}
 use Rattle.plan_runs.specs.RunPlans.{RunPlan, tree_of_run, scan, values, remote, filter, project, join, aggregate, aggregate_parts, sort, topn, topn_parts, limit, limit_parts, union}
 use Rattle.plan_runs.specs.Spreads.{Tables}
 use Rattle.stage_meanings.proofs.MeaningLemmas.{front-fits}
-use Rattle.stage_meanings.proofs.RowLemmas.{fits-width}
+use Rattle.row_ops.proofs.OwnLemmas.{fits-width}
 use Rattle.plan_pipelines.specs.Sources.{IsPipeline, source_rows, source_types}
 
 -- a tree that fits tables fits in its widths

@@ -17,7 +17,7 @@ use Rattle.relations.specs.Verdicts.{Verdict}
 use Rattle.bag_laws.proofs.BagLemmas.{same-append_comm, same-refl}
 use Rattle.page_judges.specs.Judged.{first_failure, rows_before}
 use Rattle.page_judges.specs.Typed.{AllFit, IsTyped}
-use Rattle.row_ops.specs.RowJudges.{row_judge}
+use Rattle.row_ops.specs.RowJudges.{columns_in, row_judge}
 use Rattle.operator_core.specs.declared.operator.Operator.{Ghosts}
 use Rattle.operator_core.specs.Rows.{Row}
 use Rattle.operator_core.specs.Calls.{IsLawful}
@@ -36,7 +36,6 @@ use Rattle.plan_runs.specs.Nets as stage
 use Rattle.plan_runs.specs.Spreads.{Tables}
 use Rattle.stage_meanings.specs.Meanings.{AllMean}
 use Rattle.stage_meanings.specs.Pipelines.{at_node}
-use Rattle.stage_meanings.specs.RowMeanings.{columns_in}
 use Rattle.stage_meanings.proofs.RowLemmas.{filter_means}
 use Rattle.plan_pipelines.specs.Fragments.{IsOneFragment, run_of}
 use Rattle.plan_pipelines.specs.Sources.{pipeline_of, source_rows}

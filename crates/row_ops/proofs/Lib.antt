@@ -1,3 +1,4 @@
+pub mod OwnLemmas
 pub mod JudgeLemmas
 pub mod HeldLemmas
 pub mod PageLemmas

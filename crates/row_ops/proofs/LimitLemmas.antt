@@ -1,14 +1,13 @@
 -- What `LimitOp` may give after it took a page in.
-use Rattle.std.proofs.Common.{◌≡◌, ◌-◌, ℕ, zero, suc, List, [], ◌∷◌, ◌++◌, length, take, subst, Bool, true, false, not, ◌||◌, refl, ap, sym, ◌∙◌, Option, Some, None, inl, inr, arith}
-use Rattle.std.specs.Prelude.{MatchOption, All, IsTrue}
+use Rattle.std.proofs.Common.{◌≡◌, ◌-◌, ℕ, zero, suc, List, [], ◌∷◌, ◌++◌, length, take, subst, refl, ap, sym, ◌∙◌, Option, Some, None, inl, inr, arith}
+use Rattle.std.specs.Prelude.{MatchOption, IsTrue}
 use Rattle.std.proofs.lemmas.List.Elements.{All-take}
-use Rattle.sql_values.specs.declared.types.SqlType.{SqlType}
 use Rattle.sql_values.specs.declared.value.Value.{Value}
 use Rattle.sql_values.specs.ColumnRows.{fits_row}
 use Rattle.col_pages.specs.Pages.{TypedPage}
 use Rattle.page_judges.specs.Typed.{AllFit}
 use Rattle.row_ops.specs.RowJudges.{IsOf}
-use Rattle.row_ops.specs.RowsHeld.{rows_held, IsHeld}
+use Rattle.row_ops.specs.RowsHeld.{rows_held}
 use Rattle.row_ops.specs.Limits.{LimitGives, MayPassPage}
 
 -- the first rows of a page, or none where it has none of them

@@ -1,5 +1,5 @@
 -- Laws of `LimitOp`.
-use Rattle.std.specs.Prelude.{◌≡◌, ◌↔◌, ℕ, List, [], ◌++◌, Bool, false, take}
+use Rattle.std.specs.Prelude.{◌≡◌, ◌↔◌, ℕ, List, [], ◌++◌, false, take}
 use Rattle.std.proofs.Common.{ap, sym, ◌∙◌, append-nil}
 use Rattle.sql_values.specs.declared.value.Value.{Value}
 use Rattle.operator_core.specs.Samples.{has_row}

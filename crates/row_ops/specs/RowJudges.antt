@@ -1,9 +1,10 @@
 -- What a predicate, where there is one, and then columns say of a row, and of which pages they can.
 use Rattle.std.specs.Prelude.{◌≡◌, ◌<◌, List, [], ◌∷◌, map, length, Bool, true, false, ◌&&◌, is_ok, Option, Some, None}
+use Rattle.std.specs.List.{range_with_len}
 use Rattle.sql_values.specs.declared.types.SqlType.{SqlType}
 use Rattle.sql_values.specs.declared.value.Value.{Value}
 use Rattle.col_pages.specs.Pages.{TypedPage}
-use Rattle.sql_exprs.specs.Forms.{Form}
+use Rattle.sql_exprs.specs.Forms.{Form, column}
 use Rattle.sql_exprs.specs.Meaning.{kind_of}
 use Rattle.sql_exprs.specs.Typing.{form_type}
 use Rattle.relations.specs.Verdicts.{Verdict, keeps, drops, fails}
@@ -20,6 +21,10 @@ and_then (fails kind) next = fails kind
 abbrev pub row_judge : List SqlType → Option Form → List Form → List Value → Verdict
 row_judge types None columns row = project_judge types columns row
 row_judge types (Some predicate) columns row = and_then (filter_judge types predicate row) (project_judge types columns)
+
+-- each column of rows of these types, in order
+abbrev pub columns_in : List SqlType → List Form
+columns_in types = map column (range_with_len 0 (length types))
 
 -- the types of the columns
 abbrev pub kinds : List SqlType → List Form → List SqlType

@@ -1,5 +1,6 @@
-ghost use Rattle.std.specs.Prelude.{◌≡◌, Some, IfOk, map, option_map};
-ghost use Rattle.sql_exprs.specs.Forms.{form_view};
+ghost use Rattle.std.specs.Prelude.{◌≡◌, Some, IfOk, IsTrue, map, option_map};
+ghost use Rattle.std.specs.List.{range_with_len};
+ghost use Rattle.sql_exprs.specs.Forms.{column, form_view};
 ghost use Rattle.page_judges.specs.Judged.{judged};
 ghost use Rattle.page_judges.specs.Typed.{AllFit};
 ghost use Rattle.row_ops.specs.RowJudges.{AreTyped, kinds, row_judge};
@@ -49,9 +50,36 @@ fn filter_and_project(
         (kinds page.types (map form_view columns.now)) page.rows) }
 {
     let kept = filter_page(alloc, predicate, page)?;
+    if are_all_columns(columns, kept.page.types().len()) {
+        return Ok(kept);
+    }
     let mapped = project_page(alloc, columns, &kept.page)?;
     Ok(Judged {
         page: mapped.page,
         failure: mapped.failure.or(kept.failure),
     })
+}
+
+/// Whether these are so many columns of the input, each at its own place.
+fn are_all_columns(columns: &[Expr], count: usize) -> bool
+    ensures { IsTrue result → map form_view columns.now ≡ map column (range_with_len 0 count) }
+{
+    if columns.len() != count {
+        return false;
+    }
+    for (place, column) in columns.iter().enumerate() {
+        if !is_column(column, place) {
+            return false;
+        }
+    }
+    true
+}
+
+fn is_column(expr: &Expr, place: usize) -> bool
+    ensures { IsTrue result → form_view expr.now ≡ column place }
+{
+    match expr {
+        Expr::Column(own) => *own as usize == place,
+        _ => false,
+    }
 }

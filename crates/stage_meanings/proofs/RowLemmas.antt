@@ -1,38 +1,27 @@
 -- What an operator that judges row by row means.
-use Rattle.std.proofs.Common.{◌≡◌, ◌⊎◌, inl, inr, ℕ, zero, suc, ◌+◌, ◌<◌, List, [], ◌∷◌, ◌++◌, Bool, true, false, length, get_or, map, take, drop, refl, sym, ap, subst, ◌∙◌, arith, append_assoc, append-nil, length-append, Option, Some, None}
-use Rattle.std.specs.Prelude.{◌&&◌, Ok, Err, if◌then◌else◌, slice_get}
+use Rattle.std.proofs.Common.{◌≡◌, ◌⊎◌, inl, inr, ℕ, zero, suc, ◌+◌, ◌<◌, List, [], ◌∷◌, ◌++◌, Bool, true, length, map, take, drop, refl, sym, ap, subst, ◌∙◌, arith, append_assoc, append-nil, length-append, Option, Some, None}
+use Rattle.std.specs.Prelude.{Ok, slice_get}
 use Rattle.std.specs.Option.{ok_or}
 use Rattle.std.specs.List.{range_with_len}
-use Rattle.std.proofs.lemmas.List.{map-append, take-append-drop}
+use Rattle.std.proofs.lemmas.List.{take-append-drop}
 use Rattle.std.proofs.lemmas.List.FromFn.{length-map-range_with_len}
 use Rattle.std.proofs.lemmas.List.Elements.{Contains-append_left}
-use Rattle.std.proofs.lemmas.Option.{unwrap_or-slice_get}
-use Rattle.std.proofs.Math.Seq.{get_or-append_seam}
 use Rattle.sql_values.specs.declared.types.SqlType.{SqlType}
-use Rattle.sql_values.specs.declared.value.Value.TheVariants.{Null}
 use Rattle.sql_values.specs.declared.fail.Fail.{Fail}
-use Rattle.sql_values.specs.Cells.{cell}
-use Rattle.sql_values.specs.Blocks.{fits}
-use Rattle.sql_values.specs.ColumnRows.{fits_row}
-use Rattle.sql_functions.specs.Outcomes.{Outcome}
-use Rattle.sql_functions.specs.Truth.{is_true}
-use Rattle.sql_exprs.specs.declared.expr.Expr.{Expr}
-use Rattle.sql_exprs.specs.declared.expr.Expr.TheFolds.{fold-roll-Expr}
-use Rattle.sql_exprs.specs.declared.expr.Expr.TheVariants.{Column, rolls-Column}
-use Rattle.sql_exprs.specs.Forms.{Form, branch_step, column, form_step, form_view}
-use Rattle.sql_exprs.specs.Meaning.{kind_of, value_of}
-use Rattle.relations.specs.Aggregates.{all_values, with_first}
+use Rattle.sql_exprs.specs.Forms.{Form, column}
+use Rattle.sql_exprs.specs.Meaning.{kind_of}
 use Rattle.relations.specs.Sorts.{IsBeginning}
-use Rattle.relations.specs.Verdicts.{Verdict, keeps, drops, kept_rows, verdict_of}
+use Rattle.relations.specs.Verdicts.{Verdict, kept_rows}
 use Rattle.plan_trees.specs.Allowed.{Judged, strict}
-use Rattle.plan_trees.specs.Judges.{filter_judge, filtered, project_judge}
+use Rattle.plan_trees.specs.Judges.{filter_judge, project_judge}
 use Rattle.page_judges.specs.Judged.{first_failure, rows_before}
 use Rattle.page_judges.specs.Typed.{AllFit, AllTyped, IsTyped}
-use Rattle.page_judges.proofs.FilterLemmas.{Agree, first_fits, rest_fits, same_failure, same_rows}
+use Rattle.page_judges.proofs.FilterLemmas.{Agree, same_failure, same_rows}
 use Rattle.page_judges.proofs.FitLemmas.{filter_fits, project_fits}
 use Rattle.page_judges.proofs.JudgedLemmas.{is_judged}
 use Rattle.tree_evaluator.proofs.JudgeLemmas.{all_judged, failing_row}
-use Rattle.row_ops.specs.RowJudges.{AreTyped, and_then, row_judge}
+use Rattle.row_ops.specs.RowJudges.{AreTyped, columns_in, row_judge}
+use Rattle.row_ops.proofs.OwnLemmas.{filters-agree}
 use Rattle.operator_core.specs.declared.operator.Operator.{Ghosts}
 use Rattle.operator_core.specs.Rows.{Row}
 use Rattle.operator_core.specs.Stages.{NothingFails}
@@ -42,53 +31,7 @@ use Rattle.plan_runs.specs.Stops.{MayCome}
 use Rattle.plan_runs.proofs.GoOnLemmas.{BeginsWith, begins_before, goes_on-filter, goes_on-project}
 use Rattle.stage_meanings.specs.Pipelines.{FailsIn, FailsOn, at_node}
 use Rattle.stage_meanings.specs.Meanings.{CanGive, Means}
-use Rattle.stage_meanings.specs.RowMeanings.{JudgesRows, columns_in}
-
--- the columns of a row are the row
-columns-from : (types : List SqlType) (done row : Row) (n : ℕ) → n ≡ length done
-    → all_values (map (λ c. value_of types c (done ++ row)) (map column (range_with_len n (length row)))) ≡ Ok row
-columns-from types done [] n e = refl
-columns-from types done (v ∷ row) n e =
-    let here : cell (done ++ v ∷ row) n ≡ v =
-    unwrap_or-slice_get (done ++ v ∷ row) n Null ∙ ap (λ (k : ℕ). get_or (done ++ v ∷ row) k Null) e ∙ get_or-append_seam done v row Null in
-    let later : all_values (map (λ c. value_of types c ((done ++ v ∷ []) ++ row)) (map column (range_with_len (n + 1) (length row)))) ≡ Ok row =
-    columns-from types (done ++ v ∷ []) row (n + 1) (omega (arith, e, length-append done (v ∷ []))) in
-    let same : (done ++ v ∷ []) ++ row ≡ done ++ v ∷ row = append_assoc done (v ∷ []) row in
-    let rest : all_values (map (λ c. value_of types c (done ++ v ∷ row)) (map column (range_with_len (n + 1) (length row)))) ≡ Ok row =
-    subst (λ (r : Row). all_values (map (λ c. value_of types c r) (map column (range_with_len (n + 1) (length row)))) ≡ Ok row) same later in
-    (λ i. with_first (here i) (rest i))
-
-second_true : (a b : Bool) → (a && b) ≡ true → b ≡ true
-second_true true b h = h
-second_true false b h = cc
-
-pub fits-width : (types : List SqlType) (row : Row) → fits_row types row ≡ true → length row ≡ length types
-fits-width [] [] fit = refl
-fits-width [] (v ∷ row) fit = cc
-fits-width (kind ∷ types) [] fit = cc
-fits-width (kind ∷ types) (v ∷ row) fit = ap suc (fits-width types row (second_true (fits kind v) (fits_row types row) fit))
-
--- a row that fits is the row of its columns
-pub columns-keep : (types : List SqlType) (row : Row) → fits_row types row ≡ true → project_judge types (columns_in types) row ≡ keeps row
-columns-keep types row fit =
-    ap verdict_of
-    (subst (λ (k : ℕ). all_values (map (λ c. value_of types c row) (map column (range_with_len 0 k))) ≡ Ok row) (fits-width types row fit) (columns-from types [] row 0 refl))
-
-kept-at : (row : Row) (next : Row → Verdict) (b : Bool) → next row ≡ keeps row → and_then (if b then keeps row else drops) next ≡ (if b then keeps row else drops)
-kept-at row next true e = e
-kept-at row next false e = refl
-
-filtered-at : (row : Row) (next : Row → Verdict) (here : Outcome) → next row ≡ keeps row → and_then (filtered row here) next ≡ filtered row here
-filtered-at row next (Ok v) e = kept-at row next (is_true v) e
-filtered-at row next (Err kind) e = refl
-
-filters-agree : (types : List SqlType) (predicate : Form) (rows : List Row) → AllFit types rows
-    → Agree (row_judge types (Some predicate) (columns_in types)) (filter_judge types predicate) rows
-filters-agree types predicate [] fit = tt
-filters-agree types predicate (row ∷ rows) fit = (
-  filtered-at row (project_judge types (columns_in types)) (value_of types predicate row) (columns-keep types row (first_fits types row rows fit)),
-  filters-agree types predicate rows (rest_fits types row rows fit),
-)
+use Rattle.stage_meanings.specs.RowMeanings.{JudgesRows}
 
 projects-agree : (types : List SqlType) (columns : List Form) (rows : List Row) → Agree (row_judge types None columns) (project_judge types columns) rows
 projects-agree types columns [] = tt
@@ -208,22 +151,6 @@ columns-typed types = typed-from [] types 0 refl
 
 pub columns-length : (types : List SqlType) → length (columns_in types) ≡ length types
 columns-length types = length-map-range_with_len (λ (n : ℕ). column n) 0 (length types)
-
-pub view-column : (n : ℕ) → form_view (Column n) ≡ column n
-view-column n = ap form_view (sym (rolls-Column n)) ∙ fold-roll-Expr Form (Form × Form) form_step branch_step _
-
-ranged : (n m : ℕ) → range_with_len n (suc m) ≡ range_with_len n m ++ (n + m) ∷ []
-ranged n zero = ap (λ k. k ∷ []) (omega arith)
-ranged n (suc m) = ap (λ ks. n ∷ ks) (ranged (n + 1) m ∙ ap (λ k. range_with_len (n + 1) m ++ k ∷ []) (omega arith))
-
--- one column more
-pub columns-more : (held next : List Expr) (n : ℕ) → map form_view held ≡ map column (range_with_len 0 n) → next ≡ held ++ Column n ∷ []
-    → map form_view next ≡ map column (range_with_len 0 (n + 1))
-columns-more held next n h e =
-    let count : suc n ≡ n + 1 = omega arith in
-    let last : column n ≡ column (0 + n) = ap column (omega arith) in
-    ap (map form_view) e ∙ map-append form_view held (Column n ∷ []) ∙ (λ i. h i ++ (view-column n ∙ last) i ∷ [])
-    ∙ sym (map-append column (range_with_len 0 n) ((0 + n) ∷ [])) ∙ ap (map column) (sym (ranged 0 n)) ∙ ap (λ (k : ℕ). map column (range_with_len 0 k)) count
 
 pub columns-are : (types : List SqlType) (columns : List Form) (n : ℕ) → columns ≡ map column (range_with_len 0 n) → n ≡ length types → columns ≡ columns_in types
 columns-are types columns n same count = same ∙ ap (λ (k : ℕ). map column (range_with_len 0 k)) count

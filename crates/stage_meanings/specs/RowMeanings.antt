@@ -1,9 +1,6 @@
 -- Operators that judge row by row.
-use Rattle.std.specs.Prelude.{◌≡◌, ◌↔◌, ℕ, List, length, map, Some}
-use Rattle.std.specs.List.{range_with_len}
-use Rattle.sql_values.specs.declared.types.SqlType.{SqlType}
+use Rattle.std.specs.Prelude.{◌≡◌, ◌↔◌, ℕ, List, Some}
 use Rattle.sql_values.specs.declared.fail.Fail.{Fail}
-use Rattle.sql_exprs.specs.Forms.{Form, column}
 use Rattle.relations.specs.Verdicts.{Verdict}
 use Rattle.page_judges.specs.Judged.{first_failure, rows_before}
 use Rattle.operator_core.specs.declared.operator.Operator.{Ghosts}
@@ -15,7 +12,3 @@ pub record JudgesRows {S : Type 0} (g : Ghosts S) (m : S) (own : ℕ) (judge : R
   pub gives : (X Y : List Row) → g.may_give m X Y → Y ≡ rows_before judge X
   pub fails : (X : List Row) (node : ℕ) (kind : Fail) → g.may_still_fail m X node kind ↔ ((node ≡ own) × (first_failure judge X ≡ Some kind))
   pub learned : (s : S) → g.may_learn s m → ⊥
-
--- each column of rows of these types, in order
-abbrev pub columns_in : List SqlType → List Form
-columns_in types = map column (range_with_len 0 (length types))

@@ -7,13 +7,13 @@ ghost use Rattle.sql_exprs.specs.Meaning.{kind_of};
 ghost use Rattle.operator_core.specs.Rows.{Row};
 ghost use Rattle.operator_core.specs.Stages.{AreMadeOf, Chain, FailsAfter, Linked, ToldInTurn, last_finished};
 ghost use Rattle.page_judges.specs.Typed.{AllFit, AllTyped};
-ghost use Rattle.row_ops.specs.RowJudges.{row_judge};
+ghost use Rattle.row_ops.specs.RowJudges.{columns_in, row_judge};
 ghost use Rattle.plan_trees.specs.Allowed.{strict};
 ghost use Rattle.plan_runs.specs.Nets.{Chain as StageChain, filter, project};
 ghost use Rattle.plan_runs.specs.Stops.{CanGoOn};
 ghost use Rattle.stage_meanings.specs.Meanings.{ActsAs, AllMean, Means};
 ghost use Rattle.stage_meanings.specs.Pipelines.{FailsIn, NodeStage, at_node, stages_of};
-ghost use Rattle.stage_meanings.specs.RowMeanings.{JudgesRows, columns_in};
+ghost use Rattle.stage_meanings.specs.RowMeanings.{JudgesRows};
 
 use operator_core::Operator;
 use std::marker::PhantomData;

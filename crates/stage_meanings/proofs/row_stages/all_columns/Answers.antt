@@ -1,4 +1,4 @@
-use Rattle.stage_meanings.proofs.RowLemmas.{columns-more}
+use Rattle.row_ops.proofs.OwnLemmas.{columns-more}
 use Rattle.stage_meanings.proofs.row_stages.all_columns.Goals as goal
 
 pub loop-place-preserved : goal.loop-place-preserved

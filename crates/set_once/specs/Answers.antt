@@ -11,7 +11,8 @@ MayLearn note x = IfSome note.known (λ y. y ≡ x)
 
 -- the cell took the value; it refused, which was counted, and the note knows the value that it has;
 -- or memory was wanting, and the note is as it was
-abbrev pub IsSet : {T : Type 0} → NoteState T → NoteState T → T → Result (Unit {0}) (SetFault T) → Type 0
+abbrev pub IsSet : {T : Type 0} → NoteState T → NoteState T → T → Result (Unit {0}) (SetFault T)
+    → Type 0
 IsSet old new value (Ok done) = (old.known ≡ None) × (new ≡ record old { known = Some value })
 IsSet {T} old new value (Err (Refused back)) = (back ≡ value) × ((x : T) × MayLearn old x
     × (new ≡ record old { known = Some x; refused = next_count old.refused }))

@@ -18,7 +18,12 @@ impl<T> Model for SetNote<T> {
 
     ghost Value = { NoteState T };
 
-    ghost view = { λ n. record { cell = n.note.cell; known = n.note.known; refused = n.refused; empties = n.empties } };
+    ghost view = { λ n. record {
+      cell = n.note.cell;
+      known = n.note.known;
+      refused = n.refused;
+      empties = n.empties;
+    } };
 
     ghost use Rattle.std.specs.Prelude.{◌↔◌, IsTrue, IsSome};
 

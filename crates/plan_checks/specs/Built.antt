@@ -7,21 +7,31 @@ use Rattle.plan_grammar.specs.declared.kind.Kind.{Kind}
 use Rattle.plan_grammar.specs.declared.kind.Kind.TheVariants as kind
 use Rattle.plan_grammar.specs.declared.words.OpWord.{OpWord}
 use Rattle.plan_grammar.specs.declared.words.OpWord.TheVariants as op
+use Rattle.plan_grammar.specs.declared.words.StepWord.{StepWord}
+use Rattle.plan_grammar.specs.declared.words.StepWord.TheVariants as step
 use Rattle.plan_grammar.specs.Json.{entries_count, text_of}
 use Rattle.plan_grammar.specs.Spots.{Spot}
-use Rattle.plan_grammar.specs.Words.{op_named}
+use Rattle.plan_grammar.specs.Words.{op_named, step_named}
 
 -- the operators that are built
 abbrev pub is_built : OpWord → Bool
 is_built op.Scan = true
+is_built op.Values = true
 is_built op.Filter = true
 is_built op.Project = true
+is_built op.Sort = true
+is_built op.TopN = true
+is_built op.Limit = true
 is_built word = false
 
--- a step of any kind is not built, nor is a dynamic filter
+-- no half of an operator is built, nor is a dynamic filter
+abbrev pub is_whole : StepWord → Bool
+is_whole step.Single = true
+is_whole word = false
+
 abbrev pub wants_unbuilt : Kind → Data → Bool
 wants_unbuilt kind.Op value = not (is_built (op_named (text_of value)))
-wants_unbuilt kind.Step value = true
+wants_unbuilt kind.Step value = not (is_whole (step_named (text_of value)))
 wants_unbuilt kind.Filters value = nat_lt 0 (entries_count value)
 wants_unbuilt k value = false
 

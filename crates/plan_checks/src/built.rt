@@ -1,9 +1,9 @@
 ghost use Rattle.std.specs.Prelude.{◌≡◌, map, option_map};
 ghost use Rattle.std.specs.List.{find};
 ghost use Rattle.plan_grammar.specs.Spots.{spot_of};
-ghost use Rattle.plan_checks.specs.Built.{first_unbuilt, is_built, is_further, is_unbuilt};
+ghost use Rattle.plan_checks.specs.Built.{first_unbuilt, is_built, is_further, is_unbuilt, is_whole};
 
-use plan_grammar::{Kind, OpWord, Place, entries_count, op_named, text_of};
+use plan_grammar::{Kind, OpWord, Place, StepWord, entries_count, op_named, step_named, text_of};
 
 /// The second fragment, if there is one, and else the first form that is not built yet.
 pub fn first_unbuilt<'p, 'v>(places: &'p [Place<'v>]) -> Option<&'p Place<'v>>
@@ -48,7 +48,7 @@ fn is_unbuilt(place: &Place<'_>) -> bool
 {
     match place.kind {
         Kind::Op => !is_built(op_named(text_of(place.value))),
-        Kind::Step => true,
+        Kind::Step => !is_whole(step_named(text_of(place.value))),
         Kind::Filters => entries_count(place.value) > 0,
         _ => false,
     }
@@ -57,5 +57,20 @@ fn is_unbuilt(place: &Place<'_>) -> bool
 fn is_built(op: OpWord) -> bool
     ensures { result ≡ is_built op }
 {
-    matches!(op, OpWord::Scan | OpWord::Filter | OpWord::Project)
+    matches!(
+        op,
+        OpWord::Scan
+            | OpWord::Values
+            | OpWord::Filter
+            | OpWord::Project
+            | OpWord::Sort
+            | OpWord::TopN
+            | OpWord::Limit
+    )
+}
+
+fn is_whole(step: StepWord) -> bool
+    ensures { result ≡ is_whole step }
+{
+    matches!(step, StepWord::Single)
 }

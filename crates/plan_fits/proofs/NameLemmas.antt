@@ -33,7 +33,7 @@ use Rattle.plan_docs.specs.Parts.{column_of, columns_of}
 use Rattle.plan_docs.specs.ReadNodes.{inner_node, node_at, node_by}
 use Rattle.plan_docs.specs.ReadNodes as read
 use Rattle.plan_docs.specs.Words.{small}
-use Rattle.plan_pipelines.specs.Scans.{Scanned, scan_of}
+use Rattle.plan_pipelines.specs.Built.{Scanned, scan_of}
 use Rattle.plan_fits.proofs.FindLemmas.{both_none, first_false, not_false, rest_none, some_is}
 use Rattle.plan_fits.proofs.PlaceLemmas.{Free, Part-at, Passes, free_entry, free_here, free_part, in_list, not_beyond, part_passes, text_is, under_is}
 use Rattle.plan_fits.proofs.NodeLemmas.{IsNarrow, built_word, place_within, small_same}

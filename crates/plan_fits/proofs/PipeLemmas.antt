@@ -17,7 +17,7 @@ use Rattle.plan_docs.specs.Nodes.{NodeForm, scan, filter, project}
 use Rattle.plan_docs.specs.Plans.{PlanForm}
 use Rattle.plan_reader.specs.Judgement.{judgement_of, plan_refusal}
 use Rattle.plan_pipelines.specs.Fragments.{IsLocal}
-use Rattle.plan_pipelines.specs.Scans.{IsBuilt, IsRunnable, scan_of}
+use Rattle.plan_pipelines.specs.Built.{IsBuilt, IsRunnable, scan_of}
 use Rattle.plan_fits.specs.Tables.{HaveColumns, WasRead}
 use Rattle.plan_fits.proofs.FindLemmas.{first_option}
 use Rattle.plan_fits.proofs.NodeLemmas.{IsSound}

@@ -1,5 +1,5 @@
 ghost use Rattle.plan_docs.specs.Plans.{plan_view};
-ghost use Rattle.plan_pipelines.specs.Scans.{IsRunnable};
+ghost use Rattle.plan_pipelines.specs.Built.{IsRunnable};
 ghost use Rattle.plan_fits.specs.Tables.{HaveColumns, WasRead};
 
 use plan_reader::Plan;

@@ -1,3 +1,3 @@
 pub mod Fragments
 pub mod Sources
-pub mod Scans
+pub mod Built

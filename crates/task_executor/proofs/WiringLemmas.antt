@@ -28,7 +28,7 @@ use Rattle.driver_loop.specs.declared.source.Source.TheVariants.{Scan}
 use Rattle.driver_loop.specs.declared.stage.Stage.{Stage}
 use Rattle.driver_loop.specs.declared.target.Target.{Target}
 use Rattle.plan_pipelines.specs.Fragments.{IsOneFragment, run_of}
-use Rattle.plan_pipelines.specs.Scans.{IsBuilt, scan_of}
+use Rattle.plan_pipelines.specs.Built.{IsBuilt, scan_of}
 use Rattle.plan_pipelines.specs.Sources.{IsPipeline, pipeline_of, source_rows, source_types}
 use Rattle.plan_pipelines.proofs.FragmentLemmas.{fragment_runs}
 use Rattle.task_executor.specs.declared.pipeline.Pipeline.{Pipeline}

@@ -6,7 +6,7 @@ use Rattle.plan_docs.specs.Nodes.{NodeForm}
 use Rattle.plan_docs.specs.Nodes as node
 use Rattle.plan_docs.specs.Plans.{PlanForm}
 use Rattle.split_source.specs.Splits.{split_count}
-use Rattle.plan_pipelines.specs.Scans.{scan_of}
+use Rattle.plan_pipelines.specs.Built.{scan_of}
 use Rattle.task_executor.specs.declared.shape.Shape.{Shape}
 use Rattle.task_executor.specs.declared.wiring.Wiring.{Wiring}
 

@@ -5,7 +5,7 @@ ghost use Rattle.plan_reader.specs.Trees.{tree_of};
 ghost use Rattle.tree_evaluator.specs.Fits.{FitsTables, TablesFit};
 ghost use Rattle.tree_evaluator.specs.Stops.{rows_of};
 ghost use Rattle.plan_trees.specs.Allowed.{scanned};
-ghost use Rattle.plan_pipelines.specs.Scans.{IsReadFrom, IsRunnable};
+ghost use Rattle.plan_pipelines.specs.Built.{IsReadFrom, IsRunnable};
 ghost use Rattle.split_source.specs.Scans.{given};
 ghost use Rattle.split_source.specs.Seats.{AreAllOf};
 ghost use Rattle.split_source.specs.Splits.{split_count};

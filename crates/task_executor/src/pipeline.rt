@@ -6,7 +6,7 @@ ghost use Rattle.page_judges.specs.Typed.{AllTyped, IsTyped};
 ghost use Rattle.plan_docs.specs.Nodes.{node_view};
 ghost use Rattle.plan_runs.specs.Nets.{filter, project};
 ghost use Rattle.stage_meanings.specs.Pipelines.{at_node};
-ghost use Rattle.plan_pipelines.specs.Scans.{IsBuilt};
+ghost use Rattle.plan_pipelines.specs.Built.{IsBuilt};
 ghost use Rattle.task_executor.specs.Pipelines.{CanFit, Extends, IsMadeFor};
 
 use driver_loop::Stage;

@@ -2,7 +2,7 @@
 ghost use Rattle.std.specs.Prelude.{◌≡◌, ◌<◌, [], ◌∷◌, false, IfOk, length};
 ghost use Rattle.plan_docs.specs.Nodes.{node_view};
 ghost use Rattle.plan_docs.specs.Plans.{plan_view};
-ghost use Rattle.plan_pipelines.specs.Scans.{IsBuilt, IsRunnable, scan_of};
+ghost use Rattle.plan_pipelines.specs.Built.{IsBuilt, IsRunnable, scan_of};
 ghost use Rattle.split_source.specs.Seats.{AreAllOf, new_seat};
 ghost use Rattle.task_executor.specs.Wirings.{AreFew, IsShape, IsWiredFor, root_in};
 

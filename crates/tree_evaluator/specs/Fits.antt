@@ -1,5 +1,5 @@
--- Trees whose expressions have types, over tables and constants that fit the trees' types. Joins,
--- aggregates, sorts and top ns are not built yet: a tree with one fits no tables.
+-- Trees whose expressions have types, over tables and constants that fit the trees' types. Joins and
+-- aggregates are not built yet: a tree with one fits no tables.
 use Rattle.std.specs.Prelude.{◌≡◌, ℕ, ◌<◌, List, ◌∷◌, All, length, map, slice_get, Option, Some, None}
 use Rattle.sql_values.specs.declared.types.Column.{Column}
 use Rattle.sql_values.specs.declared.types.SqlType.{SqlType}
@@ -20,8 +20,8 @@ FitsTables (filter id predicate input) tables = IsTyped (types_of input) predica
 FitsTables (project id columns input) tables = (0 < length columns) × AllTyped (types_of input) columns × FitsTables input tables
 FitsTables (join id kind on left right) tables = ⊥
 FitsTables (aggregate id keys calls input) tables = ⊥
-FitsTables (sort id keys input) tables = ⊥
-FitsTables (topn id count keys input) tables = ⊥
+FitsTables (sort id keys input) tables = FitsTables input tables
+FitsTables (topn id count keys input) tables = FitsTables input tables
 FitsTables (limit id count input) tables = FitsTables input tables
 FitsTables (union id left right) tables = (types_of left ≡ types_of right) × FitsTables left tables × FitsTables right tables
 

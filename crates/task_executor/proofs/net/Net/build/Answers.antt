@@ -1,5 +1,5 @@
 use Rattle.std.proofs.Common.{map, subst}
-use Rattle.plan_pipelines.specs.Scans.{scan_of}
+use Rattle.plan_pipelines.specs.Built.{scan_of}
 use Rattle.plan_trees.specs.Allowed.{scanned}
 use Rattle.task_executor.specs.Nets.{ReadsAlone}
 use Rattle.plan_docs.specs.Plans.{plan_view}

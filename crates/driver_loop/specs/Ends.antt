@@ -1,5 +1,6 @@
 -- What the sources of drivers gave, and their targets were given.
 use Rattle.std.specs.Prelude.{◌≡◌, List, [], Bool, false, Option, Some, None}
+use Rattle.relations.specs.Sorts.{IsBeginning}
 use Rattle.operator_core.specs.Rows.{Row}
 use Rattle.split_source.specs.Scans.{given}
 use Rattle.split_source.specs.Seats.{SeatState, new_seat}
@@ -27,6 +28,11 @@ source_made (Rows rows) = Rows (record rows { given = []; is_ended = false })
 abbrev pub IsDrained : Source → Type 0
 IsDrained (Scan scan) = scan.left ≡ 0
 IsDrained (Rows rows) = rows.given ≡ rows.rows
+
+-- rows of its own are given from the first one on
+abbrev pub IsBegun : Source → Type 0
+IsBegun (Scan scan) = Unit {0}
+IsBegun (Rows rows) = IsBeginning rows.given rows.rows
 
 -- the seat by which it claims splits
 abbrev pub claim_of : Source → Option SeatState

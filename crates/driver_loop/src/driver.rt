@@ -5,7 +5,7 @@ ghost use Rattle.blocked.specs.Counts.{most_count};
 ghost use Rattle.col_pages.specs.Pages.{most_rows};
 ghost use Rattle.futures.specs.Task.{Covers, Keeps};
 ghost use Rattle.driver_turns.specs.Turns.{StageBlocked};
-ghost use Rattle.driver_loop.specs.Ends.{rows_taken, rows_given, has_ended, source_made, IsDrained};
+ghost use Rattle.driver_loop.specs.Ends.{rows_taken, rows_given, has_ended, source_made, IsBegun, IsDrained};
 ghost use Rattle.driver_loop.specs.Drivers.{IsDriver, IsOver, HasFailed, CanGoOn, IsWhole, Went};
 ghost use Rattle.driver_loop.specs.Turns.{IsLeftBy, IfBlocked, ArePiecesOf};
 
@@ -121,13 +121,14 @@ impl<'w> Driver<'w> {
     pub fn keeps(&self)
         ensures kept { IsDriver self.now }
         ensures drained { has_ended self.now.source ≡ true → IsDrained self.now.source }
+        ensures begun { IsBegun self.now.source }
         ensures over { self.now.is_finished ≡ true → IsOver self.now }
         ensures failed { (node : ℕ) (kind : Kind)
             → self.now.fault ≡ Some (RunFault.ExprFailed node kind) → HasFailed self.now node kind }
         ensures goes_on { IsWhole self.now.fault → CanGoOn self.now }
     {
         laws::laws::<Stage>(PhantomData);
-        self.source.drains();
+        self.source.keeps();
     }
 
     /// Moves rows until its last stage is finished, `quantum` of them entered a stage or the target, or nothing

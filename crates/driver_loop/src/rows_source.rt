@@ -1,4 +1,5 @@
 ghost use Rattle.std.specs.Prelude.{◌≡◌, ◌++◌, [], true, false, IfOk, OnErr, MatchOption};
+ghost use Rattle.relations.specs.Sorts.{IsBeginning};
 ghost use Rattle.row_ops.specs.ValueRows.{rows_left};
 
 use col_pages::Page;
@@ -42,6 +43,7 @@ impl RowsSource {
     pub fn is_ended(&self) -> bool
         ensures value { result ≡ self.now.is_ended }
         ensures over { result ≡ true → self.now.given ≡ self.now.rows }
+        ensures begun { IsBeginning self.now.given self.now.rows }
     {
         self.is_ended
     }

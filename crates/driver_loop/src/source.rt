@@ -1,6 +1,6 @@
 //! Where the pages of a driver come from, one variant each.
 ghost use Rattle.std.specs.Prelude.{◌≡◌, true};
-ghost use Rattle.driver_loop.specs.Ends.{has_ended, claim_of, IsDrained};
+ghost use Rattle.driver_loop.specs.Ends.{has_ended, claim_of, IsBegun, IsDrained};
 
 use crate::rows_source::RowsSource;
 use col_pages::Page;
@@ -42,9 +42,10 @@ impl<'w> PageSource for Source<'w> {
 }
 
 impl<'w> Source<'w> {
-    /// The law that no row is left where it has ended.
-    pub fn drains(&self)
-        ensures { has_ended self.now ≡ true → IsDrained self.now }
+    /// The law that no row is left where it has ended, and that rows of its own are given in order.
+    pub fn keeps(&self)
+        ensures drained { has_ended self.now ≡ true → IsDrained self.now }
+        ensures begun { IsBegun self.now }
     {
         match self {
             Source::Scan(scan) => {

@@ -9,6 +9,7 @@ use sql_values::{Memory, Types};
 use stage_moves::TypedOperator;
 use std::sync::Wait;
 use std::thread::Threads;
+use topn_sort::{SortOp, TopNOp};
 
 /// A step of a pipeline. It behaves as its operator does. Where the operator does not keep the types of the
 /// rows that it is given, they stand beside it.
@@ -16,6 +17,8 @@ use std::thread::Threads;
 pub enum Stage {
     Filter(FilterProject),
     Limit(LimitOp, Types),
+    Sort(SortOp),
+    TopN(TopNOp),
 }
 
 impl Operator for Stage {
@@ -23,91 +26,126 @@ impl Operator for Stage {
     ghost use Rattle.std.proofs.Common.{ap};
     ghost use Rattle.row_ops.specs.RowsHeld.{FilterState};
     ghost use Rattle.row_ops.specs.declared.limit.LimitOp.{LimitOp as LimitState};
-    ghost use Rattle.driver_loop.specs.declared.stage.Stage.TheVariants.{Filter, Limit};
+    ghost use Rattle.driver_loop.specs.declared.stage.Stage.TheVariants.{Filter, Limit, Sort, TopN};
+    ghost use Rattle.topn_sort.specs.Sorting.{SortState, TopState};
 
     ghost may_give = { elim [
       | Filter op ↦ ⟦<FilterProject as Operator>⟧.may_give op
       | Limit op types ↦ ⟦<LimitOp as Operator>⟧.may_give op
+      | Sort op ↦ ⟦<SortOp as Operator>⟧.may_give op
+      | TopN op ↦ ⟦<TopNOp as Operator>⟧.may_give op
     ] };
 
     ghost may_still_fail = { elim [
       | Filter op ↦ ⟦<FilterProject as Operator>⟧.may_still_fail op
       | Limit op types ↦ ⟦<LimitOp as Operator>⟧.may_still_fail op
+      | Sort op ↦ ⟦<SortOp as Operator>⟧.may_still_fail op
+      | TopN op ↦ ⟦<TopNOp as Operator>⟧.may_still_fail op
     ] };
 
     ghost takes = { elim [
       | Filter op ↦ ⟦<FilterProject as Operator>⟧.takes op
       | Limit op types ↦ ⟦<LimitOp as Operator>⟧.takes op
+      | Sort op ↦ ⟦<SortOp as Operator>⟧.takes op
+      | TopN op ↦ ⟦<TopNOp as Operator>⟧.takes op
     ] };
 
     ghost may_give_page = { elim [
       | Filter op ↦ ⟦<FilterProject as Operator>⟧.may_give_page op
       | Limit op types ↦ ⟦<LimitOp as Operator>⟧.may_give_page op
+      | Sort op ↦ ⟦<SortOp as Operator>⟧.may_give_page op
+      | TopN op ↦ ⟦<TopNOp as Operator>⟧.may_give_page op
     ] };
 
     ghost page_size = { elim [
       | Filter op ↦ ⟦<FilterProject as Operator>⟧.page_size op
       | Limit op types ↦ ⟦<LimitOp as Operator>⟧.page_size op
+      | Sort op ↦ ⟦<SortOp as Operator>⟧.page_size op
+      | TopN op ↦ ⟦<TopNOp as Operator>⟧.page_size op
     ] };
 
     ghost is_full = { elim [
       | Filter op ↦ ⟦<FilterProject as Operator>⟧.is_full op
       | Limit op types ↦ ⟦<LimitOp as Operator>⟧.is_full op
+      | Sort op ↦ ⟦<SortOp as Operator>⟧.is_full op
+      | TopN op ↦ ⟦<TopNOp as Operator>⟧.is_full op
     ] };
 
     ghost gives_late = { elim [
       | Filter op ↦ ⟦<FilterProject as Operator>⟧.gives_late op
       | Limit op types ↦ ⟦<LimitOp as Operator>⟧.gives_late op
+      | Sort op ↦ ⟦<SortOp as Operator>⟧.gives_late op
+      | TopN op ↦ ⟦<TopNOp as Operator>⟧.gives_late op
     ] };
 
     ghost needs_input = { elim [
       | Filter op ↦ ⟦<FilterProject as Operator>⟧.needs_input op
       | Limit op types ↦ ⟦<LimitOp as Operator>⟧.needs_input op
+      | Sort op ↦ ⟦<SortOp as Operator>⟧.needs_input op
+      | TopN op ↦ ⟦<TopNOp as Operator>⟧.needs_input op
     ] };
 
     ghost holds_row = { elim [
       | Filter op ↦ ⟦<FilterProject as Operator>⟧.holds_row op
       | Limit op types ↦ ⟦<LimitOp as Operator>⟧.holds_row op
+      | Sort op ↦ ⟦<SortOp as Operator>⟧.holds_row op
+      | TopN op ↦ ⟦<TopNOp as Operator>⟧.holds_row op
     ] };
 
     ghost is_told = { elim [
       | Filter op ↦ ⟦<FilterProject as Operator>⟧.is_told op
       | Limit op types ↦ ⟦<LimitOp as Operator>⟧.is_told op
+      | Sort op ↦ ⟦<SortOp as Operator>⟧.is_told op
+      | TopN op ↦ ⟦<TopNOp as Operator>⟧.is_told op
     ] };
 
     ghost is_finished = { elim [
       | Filter op ↦ ⟦<FilterProject as Operator>⟧.is_finished op
       | Limit op types ↦ ⟦<LimitOp as Operator>⟧.is_finished op
+      | Sort op ↦ ⟦<SortOp as Operator>⟧.is_finished op
+      | TopN op ↦ ⟦<TopNOp as Operator>⟧.is_finished op
     ] };
 
     ghost waits = { elim [
       | Filter op ↦ ⟦<FilterProject as Operator>⟧.waits op
       | Limit op types ↦ ⟦<LimitOp as Operator>⟧.waits op
+      | Sort op ↦ ⟦<SortOp as Operator>⟧.waits op
+      | TopN op ↦ ⟦<TopNOp as Operator>⟧.waits op
     ] };
 
     ghost bell = { elim [
       | Filter op ↦ ⟦<FilterProject as Operator>⟧.bell op
       | Limit op types ↦ ⟦<LimitOp as Operator>⟧.bell op
+      | Sort op ↦ ⟦<SortOp as Operator>⟧.bell op
+      | TopN op ↦ ⟦<TopNOp as Operator>⟧.bell op
     ] };
 
     ghost knows = { elim [
       | Filter op ↦ ⟦<FilterProject as Operator>⟧.knows op
       | Limit op types ↦ ⟦<LimitOp as Operator>⟧.knows op
+      | Sort op ↦ ⟦<SortOp as Operator>⟧.knows op
+      | TopN op ↦ ⟦<TopNOp as Operator>⟧.knows op
     ] };
 
     ghost empty_looks = { elim [
       | Filter op ↦ ⟦<FilterProject as Operator>⟧.empty_looks op
       | Limit op types ↦ ⟦<LimitOp as Operator>⟧.empty_looks op
+      | Sort op ↦ ⟦<SortOp as Operator>⟧.empty_looks op
+      | TopN op ↦ ⟦<TopNOp as Operator>⟧.empty_looks op
     ] };
 
     ghost went = { elim [
       | Filter op ↦ ⟦<FilterProject as Operator>⟧.went op
       | Limit op types ↦ ⟦<LimitOp as Operator>⟧.went op
+      | Sort op ↦ ⟦<SortOp as Operator>⟧.went op
+      | TopN op ↦ ⟦<TopNOp as Operator>⟧.went op
     ] };
 
     ghost as_made = { elim [
       | Filter op ↦ Filter (⟦<FilterProject as Operator>⟧.as_made op)
       | Limit op types ↦ Limit (⟦<LimitOp as Operator>⟧.as_made op) types
+      | Sort op ↦ Sort (⟦<SortOp as Operator>⟧.as_made op)
+      | TopN op ↦ TopN (⟦<TopNOp as Operator>⟧.as_made op)
     ] };
 
     ghost may_learn = { λ s m. elim s [
@@ -115,12 +153,18 @@ impl Operator for Stage {
           × ⟦<FilterProject as Operator>⟧.may_learn op to
       | Limit op types ↦ (to : LimitState) × (m ≡ Limit to types)
           × ⟦<LimitOp as Operator>⟧.may_learn op to
+      | Sort op ↦ (to : SortState) × (m ≡ Sort to)
+          × ⟦<SortOp as Operator>⟧.may_learn op to
+      | TopN op ↦ (to : TopState) × (m ≡ TopN to)
+          × ⟦<TopNOp as Operator>⟧.may_learn op to
     ] };
 
     fn needs_input(&self) -> bool {
         match self {
             Stage::Filter(op) => op.needs_input(),
             Stage::Limit(op, _) => op.needs_input(),
+            Stage::Sort(op) => op.needs_input(),
+            Stage::TopN(op) => op.needs_input(),
         }
     }
 
@@ -128,6 +172,8 @@ impl Operator for Stage {
         match self {
             Stage::Filter(op) => op.add_input(page),
             Stage::Limit(op, _) => op.add_input(page),
+            Stage::Sort(op) => op.add_input(page),
+            Stage::TopN(op) => op.add_input(page),
         }
     }
 
@@ -135,6 +181,8 @@ impl Operator for Stage {
         match self {
             Stage::Filter(op) => op.get_output(),
             Stage::Limit(op, _) => op.get_output(),
+            Stage::Sort(op) => op.get_output(),
+            Stage::TopN(op) => op.get_output(),
         }
     }
 
@@ -142,6 +190,8 @@ impl Operator for Stage {
         match self {
             Stage::Filter(op) => op.finish(),
             Stage::Limit(op, _) => op.finish(),
+            Stage::Sort(op) => op.finish(),
+            Stage::TopN(op) => op.finish(),
         }
     }
 
@@ -149,6 +199,8 @@ impl Operator for Stage {
         match self {
             Stage::Filter(op) => op.is_finished(),
             Stage::Limit(op, _) => op.is_finished(),
+            Stage::Sort(op) => op.is_finished(),
+            Stage::TopN(op) => op.is_finished(),
         }
     }
 
@@ -160,85 +212,119 @@ impl Operator for Stage {
         match self {
             Stage::Filter(op) => op.blocked(rt, bells),
             Stage::Limit(op, _) => op.blocked(rt, bells),
+            Stage::Sort(op) => op.blocked(rt, bells),
+            Stage::TopN(op) => op.blocked(rt, bells),
         }
     }
 
     ghost use Rattle.row_ops.specs.contracts.filter_project.FilterProjectOperator.TheImpl.Laws as filter_laws;
     ghost use Rattle.row_ops.specs.contracts.limit.LimitOpOperator.TheImpl.Laws as limit_laws;
+    ghost use Rattle.topn_sort.specs.contracts.sort.SortOpOperator.TheImpl.Laws as sort_laws;
+    ghost use Rattle.topn_sort.specs.contracts.topn.TopNOpOperator.TheImpl.Laws as topn_laws;
 
     ghost some_rows = { elim [
       | Filter op ↦ filter_laws.some_rows-law op
       | Limit op types ↦ limit_laws.some_rows-law op
+      | Sort op ↦ sort_laws.some_rows-law op
+      | TopN op ↦ topn_laws.some_rows-law op
     ] };
 
     ghost holds_rest = { elim [
       | Filter op ↦ filter_laws.holds_rest-law op
       | Limit op types ↦ limit_laws.holds_rest-law op
+      | Sort op ↦ sort_laws.holds_rest-law op
+      | TopN op ↦ topn_laws.holds_rest-law op
     ] };
 
     ghost late_holds_none = { elim [
       | Filter op ↦ filter_laws.late_holds_none-law op
       | Limit op types ↦ limit_laws.late_holds_none-law op
+      | Sort op ↦ sort_laws.late_holds_none-law op
+      | TopN op ↦ topn_laws.late_holds_none-law op
     ] };
 
     ghost finished = { elim [
       | Filter op ↦ filter_laws.finished-law op
       | Limit op types ↦ limit_laws.finished-law op
+      | Sort op ↦ sort_laws.finished-law op
+      | TopN op ↦ topn_laws.finished-law op
     ] };
 
     ghost needs_untold = { elim [
       | Filter op ↦ filter_laws.needs_untold-law op
       | Limit op types ↦ limit_laws.needs_untold-law op
+      | Sort op ↦ sort_laws.needs_untold-law op
+      | TopN op ↦ topn_laws.needs_untold-law op
     ] };
 
     ghost full_needs_none = { elim [
       | Filter op ↦ filter_laws.full_needs_none-law op
       | Limit op types ↦ limit_laws.full_needs_none-law op
+      | Sort op ↦ sort_laws.full_needs_none-law op
+      | TopN op ↦ topn_laws.full_needs_none-law op
     ] };
 
     ghost full_gives = { elim [
       | Filter op ↦ filter_laws.full_gives-law op
       | Limit op types ↦ limit_laws.full_gives-law op
+      | Sort op ↦ sort_laws.full_gives-law op
+      | TopN op ↦ topn_laws.full_gives-law op
     ] };
 
     ghost full_fails = { elim [
       | Filter op ↦ filter_laws.full_fails-law op
       | Limit op types ↦ limit_laws.full_fails-law op
+      | Sort op ↦ sort_laws.full_fails-law op
+      | TopN op ↦ topn_laws.full_fails-law op
     ] };
 
     ghost waiting_needs_none = { elim [
       | Filter op ↦ filter_laws.waiting_needs_none-law op
       | Limit op types ↦ limit_laws.waiting_needs_none-law op
+      | Sort op ↦ sort_laws.waiting_needs_none-law op
+      | TopN op ↦ topn_laws.waiting_needs_none-law op
     ] };
 
     ghost waiting_went = { elim [
       | Filter op ↦ filter_laws.waiting_went-law op
       | Limit op types ↦ limit_laws.waiting_went-law op
+      | Sort op ↦ sort_laws.waiting_went-law op
+      | TopN op ↦ topn_laws.waiting_went-law op
     ] };
 
     ghost needs = { elim [
       | Filter op ↦ filter_laws.needs-law op
       | Limit op types ↦ limit_laws.needs-law op
+      | Sort op ↦ sort_laws.needs-law op
+      | TopN op ↦ topn_laws.needs-law op
     ] };
 
     ghost made_untold = { elim [
       | Filter op ↦ filter_laws.made_untold-law op
       | Limit op types ↦ limit_laws.made_untold-law op
+      | Sort op ↦ sort_laws.made_untold-law op
+      | TopN op ↦ topn_laws.made_untold-law op
     ] };
 
     ghost made_knows = { elim [
       | Filter op ↦ filter_laws.made_knows-law op
       | Limit op types ↦ limit_laws.made_knows-law op
+      | Sort op ↦ sort_laws.made_knows-law op
+      | TopN op ↦ topn_laws.made_knows-law op
     ] };
 
     ghost made_went = { elim [
       | Filter op ↦ filter_laws.made_went-law op
       | Limit op types ↦ limit_laws.made_went-law op
+      | Sort op ↦ sort_laws.made_went-law op
+      | TopN op ↦ topn_laws.made_went-law op
     ] };
 
     ghost made_again = { elim [
       | Filter op ↦ ap Filter (filter_laws.made_again-law op)
       | Limit op types ↦ ap (λ x. Limit x types) (limit_laws.made_again-law op)
+      | Sort op ↦ ap Sort (sort_laws.made_again-law op)
+      | TopN op ↦ ap TopN (topn_laws.made_again-law op)
     ] };
 
     ghost learns_as_made = { elim [
@@ -250,6 +336,14 @@ impl Operator for Stage {
         (λ e. (e.0, e.1, (limit_laws.learns_as_made-law op e.0).0 e.2)),
         (λ e. (e.0, e.1, (limit_laws.learns_as_made-law op e.0).1 e.2)),
       )
+      | Sort op ↦ λ m. (
+        (λ e. (e.0, e.1, (sort_laws.learns_as_made-law op e.0).0 e.2)),
+        (λ e. (e.0, e.1, (sort_laws.learns_as_made-law op e.0).1 e.2)),
+      )
+      | TopN op ↦ λ m. (
+        (λ e. (e.0, e.1, (topn_laws.learns_as_made-law op e.0).0 e.2)),
+        (λ e. (e.0, e.1, (topn_laws.learns_as_made-law op e.0).1 e.2)),
+      )
     ] };
 
     ghost learns_made = { elim [
@@ -259,6 +353,12 @@ impl Operator for Stage {
       | Limit op types ↦ λ m e.
           let learned = limit_laws.learns_made-law op e.0 e.2 in
           Prim.rw e.1 (learned.0, learned.1, ap (λ x. Limit x types) learned.2)
+      | Sort op ↦ λ m e.
+          let learned = sort_laws.learns_made-law op e.0 e.2 in
+          Prim.rw e.1 (learned.0, learned.1, ap Sort learned.2)
+      | TopN op ↦ λ m e.
+          let learned = topn_laws.learns_made-law op e.0 e.2 in
+          Prim.rw e.1 (learned.0, learned.1, ap TopN learned.2)
     ] };
 
     ghost any_note = { elim [
@@ -267,6 +367,12 @@ impl Operator for Stage {
           (any.0, Prim.rw learns.1 any.1, any.2)
       | Limit op types ↦ λ m T G Z knows went learns coming.
           let any = limit_laws.any_note-law op learns.0 T G Z knows went learns.2 coming in
+          (any.0, Prim.rw learns.1 any.1, any.2)
+      | Sort op ↦ λ m T G Z knows went learns coming.
+          let any = sort_laws.any_note-law op learns.0 T G Z knows went learns.2 coming in
+          (any.0, Prim.rw learns.1 any.1, any.2)
+      | TopN op ↦ λ m T G Z knows went learns coming.
+          let any = topn_laws.any_note-law op learns.0 T G Z knows went learns.2 coming in
           (any.0, Prim.rw learns.1 any.1, any.2)
     ] };
 }
@@ -277,6 +383,8 @@ impl TypedOperator for Stage {
         match self {
             Stage::Filter(op) => are_same(page.types(), op.types()),
             Stage::Limit(_, types) => are_same(page.types(), types.as_slice()),
+            Stage::Sort(op) => are_same(page.types(), op.types()),
+            Stage::TopN(op) => are_same(page.types(), op.types()),
         }
     }
 }

@@ -6,7 +6,8 @@
 //!
 //! - `judge`: the checks of a plan
 //! - `read`: `read_plan`
-//! - `copies`, `trees`: the tree of a plan
+//! - `copies`: copies of a plan's parts
+//! - `trees`: the tree of a plan
 #![tactic(auto)]
 
 mod copies;
@@ -16,6 +17,7 @@ mod read;
 mod tests;
 mod trees;
 
+pub use copies::{copy_exprs, copy_rows};
 pub use plan_checks::PlanFault;
 pub use plan_docs::{
     CallList, DynamicFilter, DynamicFilters, Fragment, Fragments, KeyList, Node, NodeStep, Output,

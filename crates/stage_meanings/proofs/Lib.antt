@@ -1,3 +1,4 @@
 pub mod MeaningLemmas
 pub mod RowLemmas
 pub mod ActLemmas
+pub mod OrderLemmas

@@ -2,6 +2,7 @@
 ghost use Rattle.std.specs.Prelude.{◌≡◌, ℕ, ◌<◌, List, [], ◌∷◌, Bool, true, Some, None, length, get_or, map, take};
 ghost use Rattle.sql_values.specs.declared.types.SqlType.{SqlType};
 ghost use Rattle.sql_values.specs.declared.fail.Fail.{Fail};
+ghost use Rattle.sql_values.specs.declared.order.KeySpec.{KeySpec};
 ghost use Rattle.sql_exprs.specs.Forms.{Form};
 ghost use Rattle.sql_exprs.specs.Meaning.{kind_of};
 ghost use Rattle.operator_core.specs.Rows.{Row};
@@ -9,11 +10,11 @@ ghost use Rattle.operator_core.specs.Stages.{AreMadeOf, Chain, FailsAfter, Linke
 ghost use Rattle.page_judges.specs.Typed.{AllFit, AllTyped};
 ghost use Rattle.row_ops.specs.RowJudges.{columns_in, row_judge};
 ghost use Rattle.plan_trees.specs.Allowed.{strict};
-ghost use Rattle.plan_runs.specs.Nets.{Chain as StageChain, filter, project};
+ghost use Rattle.plan_runs.specs.Nets.{Chain as StageChain, filter, limit, project, sort, topn};
 ghost use Rattle.plan_runs.specs.Stops.{CanGoOn};
 ghost use Rattle.stage_meanings.specs.Meanings.{ActsAs, AllMean, Means};
 ghost use Rattle.stage_meanings.specs.Pipelines.{FailsIn, NodeStage, at_node, stages_of};
-ghost use Rattle.stage_meanings.specs.RowMeanings.{JudgesRows};
+ghost use Rattle.stage_meanings.specs.RowMeanings.{JudgesRows, MakesRows};
 
 use operator_core::Operator;
 use std::marker::PhantomData;
@@ -32,6 +33,26 @@ pub fn projects_mean<O: Operator>(_of: PhantomData<O>)
         → AllTyped types columns → JudgesRows O.Operator m node (row_judge types None columns)
         → Means O.Operator m types (at_node node (project types columns) ∷ [])
         (map (kind_of types) columns) }
+{}
+
+/// The law that an operator which gives its rows in an order of keys is a sort.
+pub fn sorts_mean<O: Operator>(_of: PhantomData<O>)
+    ensures { (m : O) (node : ℕ) (types : List SqlType) (keys : List KeySpec)
+        → MakesRows O.Operator m (sort keys)
+        → Means O.Operator m types (at_node node (sort keys) ∷ []) types }
+{}
+
+/// The law that an operator which gives the first of its rows in an order of keys is a top n.
+pub fn tops_mean<O: Operator>(_of: PhantomData<O>)
+    ensures { (m : O) (node count : ℕ) (types : List SqlType) (keys : List KeySpec)
+        → MakesRows O.Operator m (topn count keys)
+        → Means O.Operator m types (at_node node (topn count keys) ∷ []) types }
+{}
+
+/// The law that an operator which gives the first of its rows is a limit.
+pub fn limits_mean<O: Operator>(_of: PhantomData<O>)
+    ensures { (m : O) (node count : ℕ) (types : List SqlType) → MakesRows O.Operator m (limit count)
+        → Means O.Operator m types (at_node node (limit count) ∷ []) types }
 {}
 
 /// The law that an operator which acts as another means what that one means: as one that stands in

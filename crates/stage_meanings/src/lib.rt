@@ -12,11 +12,13 @@
 //! - `laws::failed_drivers_fail`: the failure of one is a failure in the pipeline
 //! - `laws::filters_mean`, `laws::projects_mean`: one that judges row by row, and stops at its first
 //!   failing row, is a filter where it gives all columns, and a project where it has no predicate
+//! - `laws::sorts_mean`, `laws::tops_mean`, `laws::limits_mean`: one that gives what such a stage makes of all
+//!   its rows, and never fails, is that stage
 //! - `laws::acting_operators_mean`: one that does what another does means the same
 //! - `row_stages`: the operators of filters and projects, made of their expressions
 //!
 //! `specs/Pipelines.antt` has stages with their nodes and a failure among them, `specs/Meanings.antt`
-//! what an operator means, `specs/RowMeanings.antt` operators that judge row by row.
+//! what an operator means, `specs/RowMeanings.antt` operators that judge row by row, or choose and order rows.
 #![tactic(auto)]
 
 mod laws;
@@ -24,6 +26,6 @@ mod row_stages;
 
 pub use laws::{
     acting_operators_mean, drivers_can_go_on, failed_drivers_fail, filters_mean,
-    finished_drivers_make, projects_mean,
+    finished_drivers_make, limits_mean, projects_mean, sorts_mean, tops_mean,
 };
 pub use row_stages::{filter_of, project_of};

@@ -1,5 +1,5 @@
 -- What a run of a net says of its plan.
-use Rattle.std.proofs.Common.{Result, Ok, Err, IfOk, ◌≡◌, ◌<◌, inl, inr, ℕ, List, [], ◌∷◌, ◌++◌, true, Some, None, length, map, refl, ap, sym, subst, ◌∙◌, arith}
+use Rattle.std.proofs.Common.{Result, Ok, Err, IfOk, ◌≡◌, ◌<◌, inl, inr, ℕ, List, [], ◌∷◌, ◌++◌, true, Option, Some, None, length, map, refl, ap, sym, subst, ◌∙◌, arith}
 use Rattle.sql_values.specs.declared.fail.Fail.{Fail}
 use Rattle.sql_values.specs.Bags.{SameBag}
 use Rattle.std.specs.List.{range_with_len}
@@ -9,16 +9,18 @@ use Rattle.operator_core.specs.Stages.{AllCameFrom, AreMadeOf, Chain}
 use Rattle.operator_core.proofs.MadeLemmas.{AllCameFrom-made}
 use Rattle.split_source.specs.Gathered.{AreDistinct, AreWhole, IsCount}
 use Rattle.split_source.specs.Scans.{ScanState, given}
-use Rattle.split_source.specs.Seats.{AllEnded, AreAll, ClaimsId, SeatState, numbers_of}
+use Rattle.split_source.specs.Seats.{AllEnded, AreAll, AreAllOf, ClaimsId, SeatState, numbers_of}
 use Rattle.split_source.specs.Splits.{split_count}
 use Rattle.sql_values.specs.Cells.{cut}
 use Rattle.bag_laws.specs.Weights.{SameWeights}
+use Rattle.bag_laws.proofs.BagLemmas.{same-from_equal}
+use Rattle.plan_runs.specs.Stops.{MayCome}
 use Rattle.std.specs.Prelude.{All}
-use Rattle.std.proofs.lemmas.List.{length-map, get_or-map}
+use Rattle.std.proofs.lemmas.List.{append-nil, append_cancel_left, length-map, get_or-map}
 use Rattle.std.proofs.lemmas.List.Elements.{All-cons, All-nil}
 use Rattle.stage_meanings.specs.Meanings.{AllMean}
 use Rattle.driver_loop.specs.Drivers.{DriverState, HasFailed, IsOver, IsWhole}
-use Rattle.driver_loop.specs.Ends.{IsDrained, claim_of, has_ended, rows_given, rows_taken, source_made}
+use Rattle.driver_loop.specs.Ends.{IsBegun, IsDrained, claim_of, has_ended, rows_given, rows_taken, source_made}
 use Rattle.driver_loop.specs.contracts.stage.StageOperator.TheImpl.{ghosts}
 use Rattle.driver_loop.specs.declared.source.Source.{Source}
 use Rattle.driver_loop.specs.declared.source.Source.TheVariants.{Scan, Rows}
@@ -32,13 +34,10 @@ use Rattle.plan_pipelines.specs.Sources.{pipeline_of, source_rows, source_types}
 use Rattle.plan_pipelines.proofs.DriverLemmas.{driver_fails, driver_gives}
 use Rattle.driver_loop.specs.declared.run_fault.RunFault.{RunFault}
 use Rattle.driver_loop.specs.declared.run_fault.RunFault.TheVariants.{ExprFailed, Memory}
-use Rattle.task_executor.specs.Nets.{FailsFor, IsAlone, IsNetOf, ReadsAlone}
+use Rattle.task_executor.specs.Nets.{FailsFor, IsAlone, IsNetOf, Reads, ReadsAlone}
 use Rattle.task_executor.specs.Pipelines.{NoneLearns}
-use Rattle.task_executor.specs.Turns.{IsFailing, IsLater}
+use Rattle.task_executor.specs.Turns.{IsAll, IsEnded, IsFailing, IsLater, IsSettled, IsStopped}
 use Rattle.task_executor.proofs.SourceLemmas.{gave_all, gave_some}
-
-some_seat : (seat other : SeatState) → Some seat ≡ Some other → seat ≡ other
-some_seat seat other same = cc
 
 -- stages that learn nothing stay as they were made
 made_same : (made stages : List Stage) → NoneLearns made → AllCameFrom ghosts made stages → map ghosts.as_made stages ≡ made
@@ -52,10 +51,8 @@ are_made : (stages : List Stage) → AreMadeOf ghosts stages (map ghosts.as_made
 are_made [] = tt
 are_made (s ∷ stages) = (inl refl, are_made stages)
 
--- the scan of a driver is that of its net, later on
-record SameScan (scan : ScanState) (source : Source) : Type 0 where
-  pub now : ScanState
-  pub is : source ≡ Scan now
+-- a scan is that of its net, later on
+record SameScan (scan now : ScanState) : Type 0 where
   pub rows : now.rows ≡ scan.rows
   pub columns : now.columns ≡ scan.columns
   pub size : now.size ≡ scan.size
@@ -63,7 +60,7 @@ record SameScan (scan : ScanState) (source : Source) : Type 0 where
 
 abbrev scanned_rows : Source → List Row
 scanned_rows (Scan s) = s.rows
-scanned_rows (Rows v) = []
+scanned_rows (Rows v) = v.rows
 
 abbrev scanned_columns : Source → List ℕ
 scanned_columns (Scan s) = s.columns
@@ -77,94 +74,115 @@ abbrev claims_or : ClaimsId → Source → ClaimsId
 claims_or id (Scan s) = s.seat.claims
 claims_or id (Rows v) = id
 
-same_scan : (scan : ScanState) (source : Source) → source_made source ≡ source_made (Scan scan) → SameScan scan source
-same_scan scan (Scan now) same = record {
-  now = now;
-  is = refl;
+same_scan : (scan now : ScanState) → source_made (Scan now) ≡ source_made (Scan scan) → SameScan scan now
+same_scan scan now same = record {
   rows = ap scanned_rows same;
   columns = ap scanned_columns same;
   size = ap split_size same;
   claims = ap (claims_or scan.seat.claims) same;
 }
-same_scan scan (Rows values) same = cc
 
 alone_one : (claims : ClaimsId) (seat : SeatState) → seat.claims ≡ claims → All (λ (t : SeatState). t.claims ≡ claims) (seat ∷ [])
 alone_one claims seat same = All-cons (λ (t : SeatState). t.claims ≡ claims) seat [] same (All-nil (λ (t : SeatState). t.claims ≡ claims))
 
-reads_on : (scan : ScanState) (rows : List Row) (source : Source) → ReadsAlone scan rows → (s : SameScan scan source) → ReadsAlone s.now rows
-reads_on scan rows source reads s = record {
-  alone = record {
-    same = alone_one s.now.seat.claims s.now.seat refl;
-    all = reads.alone.all ∙ ap (λ (c : ClaimsId). c.of.seats) (sym s.claims);
-    some = omega arith;
-  };
-  size = subst (λ n. 0 < n) (sym s.size) reads.size;
-  count = ap (λ (c : ClaimsId). c.of.count) s.claims ∙ reads.count ∙ ap (λ (rs : List Row). split_count (length rs) scan.size) (sym s.rows) ∙ ap (split_count (length s.now.rows)) (sym s.size);
-  all = ap (λ (rs : List Row). map (cut s.now.columns) rs) s.rows ∙ ap (λ cs. map (cut cs) scan.rows) s.columns ∙ reads.all;
+alone_on : (scan now : ScanState) → SameScan scan now → AreAllOf scan.seat.claims (scan.seat ∷ []) → AreAllOf now.seat.claims (now.seat ∷ [])
+alone_on scan now s alone = record {
+  same = alone_one now.seat.claims now.seat refl;
+  all = alone.all ∙ ap (λ (c : ClaimsId). c.of.seats) (sym s.claims);
+  some = omega arith;
 }
 
--- the seat of a net is the only one
-pub alone_all : (d : DriverState) (seat : SeatState) → IsAlone d → claim_of d.source ≡ Some seat → AreAll (seat ∷ [])
-alone_all d seat alone is =
-    let same : alone.scan.seat ≡ seat = some_seat alone.scan.seat seat (ap claim_of (sym alone.source) ∙ is) in
-    subst (λ (t : SeatState). AreAll (t ∷ [])) same (alone.scan.seat.claims, alone.all)
+scan_reads_on : (scan now : ScanState) (rows : List Row) → ReadsAlone scan rows → SameScan scan now → ReadsAlone now rows
+scan_reads_on scan now rows reads s = record {
+  alone = alone_on scan now s reads.alone;
+  size = subst (λ n. 0 < n) (sym s.size) reads.size;
+  count = ap (λ (c : ClaimsId). c.of.count) s.claims ∙ reads.count ∙ ap (λ (rs : List Row). split_count (length rs) scan.size) (sym s.rows) ∙ ap (split_count (length now.rows)) (sym s.size);
+  all = ap (λ (rs : List Row). map (cut now.columns) rs) s.rows ∙ ap (λ cs. map (cut cs) scan.rows) s.columns ∙ reads.all;
+}
 
-pub alone_later : (before after : DriverState) → IsAlone before → IsLater before after → IsAlone after
-alone_later before after alone later =
-    let s = same_scan alone.scan after.source (later.source ∙ ap source_made alone.source) in
-    record {
-      scan = s.now;
-      source = s.is;
-      all = record {
-        same = alone_one s.now.seat.claims s.now.seat refl;
-        all = alone.all.all ∙ ap (λ (c : ClaimsId). c.of.seats) (sym s.claims);
-        some = omega arith;
-      };
-    }
+-- a source that was made as another one has the same rows
+reads_on : (rows : List Row) (source now : Source) → source_made now ≡ source_made source → Reads source rows → Reads now rows
+reads_on rows (Scan scan) (Scan now) same reads = scan_reads_on scan now rows reads (same_scan scan now same)
+reads_on rows (Scan scan) (Rows values) same reads = absurd cc
+reads_on rows (Rows values) (Scan now) same reads = absurd cc
+reads_on rows (Rows values) (Rows now) same reads = ap scanned_rows same ∙ reads
+
+alone_now : (source now : Source) → source_made now ≡ source_made source → IsAlone source → IsAlone now
+alone_now (Scan scan) (Scan now) same alone = alone_on scan now (same_scan scan now same) alone
+alone_now (Scan scan) (Rows values) same alone = tt
+alone_now (Rows values) (Scan now) same alone = absurd cc
+alone_now (Rows values) (Rows now) same alone = tt
+
+pub alone_later : (before after : DriverState) → IsAlone before.source → IsLater before after → IsAlone after.source
+alone_later before after alone later = alone_now before.source after.source later.source alone
+
+-- the seat of a source that is alone is the only one
+all_of : (source : Source) → IsAlone source → IsAll (claim_of source)
+all_of (Scan scan) alone = (scan.seat.claims, alone)
+all_of (Rows values) alone = tt
+
+pub alone_all : (source : Source) (claim : Option SeatState) → claim ≡ claim_of source → IsAlone source → IsAll claim
+alone_all source claim same alone = subst IsAll (sym same) (all_of source alone)
+
+ended_of : (source : Source) → has_ended source ≡ true → IsEnded (claim_of source)
+ended_of (Scan scan) ended = All-cons (λ (t : SeatState). t.is_ended ≡ true) scan.seat [] ended (All-nil (λ (t : SeatState). t.is_ended ≡ true))
+ended_of (Rows values) ended = tt
+
+-- where the source has ended, so has its seat
+pub all_ended : (source : Source) (claim : Option SeatState) → claim ≡ claim_of source → has_ended source ≡ true → IsEnded claim
+all_ended source claim same ended = subst IsEnded (sym same) (ended_of source ended)
+
+-- a source that is over, whose seat settled, gave all rows
+took_all : (source : Source) (rows : List Row) → Reads source rows → IsDrained source → IsSettled (claim_of source) → SameWeights (rows_taken source) rows
+took_all (Scan scan) rows reads drained settled =
+    let counted : settled.count ≡ scan.seat.claims.of.count = settled.is_count scan.seat.claims reads.alone in
+    gave_all scan rows reads drained (subst (λ n. SameBag (numbers_of (scan.seat ∷ [])) (range_with_len 0 n)) counted settled.drawn)
+took_all (Rows values) rows reads drained settled = same-from_equal (drained ∙ reads)
+
+-- what a source gave, and the rows that it did not give: none where it is over
+record TookSome (source : Source) (rows : List Row) : Type 0 where
+  rest : List Row
+  same : SameWeights (rows_taken source ++ rest) rows
+  none : MayCome (has_ended source) rest
+
+none_behind : (given rest rows : List Row) → given ++ rest ≡ rows → given ≡ rows → rest ≡ []
+none_behind given rest rows is same = append_cancel_left given rest [] (is ∙ sym same ∙ sym (append-nil given))
+
+took_some : (source : Source) (rows : List Row) → Reads source rows → (has_ended source ≡ true → IsDrained source) → IsBegun source → IsStopped (claim_of source)
+    → TookSome source rows
+took_some (Scan scan) rows reads drained begun stopped =
+    let some = gave_some scan rows reads stopped.0 stopped.1 drained in
+    record { rest = some.rest; same = some.same; none = some.none }
+took_some (Rows values) rows reads drained begun stopped = record {
+  rest = begun.0;
+  same = same-from_equal (begun.1 ∙ reads);
+  none = λ e. none_behind values.given begun.0 values.rows begun.1 (drained e);
+}
 
 -- a driver that is over gave a list that its plan's tree allows
-pub run_gives : (plan : PlanForm) (tables : List (List Row)) (before d : DriverState) (seat : SeatState) (n : ℕ)
-    → IsNetOf plan tables before → IsLater before d → IsWhole d.fault → IsOver d → IsDrained d.source → claim_of d.source ≡ Some seat
-    → IsCount (seat ∷ []) n → SameBag (numbers_of (seat ∷ [])) (range_with_len 0 n)
+pub run_gives : (plan : PlanForm) (tables : List (List Row)) (before d : DriverState)
+    → IsNetOf plan tables before → IsLater before d → IsWhole d.fault → IsOver d → IsDrained d.source → IsSettled (claim_of d.source)
     → Allows (tree_of plan) tables (rows_given d.target)
-run_gives plan tables before d seat n net later whole over drained claim count drawn =
-    let s = same_scan net.scan d.source (later.source ∙ ap source_made net.source) in
-    let reads = reads_on net.scan (source_rows tables (run_of net.root)) d.source net.reads s in
-    let same : seat ≡ s.now.seat = some_seat seat s.now.seat (sym claim ∙ ap claim_of s.is) in
-    let counted : n ≡ s.now.seat.claims.of.count =
-    subst (λ (t : SeatState). IsCount (t ∷ []) n) same count s.now.seat.claims reads.alone in
-    let bag = subst (λ m. SameBag (numbers_of (s.now.seat ∷ [])) (range_with_len 0 m)) counted
-    (subst (λ (t : SeatState). SameBag (numbers_of (t ∷ [])) (range_with_len 0 n)) same drawn) in
-    let none : s.now.left ≡ 0 = subst IsDrained s.is drained in
-    let took : rows_taken d.source ≡ given s.now = ap rows_taken s.is in
-    let all = subst (λ rows. SameWeights rows (source_rows tables (run_of net.root))) (sym took)
-    (gave_all s.now (source_rows tables (run_of net.root)) reads none bag) in
+run_gives plan tables before d net later whole over drained settled =
+    let rows = source_rows tables (run_of net.root) in
+    let all = took_all d.source rows (reads_on rows before.source d.source later.source net.reads) drained settled in
     let made = made_same before.stages d.stages net.fixed (later.stages whole before.stages (AllCameFrom-made ghosts before.stages net.made)) in
     driver_gives ghosts plan tables net.root net.one net.is_pipeline net.fits before.stages net.given net.means
     (rows_taken d.source) (rows_given d.target) all
     (subst (λ (ms : List Stage). Chain ghosts true ms (rows_taken d.source) (rows_given d.target)) made over.chain)
 
 -- where a stage of a driver failed, its node may fail so
-pub run_fails : (plan : PlanForm) (tables : List (List Row)) (before d : DriverState) (seat : SeatState) (node : ℕ) (kind : Fail)
+pub run_fails : (plan : PlanForm) (tables : List (List Row)) (before d : DriverState) (node : ℕ) (kind : Fail)
     → IsLawful ghosts → IsNetOf plan tables before → IsLater before d → IsWhole d.fault → HasFailed d node kind
-    → (has_ended d.source ≡ true → IsDrained d.source) → claim_of d.source ≡ Some seat → AreDistinct (seat ∷ []) → AreWhole (seat ∷ [])
+    → (has_ended d.source ≡ true → IsDrained d.source) → IsBegun d.source → IsStopped (claim_of d.source)
     → MayFail (tree_of plan) tables node kind
-run_fails plan tables before d seat node kind laws net later whole failed drained claim distinct all_drawn =
+run_fails plan tables before d node kind laws net later whole failed drained begun stopped =
     let rows = source_rows tables (run_of net.root) in
-    let s = same_scan net.scan d.source (later.source ∙ ap source_made net.source) in
-    let reads = reads_on net.scan rows d.source net.reads s in
-    let same : seat ≡ s.now.seat = some_seat seat s.now.seat (sym claim ∙ ap claim_of s.is) in
-    let some = gave_some s.now rows reads (subst (λ (t : SeatState). AreDistinct (t ∷ [])) same distinct)
-    (subst (λ (t : SeatState). AreWhole (t ∷ [])) same all_drawn)
-    (λ ended. subst IsDrained s.is (drained (ap has_ended s.is ∙ ended))) in
-    let took : rows_taken d.source ≡ given s.now = ap rows_taken s.is in
-    let ends : has_ended d.source ≡ s.now.seat.is_ended = ap has_ended s.is in
+    let some = took_some d.source rows (reads_on rows before.source d.source later.source net.reads) drained begun stopped in
     let made = made_same before.stages d.stages net.fixed (later.stages whole before.stages (AllCameFrom-made ghosts before.stages net.made)) in
     let means = subst (λ (ms : List Stage). AllMean ghosts ms (source_types (run_of net.root)) (pipeline_of (run_of net.root)) net.given) (sym made) net.means in
     driver_fails ghosts plan tables net.root net.one net.is_pipeline net.fits laws d.stages (map ghosts.as_made d.stages) net.given means
-    (are_made d.stages) (rows_taken d.source) some.rest (has_ended d.source)
-    (λ e. some.none (sym ends ∙ e))
-    (subst (λ taken. SameWeights (taken ++ some.rest) rows) (sym took) some.same)
+    (are_made d.stages) (rows_taken d.source) some.rest (has_ended d.source) some.none some.same
     failed.place (ghosts.as_made failed.stage) (omega (arith, failed.there, length-map d.stages ghosts.as_made))
     (ap ghosts.as_made failed.is ∙ sym (get_or-map ghosts.as_made d.stages failed.place failed.stage (ghosts.as_made failed.stage) failed.there)) node kind failed.after
 
@@ -179,31 +197,19 @@ later_then a b c none first then = record {
 }
 
 -- the fault that a driver is stopped for is one of its plan
-pub stop_says : (plan : PlanForm) (tables : List (List Row)) (before d : DriverState) (seat : SeatState) (fault : RunFault)
+pub stop_says : (plan : PlanForm) (tables : List (List Row)) (before d : DriverState) (claim : Option SeatState) (fault : RunFault)
     → IsLawful ghosts → IsNetOf plan tables before → IsLater before d → IsFailing d fault
-    → (has_ended d.source ≡ true → IsDrained d.source) → claim_of d.source ≡ Some seat → AreDistinct (seat ∷ []) → AreWhole (seat ∷ [])
+    → (has_ended d.source ≡ true → IsDrained d.source) → IsBegun d.source → claim ≡ claim_of d.source → IsStopped claim
     → FailsFor (tree_of plan) tables fault
-stop_says plan tables before d seat (ExprFailed node kind) laws net later failing drained claim distinct all_drawn =
-    run_fails plan tables before d seat node kind laws net later (subst IsWhole (sym failing.0) tt) failing.1 drained claim distinct all_drawn
-stop_says plan tables before d seat Memory laws net later failing drained claim distinct all_drawn = tt
+stop_says plan tables before d claim (ExprFailed node kind) laws net later failing drained begun same stopped =
+    run_fails plan tables before d node kind laws net later (subst IsWhole (sym failing.0) tt) failing.1 drained begun (subst IsStopped same stopped)
+stop_says plan tables before d claim Memory laws net later failing drained begun same stopped = tt
 
 -- the rows of a driver that is over, once its seat settled
-pub settle_says : {E : Type 0} (r : Result (List Row) E) (rows : List Row) (plan : PlanForm) (tables : List (List Row)) (before d : DriverState) (seat : SeatState) (n : ℕ)
-    → IsNetOf plan tables before → IsLater before d → d.fault ≡ None → IsOver d → IsDrained d.source → claim_of d.source ≡ Some seat
-    → IsCount (seat ∷ []) n → SameBag (numbers_of (seat ∷ [])) (range_with_len 0 n) → rows ≡ rows_given d.target
-    → IfOk r (λ given. given ≡ rows) → IfOk r (Allows (tree_of plan) tables)
-settle_says (Ok list) rows plan tables before d seat n net later none over drained claim count drawn gave same =
-    subst (Allows (tree_of plan) tables) (sym (same ∙ gave)) (run_gives plan tables before d seat n net later (subst IsWhole (sym none) tt) over drained claim count drawn)
-settle_says (Err e) rows plan tables before d seat n net later none over drained claim count drawn gave same = tt
-
--- the driver has a seat
-pub has_seat : (d : DriverState) → IsAlone d → claim_of d.source ≡ None → ⊥
-has_seat d alone none = let some = ap claim_of alone.source in cc
-
-some_ended : (source : Source) (seat : SeatState) → claim_of source ≡ Some seat → has_ended source ≡ true → seat.is_ended ≡ true
-some_ended (Scan scan) seat is ended = ap (λ (t : SeatState). t.is_ended) (sym (some_seat scan.seat seat is)) ∙ ended
-some_ended (Rows values) seat is ended = absurd cc
-
--- where the source has ended, so has its seat
-pub all_ended : (d : DriverState) (seat : SeatState) → claim_of d.source ≡ Some seat → has_ended d.source ≡ true → AllEnded (seat ∷ [])
-all_ended d seat is ended = All-cons (λ (t : SeatState). t.is_ended ≡ true) seat [] (some_ended d.source seat is ended) (All-nil (λ (t : SeatState). t.is_ended ≡ true))
+pub settle_says : {E : Type 0} (r : Result (List Row) E) (rows : List Row) (plan : PlanForm) (tables : List (List Row)) (before d : DriverState) (claim : Option SeatState)
+    → IsNetOf plan tables before → IsLater before d → d.fault ≡ None → IsOver d → IsDrained d.source → claim ≡ claim_of d.source → IsSettled claim
+    → rows ≡ rows_given d.target → IfOk r (λ given. given ≡ rows) → IfOk r (Allows (tree_of plan) tables)
+settle_says (Ok list) rows plan tables before d claim net later none over drained same settled gave is =
+    subst (Allows (tree_of plan) tables) (sym (is ∙ gave))
+    (run_gives plan tables before d net later (subst IsWhole (sym none) tt) over drained (subst IsSettled same settled))
+settle_says (Err e) rows plan tables before d claim net later none over drained same settled gave is = tt

@@ -24,15 +24,16 @@ use Rattle.tree_evaluator.specs.Fits.{FitsTables}
 use Rattle.stage_meanings.specs.Meanings.{AllMean}
 use Rattle.driver_loop.specs.Drivers.{DriverState}
 use Rattle.driver_loop.specs.contracts.stage.StageOperator.TheImpl.{ghosts}
-use Rattle.driver_loop.specs.declared.source.Source.TheVariants.{Scan}
+use Rattle.driver_loop.specs.declared.source.Source.{Source}
 use Rattle.driver_loop.specs.declared.stage.Stage.{Stage}
 use Rattle.driver_loop.specs.declared.target.Target.{Target}
 use Rattle.plan_pipelines.specs.Fragments.{IsOneFragment, run_of}
-use Rattle.plan_pipelines.specs.Built.{IsBuilt, scan_of}
+use Rattle.plan_pipelines.specs.Built.{IsBuilt, source_of}
+use Rattle.plan_runs.specs.RunPlans.{tree_of_run}
 use Rattle.plan_pipelines.specs.Sources.{IsPipeline, pipeline_of, source_rows, source_types}
 use Rattle.plan_pipelines.proofs.FragmentLemmas.{fragment_runs}
 use Rattle.task_executor.specs.declared.pipeline.Pipeline.{Pipeline}
-use Rattle.task_executor.specs.Nets.{IsNetOf, ReadsAlone}
+use Rattle.task_executor.specs.Nets.{IsNetOf, Reads, ReadsAlone, RowsFit, rows_below}
 use Rattle.task_executor.specs.Pipelines.{CanFit, IsMadeFor, NoneLearns}
 use Rattle.task_executor.specs.Wirings.{root_in, rows_at}
 
@@ -75,38 +76,55 @@ scan_reads tables n t columns s there is rows same size alone count =
       all = ap (λ cs. map (cut cs) s.rows) same ∙ ap (map (cut columns)) (rows ∙ sym table);
     }
 
--- the rows of a pipeline's source are those that its scan reads
-pub source_is : (tables : List (List (List Value))) (root : NodeForm) → IsBuilt root → source_rows tables (run_of root) ≡ scanned tables (scan_of root).table (scan_of root).columns
+-- the rows of a pipeline's source are those of what lies below its nodes
+pub source_is : (tables : List (List (List Value))) (root : NodeForm) → IsBuilt root → source_rows tables (run_of root) ≡ rows_below tables (source_of root)
 source_is tables (scan id table columns types) built = refl
-source_is tables (values id types rows) built = absurd built
+source_is tables (values id types rows) built = refl
 source_is tables (remote id fragment) built = absurd built
 source_is tables (filter id predicate input) built = source_is tables input built
 source_is tables (project id columns input) built = source_is tables input built
 source_is tables (join id kind on filters left right) built = absurd built
 source_is tables (aggregate id step keys calls input) built = absurd built
 source_is tables (aggregate_final id input) built = absurd built
-source_is tables (sort id keys input) built = absurd built
-source_is tables (top_n id step count keys input) built = absurd built
+source_is tables (sort id keys input) built = source_is tables input built
+source_is tables (top_n id step count keys input) built = source_is tables input built
 source_is tables (top_n_final id input) built = absurd built
-source_is tables (limit id step count input) built = absurd built
+source_is tables (limit id step count input) built = source_is tables input built
 source_is tables (limit_final id input) built = absurd built
 source_is tables (union id left right) built = absurd built
 
 is_pipeline : (root : NodeForm) → IsBuilt root → IsPipeline (run_of root)
 is_pipeline (scan id table columns types) built = tt
-is_pipeline (values id types rows) built = absurd built
+is_pipeline (values id types rows) built = tt
 is_pipeline (remote id fragment) built = absurd built
 is_pipeline (filter id predicate input) built = is_pipeline input built
 is_pipeline (project id columns input) built = is_pipeline input built
 is_pipeline (join id kind on filters left right) built = absurd built
 is_pipeline (aggregate id step keys calls input) built = absurd built
 is_pipeline (aggregate_final id input) built = absurd built
-is_pipeline (sort id keys input) built = absurd built
-is_pipeline (top_n id step count keys input) built = absurd built
+is_pipeline (sort id keys input) built = is_pipeline input built
+is_pipeline (top_n id step count keys input) built = is_pipeline input built
 is_pipeline (top_n_final id input) built = absurd built
-is_pipeline (limit id step count input) built = absurd built
+is_pipeline (limit id step count input) built = is_pipeline input built
 is_pipeline (limit_final id input) built = absurd built
 is_pipeline (union id left right) built = absurd built
+
+-- rows of the plan that lie below a node fit where the node does
+pub rows_fit : (tables : List (List (List Value))) (root : NodeForm) → IsBuilt root → FitsTables (tree_of_run (run_of root)) tables → RowsFit (source_of root)
+rows_fit tables (scan id table columns types) built fits = tt
+rows_fit tables (values id types rows) built fits = fits.1
+rows_fit tables (remote id fragment) built fits = absurd built
+rows_fit tables (filter id predicate input) built fits = rows_fit tables input built fits.1
+rows_fit tables (project id columns input) built fits = rows_fit tables input built fits.2
+rows_fit tables (join id kind on filters left right) built fits = absurd built
+rows_fit tables (aggregate id step keys calls input) built fits = absurd built
+rows_fit tables (aggregate_final id input) built fits = absurd built
+rows_fit tables (sort id keys input) built fits = rows_fit tables input built fits
+rows_fit tables (top_n id step count keys input) built fits = rows_fit tables input built fits
+rows_fit tables (top_n_final id input) built fits = absurd built
+rows_fit tables (limit id step count input) built fits = rows_fit tables input built fits
+rows_fit tables (limit_final id input) built fits = absurd built
+rows_fit tables (union id left right) built fits = absurd built
 
 -- the root of a plan of one fragment
 pub root_is : (plan : PlanForm) (root : NodeForm) → IsOneFragment plan root → root_in plan ≡ root
@@ -128,25 +146,25 @@ gave_none s none =
 pub ok_same : {A E : Type 0} (a b : A) → ◌≡◌ {A = Result A E} (Ok a) (Ok b) → a ≡ b
 ok_same a b same = cc
 
--- the driver of a plan, over its scan and its stages
-pub net_is : (plan : PlanForm) (tables : List Table) (root found : NodeForm) (scan : ScanState) (below : Pipeline) (target : Target) (d : DriverState)
+-- the driver of a plan, over its source and its stages
+pub net_is : (plan : PlanForm) (tables : List Table) (root found : NodeForm) (source : Source) (below : Pipeline) (target : Target) (d : DriverState)
     → IsOneFragment plan root → IsBuilt root → found ≡ root_in plan → FitsTables (tree_of plan) (map rows_of tables)
-    → ReadsAlone scan (scanned (map rows_of tables) (scan_of found).table (scan_of found).columns) → IsMadeFor found below
-    → d ≡ record { number = 0; source = Scan scan; stages = below.stages.items; target = target; work = 0; is_finished = false; fault = None }
+    → Reads source (rows_below (map rows_of tables) (source_of found)) → IsMadeFor found below
+    → d ≡ record { number = 0; source = source; stages = below.stages.items; target = target; work = 0; is_finished = false; fault = None }
     → IsNetOf plan (map rows_of tables) d
 net_is plan tables root found s below target d one built is fits reads made same =
     let here : found ≡ root = is ∙ root_is plan root one in
     let own : IsMadeFor root below = subst (λ n. IsMadeFor n below) here made in
-    let rows = subst (λ n. ReadsAlone s (scanned (map rows_of tables) (scan_of n).table (scan_of n).columns)) here reads in
+    let rows = subst (λ n. Reads s (rows_below (map rows_of tables) (source_of n))) here reads in
     let stages : d.stages ≡ below.stages.items = ap (λ (x : DriverState). x.stages) same in
+    let from : d.source ≡ s = ap (λ (x : DriverState). x.source) same in
     record {
       root = root;
       one = one;
       is_pipeline = is_pipeline root built;
       fits = fits;
-      scan = s;
-      source = ap (λ (x : DriverState). x.source) same;
-      reads = subst (ReadsAlone s) (sym (source_is (map rows_of tables) root built)) rows;
+      reads = subst (λ (x : Source). Reads x (source_rows (map rows_of tables) (run_of root))) (sym from)
+          (subst (Reads s) (sym (source_is (map rows_of tables) root built)) rows);
       given = below.types;
       means = subst (λ ss. AllMean ghosts ss (source_types (run_of root)) (pipeline_of (run_of root)) below.types) (sym stages) own.means;
       made = subst (λ (ss : List Stage). map ghosts.as_made ss ≡ ss) (sym stages) own.made;

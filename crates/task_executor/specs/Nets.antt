@@ -7,7 +7,9 @@ use Rattle.split_source.specs.Scans.{ScanState}
 use Rattle.split_source.specs.Seats.{AreAllOf}
 use Rattle.split_source.specs.Splits.{split_count}
 use Rattle.driver_loop.specs.Drivers.{DriverState}
-use Rattle.driver_loop.specs.declared.source.Source.TheVariants.{Scan}
+use Rattle.driver_loop.specs.Ends.{rows_taken}
+use Rattle.driver_loop.specs.declared.source.Source.{Source}
+use Rattle.driver_loop.specs.declared.source.Source.TheVariants.{Scan, Rows}
 use Rattle.driver_loop.specs.contracts.stage.StageOperator.TheImpl.{ghosts}
 use Rattle.driver_loop.specs.declared.run_fault.RunFault.{RunFault}
 use Rattle.driver_loop.specs.declared.run_fault.RunFault.TheVariants.{ExprFailed, Memory}
@@ -16,9 +18,12 @@ use Rattle.plan_docs.specs.Plans.{PlanForm}
 use Rattle.plan_reader.specs.Trees.{tree_of}
 use Rattle.plan_trees.specs.TreeForms.{TreeForm}
 use Rattle.plan_trees.specs.Stopped.{MayFail}
+use Rattle.page_judges.specs.Typed.{AllFit}
+use Rattle.plan_trees.specs.Allowed.{scanned}
 use Rattle.tree_evaluator.specs.Fits.{FitsTables}
 use Rattle.stage_meanings.specs.Meanings.{AllMean}
 use Rattle.plan_pipelines.specs.Fragments.{IsOneFragment, run_of}
+use Rattle.plan_pipelines.specs.Built.{PipelineSource, from_plan, from_table}
 use Rattle.plan_pipelines.specs.Sources.{IsPipeline, pipeline_of, source_rows, source_types}
 use Rattle.task_executor.specs.Pipelines.{NoneLearns}
 
@@ -29,22 +34,38 @@ pub record ReadsAlone (scan : ScanState) (rows : List Row) : Type 0 where
   pub count : scan.seat.claims.of.count ≡ split_count (length scan.rows) scan.size
   pub all : map (cut scan.columns) scan.rows ≡ rows
 
--- the driver reads a table by a seat that is the only one
-pub record IsAlone (driver : DriverState) : Type 0 where
-  pub scan : ScanState
-  pub source : driver.source ≡ Scan scan
-  pub all : AreAllOf scan.seat.claims (scan.seat ∷ [])
+-- the source has these rows, and none of them was or is given elsewhere
+abbrev pub Reads : Source → List Row → Type 0
+Reads (Scan scan) rows = ReadsAlone scan rows
+Reads (Rows values) rows = values.rows ≡ rows
 
--- the driver runs the plan over the tables: its scan reads the rows of the pipeline's source, and its
+-- it gave nothing
+abbrev pub IsFresh : Source → Type 0
+IsFresh source = rows_taken source ≡ []
+
+-- the rows of a pipeline's source: of a table, cut to the columns, or those of the plan
+abbrev pub rows_below : List (List Row) → PipelineSource → List Row
+rows_below tables (from_table table columns) = scanned tables table columns
+rows_below tables (from_plan types rows) = rows
+
+-- rows of the plan fit their types
+abbrev pub RowsFit : PipelineSource → Type 0
+RowsFit (from_table table columns) = Unit {0}
+RowsFit (from_plan types rows) = AllFit types rows
+
+-- the seat of the source, if it has one, is the only one of its claims
+abbrev pub IsAlone : Source → Type 0
+IsAlone (Scan scan) = AreAllOf scan.seat.claims (scan.seat ∷ [])
+IsAlone (Rows values) = Unit {0}
+
+-- the driver runs the plan over the tables: its source has the rows of the pipeline's source, and its
 -- stages, as they were made, mean those of the pipeline
 pub record IsNetOf (plan : PlanForm) (tables : List (List Row)) (driver : DriverState) : Type 0 where
   pub root : NodeForm
   pub one : IsOneFragment plan root
   pub is_pipeline : IsPipeline (run_of root)
   pub fits : FitsTables (tree_of plan) tables
-  pub scan : ScanState
-  pub source : driver.source ≡ Scan scan
-  pub reads : ReadsAlone scan (source_rows tables (run_of root))
+  pub reads : Reads driver.source (source_rows tables (run_of root))
   pub given : List SqlType
   pub means : AllMean ghosts driver.stages (source_types (run_of root)) (pipeline_of (run_of root)) given
   pub made : map ghosts.as_made driver.stages ≡ driver.stages

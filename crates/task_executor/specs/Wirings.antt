@@ -6,9 +6,11 @@ use Rattle.plan_docs.specs.Nodes.{NodeForm}
 use Rattle.plan_docs.specs.Nodes as node
 use Rattle.plan_docs.specs.Plans.{PlanForm}
 use Rattle.split_source.specs.Splits.{split_count}
-use Rattle.plan_pipelines.specs.Built.{scan_of}
+use Rattle.plan_pipelines.specs.Built.{PipelineSource, from_plan, from_table, source_of}
 use Rattle.task_executor.specs.declared.shape.Shape.{Shape}
 use Rattle.task_executor.specs.declared.wiring.Wiring.{Wiring}
+use Rattle.task_executor.specs.declared.below.Below.{Below}
+use Rattle.task_executor.specs.declared.below.Below.TheVariants.{Scanned, Constant}
 
 -- a split, a page and a turn have a row, and a page no more than the most
 pub record IsShape (shape : Shape) : Type 0 where
@@ -29,8 +31,18 @@ root_in plan = unwrap_or (option_map (λ fragment. fragment.root) (slice_get pla
 abbrev pub rows_at : List Table → ℕ → List (List Value)
 rows_at tables place = unwrap_or (option_map (λ table. table.rows) (slice_get tables place)) []
 
--- one seat, not handed out yet, claims the splits of the table that the plan scans
+-- how many splits a source is read in: rows of the plan are none
+abbrev pub splits_of : List Table → ℕ → PipelineSource → ℕ
+splits_of tables size (from_table place columns) = split_count (length (rows_at tables place)) size
+splits_of tables size (from_plan types rows) = 0
+
+-- one seat, not handed out yet, claims the splits of the plan's source
 pub record IsWiredFor (plan : PlanForm) (tables : List Table) (shape : Shape) (wiring : Wiring) : Type 0 where
   pub fresh : wiring.claims.is_handed_out ≡ false
   pub seats : wiring.claims.id.of.seats ≡ 1
-  pub count : wiring.claims.id.of.count ≡ split_count (length (rows_at tables (scan_of (root_in plan)).table)) shape.split
+  pub count : wiring.claims.id.of.count ≡ splits_of tables shape.split (source_of (root_in plan))
+
+-- the source that lies below a node
+abbrev pub below_view : Below → PipelineSource
+below_view (Scanned table columns) = from_table table columns.now
+below_view (Constant types rows) = from_plan types.now rows.now

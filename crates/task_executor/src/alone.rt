@@ -6,7 +6,7 @@ ghost use Rattle.plan_trees.specs.Allowed.{Allows};
 ghost use Rattle.operator_core.specs.Rows.{Row};
 ghost use Rattle.driver_loop.specs.Drivers.{DriverState};
 ghost use Rattle.task_executor.specs.Nets.{FailsFor, IsAlone, IsNetOf};
-ghost use Rattle.task_executor.specs.Turns.{IsFailing, IsLater};
+ghost use Rattle.task_executor.specs.Turns.{IsAll, IsEnded, IsFailing, IsLater, IsSettled, IsStopped};
 
 use crate::net::Net;
 use crate::result::rows_of;
@@ -111,22 +111,33 @@ fn give_turn<R: Threads + Wait + Sync>(
 /// The rows of a driver that is finished, once its seat settled which splits it read.
 fn settle(alloc: Global, driver: Driver<'_>) -> Result<RowList, Memory>
     requires finished { driver.is_finished ≡ true }
-    requires alone { IsAlone driver }
+    requires alone { IsAlone driver.source }
     ensures { (plan : PlanForm) (tables : List (List Row)) (before : DriverState)
         → IsNetOf plan tables before → IsLater before driver.entry
         → IfOk result (λ rows. Allows (tree_of plan) tables rows) }
 {
     driver.keeps();
     let Pieces { claim, rows, .. } = driver.into_pieces();
-    let Some(seat) = claim else { unreachable!() };
-    settle_claims(alone(alloc, seat)?);
+    settle_seat(alloc, claim)?;
     rows_of(alloc, rows)
+}
+
+/// Settles which splits a seat drew, if there is one.
+fn settle_seat(alloc: Global, claim: Option<ClaimSeat<'_>>) -> Result<(), Memory>
+    requires all { IsAll claim.entry }
+    requires ended { IsEnded claim.entry }
+    ensures { IfOk result (λ _. IsSettled claim.entry) }
+{
+    if let Some(seat) = claim {
+        settle_claims(alone(alloc, seat)?);
+    }
+    Ok(())
 }
 
 /// The fault of a driver that failed, once its seat told which splits it read.
 fn stop(alloc: Global, driver: Driver<'_>, fault: RunFault) -> RunFault
     requires failing { IsFailing driver fault }
-    requires alone { IsAlone driver }
+    requires alone { IsAlone driver.source }
     ensures { (plan : PlanForm) (tables : List (List Row)) (before : DriverState)
         → IsNetOf plan tables before → IsLater before driver.entry
         → FailsFor (tree_of plan) tables result }
@@ -134,16 +145,21 @@ fn stop(alloc: Global, driver: Driver<'_>, fault: RunFault) -> RunFault
     laws::laws::<Stage>(PhantomData);
     driver.keeps();
     let Pieces { claim, .. } = driver.stop();
-    let Some(seat) = claim else {
-        return fault;
-    };
-    match alone(alloc, seat) {
-        Ok(seats) => {
-            stop_claims(seats);
-            fault
-        }
+    match stop_seat(alloc, claim) {
+        Ok(()) => fault,
         Err(Memory) => RunFault::Memory,
     }
+}
+
+/// Tells which splits a seat drew, if there is one.
+fn stop_seat(alloc: Global, claim: Option<ClaimSeat<'_>>) -> Result<(), Memory>
+    requires { IsAll claim.entry }
+    ensures { IfOk result (λ _. IsStopped claim.entry) }
+{
+    if let Some(seat) = claim {
+        stop_claims(alone(alloc, seat)?);
+    }
+    Ok(())
 }
 
 /// One seat as a list.

@@ -1,20 +1,22 @@
 //! The stages of a pipeline, made from the nodes of a plan.
-ghost use Rattle.std.specs.Prelude.{◌≡◌, ◌<◌, [], map, length, IfOk};
+ghost use Rattle.std.specs.Prelude.{◌≡◌, ◌<◌, ◌≤◌, ℕ, [], map, length, IfOk};
 ghost use Rattle.sql_exprs.specs.Forms.{form_view};
 ghost use Rattle.sql_exprs.specs.Meaning.{kind_of};
 ghost use Rattle.page_judges.specs.Typed.{AllTyped, IsTyped};
 ghost use Rattle.plan_docs.specs.Nodes.{node_view};
-ghost use Rattle.plan_runs.specs.Nets.{filter, project};
+ghost use Rattle.plan_runs.specs.Nets.{filter, limit, project, sort, topn};
 ghost use Rattle.stage_meanings.specs.Pipelines.{at_node};
 ghost use Rattle.plan_pipelines.specs.Built.{IsBuilt};
 ghost use Rattle.task_executor.specs.Pipelines.{CanFit, Extends, IsMadeFor};
 
 use driver_loop::Stage;
-use plan_reader::Node;
+use plan_reader::{Node, copy_exprs};
+use row_ops::LimitOp;
 use sql_exprs::{Expr, copy_expr, kind_of};
-use sql_values::{Memory, SqlType, Types};
+use sql_values::{KeySpec, Memory, SqlType, Types};
 use stage_meanings::{filter_of, project_of};
 use std::alloc::Global;
+use topn_sort::{SortOp, TopNOp};
 
 /// The stages of a pipeline, from its source on, and the types of the rows that the last one gives.
 #[derive(Debug, Drop)]
@@ -24,35 +26,47 @@ pub struct Pipeline {
 }
 
 impl Pipeline {
-    /// The stages of the nodes from the source up to this one.
-    pub fn of(alloc: Global, node: &Node) -> Result<Pipeline, Memory>
+    /// The stages of the nodes from the source up to this one, with pages of at most `page` rows.
+    pub fn of(alloc: Global, node: &Node, page: u32) -> Result<Pipeline, Memory>
         requires built { IsBuilt (node_view node.now) }
         requires fits { CanFit (node_view node.now) }
+        requires page { (0 < page) × (page ≤ 8192) }
         ensures { IfOk result (IsMadeFor (node_view node.now)) }
     {
         match node {
             Node::Scan { types, .. } => Pipeline::of_source(alloc, types.as_slice()),
+            Node::Values { types, .. } => Pipeline::of_source(alloc, types.as_slice()),
             Node::Filter {
                 id,
                 predicate,
                 input,
             } => {
-                let below = Pipeline::of(alloc, input)?;
+                let below = Pipeline::of(alloc, input, page)?;
                 below.with_filter(alloc, *id, copy_expr(alloc, predicate)?)
             }
             Node::Project { id, columns, input } => {
-                let below = Pipeline::of(alloc, input)?;
+                let below = Pipeline::of(alloc, input, page)?;
                 below.with_project(alloc, *id, copy_exprs(alloc, columns.as_slice())?)
             }
-            Node::Values { .. }
-            | Node::Remote { .. }
+            Node::Sort { keys, input, .. } => {
+                let below = Pipeline::of(alloc, input, page)?;
+                below.with_sort(alloc, keys.as_slice(), page)
+            }
+            Node::TopN {
+                count, keys, input, ..
+            } => {
+                let below = Pipeline::of(alloc, input, page)?;
+                below.with_topn(alloc, *count, keys.as_slice(), page)
+            }
+            Node::Limit { count, input, .. } => {
+                let below = Pipeline::of(alloc, input, page)?;
+                below.with_limit(alloc, *count)
+            }
+            Node::Remote { .. }
             | Node::Join { .. }
             | Node::Aggregate { .. }
             | Node::AggregateFinal { .. }
-            | Node::Sort { .. }
-            | Node::TopN { .. }
             | Node::TopNFinal { .. }
-            | Node::Limit { .. }
             | Node::LimitFinal { .. }
             | Node::Union { .. } => unreachable!(),
         }
@@ -103,16 +117,52 @@ impl Pipeline {
             types: given,
         })
     }
-}
 
-fn copy_exprs(alloc: Global, exprs: &[Expr]) -> Result<Vec<Expr>, Memory>
-    ensures { IfOk result (λ copy. map form_view copy.items ≡ map form_view exprs.now) }
-{
-    let mut copy = Vec::with_capacity(alloc, exprs.len())?;
-    for expr in exprs {
-        copy.push(copy_expr(alloc, expr)?)?;
+    /// The same, and a sort behind.
+    fn with_sort(self, alloc: Global, keys: &[KeySpec], page: u32) -> Result<Pipeline, Memory>
+        requires some { 0 < length self.types }
+        requires page { (0 < page) × (page ≤ 8192) }
+        ensures extends { IfOk result (λ p. (id : ℕ) → Extends self (at_node id (sort keys.now)) p) }
+        ensures types { IfOk result (λ p. p.types ≡ self.types) }
+    {
+        let Pipeline { mut stages, types } = self;
+        let taken = Vec::from_slice(alloc, types.as_slice())?;
+        let keys = Vec::from_slice(alloc, keys)?;
+        stages.push(Stage::Sort(SortOp::new(alloc, keys, taken, page)?))?;
+        Ok(Pipeline { stages, types })
     }
-    Ok(copy)
+
+    /// The same, and a top n behind.
+    fn with_topn(
+        self,
+        alloc: Global,
+        count: u32,
+        keys: &[KeySpec],
+        page: u32,
+    ) -> Result<Pipeline, Memory>
+        requires some { 0 < length self.types }
+        requires page { (0 < page) × (page ≤ 8192) }
+        ensures extends { IfOk result
+            (λ p. (id : ℕ) → Extends self (at_node id (topn count keys.now)) p) }
+        ensures types { IfOk result (λ p. p.types ≡ self.types) }
+    {
+        let Pipeline { mut stages, types } = self;
+        let taken = Vec::from_slice(alloc, types.as_slice())?;
+        let keys = Vec::from_slice(alloc, keys)?;
+        stages.push(Stage::TopN(TopNOp::new(alloc, count, keys, taken, page)?))?;
+        Ok(Pipeline { stages, types })
+    }
+
+    /// The same, and a limit behind.
+    fn with_limit(self, alloc: Global, count: u32) -> Result<Pipeline, Memory>
+        ensures extends { IfOk result (λ p. (id : ℕ) → Extends self (at_node id (limit count)) p) }
+        ensures types { IfOk result (λ p. p.types ≡ self.types) }
+    {
+        let Pipeline { mut stages, types } = self;
+        let taken = Types::of(Vec::from_slice(alloc, types.as_slice())?);
+        stages.push(Stage::Limit(LimitOp::new(alloc, count), taken))?;
+        Ok(Pipeline { stages, types })
+    }
 }
 
 /// The types of the values of these columns.

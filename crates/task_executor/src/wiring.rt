@@ -2,17 +2,18 @@
 ghost use Rattle.std.specs.Prelude.{◌≡◌, ◌<◌, [], ◌∷◌, false, IfOk, length};
 ghost use Rattle.plan_docs.specs.Nodes.{node_view};
 ghost use Rattle.plan_docs.specs.Plans.{plan_view};
-ghost use Rattle.plan_pipelines.specs.Built.{IsBuilt, IsRunnable, scan_of};
+ghost use Rattle.plan_pipelines.specs.Built.{CanBeRead, IsRunnable};
 ghost use Rattle.split_source.specs.Seats.{AreAllOf, new_seat};
-ghost use Rattle.task_executor.specs.Wirings.{AreFew, IsShape, IsWiredFor, root_in};
+ghost use Rattle.task_executor.specs.Wirings.{AreFew, IsShape, IsWiredFor, below_view, root_in, splits_of};
 
+use crate::below::{Below, source_below};
 use crate::shape::Shape;
 use plan_reader::{Node, Plan};
 use split_source::{ClaimSeat, Claims, split_count};
-use sql_values::{Memory, Places, Table};
+use sql_values::{Memory, Table};
 use std::alloc::Global;
 
-/// The word by which the splits of the plan's scan are claimed.
+/// The word by which the splits of the plan's source are claimed.
 #[derive(Drop)]
 pub struct Wiring {
     pub(crate) claims: Claims,
@@ -31,9 +32,7 @@ impl Wiring {
         requires shape { IsShape shape.now }
         ensures { IfOk result (IsWiredFor (plan_view plan.now) tables.now shape.now) }
     {
-        let scan = scan_below(root_of(plan));
-        let table = &tables[scan.table as usize];
-        let count = split_count(table.rows.len() as u32, shape.split);
+        let count = splits_of(tables, shape.split, source_below(root_of(plan)));
         Ok(Wiring {
             claims: Claims::new(alloc, count, 1)?,
         })
@@ -54,37 +53,16 @@ impl Wiring {
     }
 }
 
-/// What a scan reads: a table of the plan, and columns of it.
-#[derive(Clone, Copy, Debug)]
-pub(crate) struct Scanned<'p> {
-    pub(crate) table: u32,
-    pub(crate) columns: &'p Places,
-}
-
-/// The scan of a pipeline.
-pub(crate) fn scan_below(node: &Node) -> Scanned<'_>
-    requires { IsBuilt (node_view node.now) }
-    ensures table { result.table ≡ (scan_of (node_view node.now)).table }
-    ensures columns { result.columns.now ≡ (scan_of (node_view node.now)).columns }
+/// How many splits a source is read in.
+fn splits_of(tables: &[Table], size: u32, source: Below<'_>) -> u32
+    requires few { AreFew tables.now }
+    requires size { 0 < size }
+    requires there { CanBeRead tables.now (below_view source) }
+    ensures { result ≡ splits_of tables.now size (below_view source) }
 {
-    match node {
-        Node::Scan { table, columns, .. } => Scanned {
-            table: *table,
-            columns,
-        },
-        Node::Filter { input, .. } => scan_below(input),
-        Node::Project { input, .. } => scan_below(input),
-        Node::Values { .. }
-        | Node::Remote { .. }
-        | Node::Join { .. }
-        | Node::Aggregate { .. }
-        | Node::AggregateFinal { .. }
-        | Node::Sort { .. }
-        | Node::TopN { .. }
-        | Node::TopNFinal { .. }
-        | Node::Limit { .. }
-        | Node::LimitFinal { .. }
-        | Node::Union { .. } => unreachable!(),
+    match source {
+        Below::Scanned(table, _) => split_count(tables[table as usize].rows.len() as u32, size),
+        Below::Constant(..) => 0,
     }
 }
 

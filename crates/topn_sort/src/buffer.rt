@@ -64,6 +64,12 @@ impl SortBuffer {
         })
     }
 
+    pub fn types(&self) -> &[SqlType]
+        ensures { result.now ≡ self.now.types }
+    {
+        self.rows.types()
+    }
+
     /// How many rows there are, before the output has begun.
     pub fn len(&self) -> usize
         requires { self.now.begun ≡ false }

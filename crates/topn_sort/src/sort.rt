@@ -67,6 +67,13 @@ impl SortOp {
             is_told: false,
         })
     }
+
+    /// The types of the rows that it takes and gives.
+    pub fn types(&self) -> &[SqlType]
+        ensures { result.now ≡ self.now.buffer.types }
+    {
+        self.buffer.types()
+    }
 }
 
 impl Operator for SortOp {

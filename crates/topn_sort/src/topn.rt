@@ -71,6 +71,13 @@ impl TopNOp {
         })
     }
 
+    /// The types of the rows that it takes and gives.
+    pub fn types(&self) -> &[SqlType]
+        ensures { result.now ≡ self.now.buffer.types }
+    {
+        self.buffer.types()
+    }
+
     /// The rows of a page, or where there are as many rows as are wanted those that stand before the last one.
     fn candidates(&self, page: Page) -> Result<ColumnRows, Memory>
         requires some { 0 < self.now.count }

@@ -8,19 +8,19 @@ use Rattle.task_executor.proofs.net.scan_source.Goals as goal
 
 pub new-requires-clause-fits : goal.new-requires-clause-fits
 new-requires-clause-fits c =
-    readable c.args.tables.now c.args.scan.now.table c.index-tables-scan.result c.in_ok-columns.columns.items
-    (within c.args.tables.now c.args.scan.now.table c.requires.reads.table c.requires.reads.is_table) c.index-tables-scan.is c.requires.readable
+    readable c.args.tables.now c.args.table c.index-tables-table.result c.in_ok-columns.columns.items
+    (within c.args.tables.now c.args.table c.requires.reads.table c.requires.reads.is_table) c.index-tables-table.is c.requires.readable
 
 pub returns-clause-fresh : goal.returns-clause-fresh
 returns-clause-fresh c = gave_none c.new.result (ap (λ (x : ScanState). x.seat.numbers) c.new.ensures ∙ c.requires.new)
 
 pub returns-clause-reads : goal.returns-clause-reads
 returns-clause-reads c =
-    let n = c.args.scan.now.table in
+    let n = c.args.table in
     let seat = ap (λ (x : ScanState). x.seat) c.new.ensures in
     let size = ap (λ (x : ScanState). x.size) c.new.ensures in
-    scan_reads c.args.tables.now n c.index-tables-scan.result c.args.scan.now.columns.now c.new.result
-    (within c.args.tables.now n c.requires.reads.table c.requires.reads.is_table) c.index-tables-scan.is
+    scan_reads c.args.tables.now n c.index-tables-table.result c.args.columns.now c.new.result
+    (within c.args.tables.now n c.requires.reads.table c.requires.reads.is_table) c.index-tables-table.is
     (ap (λ (x : ScanState). x.rows) c.new.ensures)
     (ap (λ (x : ScanState). x.columns) c.new.ensures ∙ c.in_ok-columns.ensures.items ∙ c.as_slice.ensures)
     (subst (λ m. 0 < m) (sym size) c.requires.shape.split)

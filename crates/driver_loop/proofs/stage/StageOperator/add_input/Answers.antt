@@ -11,3 +11,15 @@ returns-in-Limit-clause-fails c = rw c.in-Limit.is c.add_input-in-Limit.ensures.
 
 pub returns-in-Limit-clause-fault : goal.returns-in-Limit-clause-fault
 returns-in-Limit-clause-fault c = rw c.in-Limit.is c.add_input-in-Limit.ensures.fault
+
+pub returns-in-Sort-clause-fails : goal.returns-in-Sort-clause-fails
+returns-in-Sort-clause-fails c = rw c.in-Sort.is c.add_input-in-Sort.ensures.fails
+
+pub returns-in-TopN-clause-fails : goal.returns-in-TopN-clause-fails
+returns-in-TopN-clause-fails c = rw c.in-TopN.is c.add_input-in-TopN.ensures.fails
+
+pub returns-in-Sort-clause-fault : goal.returns-in-Sort-clause-fault
+returns-in-Sort-clause-fault c = rw c.in-Sort.is c.add_input-in-Sort.ensures.fault
+
+pub returns-in-TopN-clause-fault : goal.returns-in-TopN-clause-fault
+returns-in-TopN-clause-fault c = rw c.in-TopN.is c.add_input-in-TopN.ensures.fault

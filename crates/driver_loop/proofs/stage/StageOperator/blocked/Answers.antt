@@ -23,3 +23,27 @@ returns-in-Limit-clause-takes g c = rw c.in-Limit.is c.blocked-in-Limit.ensures.
 
 pub returns-in-Limit-clause-pages : goal.returns-in-Limit-clause-pages
 returns-in-Limit-clause-pages g c = rw c.in-Limit.is c.blocked-in-Limit.ensures.pages
+
+pub returns-in-Sort-clause-gives : goal.returns-in-Sort-clause-gives
+returns-in-Sort-clause-gives g c = rw c.in-Sort.is c.blocked-in-Sort.ensures.gives
+
+pub returns-in-TopN-clause-gives : goal.returns-in-TopN-clause-gives
+returns-in-TopN-clause-gives g c = rw c.in-TopN.is c.blocked-in-TopN.ensures.gives
+
+pub returns-in-Sort-clause-fails : goal.returns-in-Sort-clause-fails
+returns-in-Sort-clause-fails g c = rw c.in-Sort.is c.blocked-in-Sort.ensures.fails
+
+pub returns-in-TopN-clause-fails : goal.returns-in-TopN-clause-fails
+returns-in-TopN-clause-fails g c = rw c.in-TopN.is c.blocked-in-TopN.ensures.fails
+
+pub returns-in-Sort-clause-takes : goal.returns-in-Sort-clause-takes
+returns-in-Sort-clause-takes g c = rw c.in-Sort.is c.blocked-in-Sort.ensures.takes
+
+pub returns-in-TopN-clause-takes : goal.returns-in-TopN-clause-takes
+returns-in-TopN-clause-takes g c = rw c.in-TopN.is c.blocked-in-TopN.ensures.takes
+
+pub returns-in-Sort-clause-pages : goal.returns-in-Sort-clause-pages
+returns-in-Sort-clause-pages g c = rw c.in-Sort.is c.blocked-in-Sort.ensures.pages
+
+pub returns-in-TopN-clause-pages : goal.returns-in-TopN-clause-pages
+returns-in-TopN-clause-pages g c = rw c.in-TopN.is c.blocked-in-TopN.ensures.pages

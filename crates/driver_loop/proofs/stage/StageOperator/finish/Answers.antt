@@ -11,3 +11,15 @@ returns-in-Limit-clause-fails c = rw c.in-Limit.is c.finish-in-Limit.ensures.fai
 
 pub returns-in-Limit-clause-pages : goal.returns-in-Limit-clause-pages
 returns-in-Limit-clause-pages c = rw c.in-Limit.is c.finish-in-Limit.ensures.pages
+
+pub returns-in-Sort-clause-fails : goal.returns-in-Sort-clause-fails
+returns-in-Sort-clause-fails c = rw c.in-Sort.is c.finish-in-Sort.ensures.fails
+
+pub returns-in-TopN-clause-fails : goal.returns-in-TopN-clause-fails
+returns-in-TopN-clause-fails c = rw c.in-TopN.is c.finish-in-TopN.ensures.fails
+
+pub returns-in-Sort-clause-pages : goal.returns-in-Sort-clause-pages
+returns-in-Sort-clause-pages c = rw c.in-Sort.is c.finish-in-Sort.ensures.pages
+
+pub returns-in-TopN-clause-pages : goal.returns-in-TopN-clause-pages
+returns-in-TopN-clause-pages c = rw c.in-TopN.is c.finish-in-TopN.ensures.pages

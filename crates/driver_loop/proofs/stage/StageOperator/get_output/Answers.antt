@@ -29,3 +29,33 @@ returns-in-Limit-clause-page c = rw c.in-Limit.is c.get_output-in-Limit.ensures.
 
 pub returns-in-Limit-clause-pages : goal.returns-in-Limit-clause-pages
 returns-in-Limit-clause-pages c = rw c.in-Limit.is c.get_output-in-Limit.ensures.pages
+
+pub returns-in-Sort-clause-fails : goal.returns-in-Sort-clause-fails
+returns-in-Sort-clause-fails c = rw c.in-Sort.is c.get_output-in-Sort.ensures.fails
+
+pub returns-in-TopN-clause-fails : goal.returns-in-TopN-clause-fails
+returns-in-TopN-clause-fails c = rw c.in-TopN.is c.get_output-in-TopN.ensures.fails
+
+pub returns-in-Sort-clause-none : goal.returns-in-Sort-clause-none
+returns-in-Sort-clause-none c = rw c.in-Sort.is c.get_output-in-Sort.ensures.none
+
+pub returns-in-TopN-clause-none : goal.returns-in-TopN-clause-none
+returns-in-TopN-clause-none c = rw c.in-TopN.is c.get_output-in-TopN.ensures.none
+
+pub returns-in-Sort-clause-went : goal.returns-in-Sort-clause-went
+returns-in-Sort-clause-went c = rw c.in-Sort.is c.get_output-in-Sort.ensures.went
+
+pub returns-in-TopN-clause-went : goal.returns-in-TopN-clause-went
+returns-in-TopN-clause-went c = rw c.in-TopN.is c.get_output-in-TopN.ensures.went
+
+pub returns-in-Sort-clause-page : goal.returns-in-Sort-clause-page
+returns-in-Sort-clause-page c = rw c.in-Sort.is c.get_output-in-Sort.ensures.page
+
+pub returns-in-TopN-clause-page : goal.returns-in-TopN-clause-page
+returns-in-TopN-clause-page c = rw c.in-TopN.is c.get_output-in-TopN.ensures.page
+
+pub returns-in-Sort-clause-pages : goal.returns-in-Sort-clause-pages
+returns-in-Sort-clause-pages c = rw c.in-Sort.is c.get_output-in-Sort.ensures.pages
+
+pub returns-in-TopN-clause-pages : goal.returns-in-TopN-clause-pages
+returns-in-TopN-clause-pages c = rw c.in-TopN.is c.get_output-in-TopN.ensures.pages

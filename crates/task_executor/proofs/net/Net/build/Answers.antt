@@ -1,10 +1,8 @@
 use Rattle.std.proofs.Common.{map, subst}
-use Rattle.plan_pipelines.specs.Built.{scan_of}
-use Rattle.plan_trees.specs.Allowed.{scanned}
-use Rattle.task_executor.specs.Nets.{ReadsAlone}
 use Rattle.plan_docs.specs.Plans.{plan_view}
-use Rattle.tree_evaluator.specs.Stops.{rows_of}
 use Rattle.plan_docs.specs.Nodes.{node_view}
+use Rattle.tree_evaluator.specs.Stops.{rows_of}
+use Rattle.task_executor.specs.Nets.{Reads, rows_below}
 use Rattle.task_executor.proofs.WiringLemmas.{net_is, ok_same, root_fits}
 use Rattle.task_executor.proofs.net.Net.build.Goals as goal
 
@@ -17,7 +15,5 @@ pub returns : goal.returns
 returns c =
     net_is (plan_view c.args.plan.now) c.args.tables.now c.requires.runnable.root (node_view c.root_of-root.result.now) c.in_ok-source.source
     c.in_ok-pipeline.pipeline _ c.in_ok-driver.driver c.requires.runnable.one c.requires.runnable.built c.root_of-root.ensures c.requires.fits
-    (subst (λ n. ReadsAlone c.in_ok-source.source (scanned (map rows_of c.args.tables.now) n (scan_of (node_view c.root_of-root.result.now)).columns)) c.scan_below-scan.ensures.table
-    (subst (λ columns. ReadsAlone c.in_ok-source.source (scanned (map rows_of c.args.tables.now) c.scan_below-scan.result.table columns)) c.scan_below-scan.ensures.columns
-    c.in_ok-source.ensures.reads))
+    (subst (λ s. Reads c.in_ok-source.source (rows_below (map rows_of c.args.tables.now) s)) c.source_below.ensures c.in_ok-source.ensures.reads)
     c.in_ok-pipeline.ensures (ok_same _ _ c.in_ok-driver.ensures)

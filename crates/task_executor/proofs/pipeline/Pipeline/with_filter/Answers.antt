@@ -5,7 +5,7 @@ use Rattle.row_ops.specs.contracts.filter_project.FilterProjectOperator.TheImpl.
 use Rattle.driver_loop.specs.declared.stage.Stage.TheVariants.{Filter}
 use Rattle.stage_meanings.specs.Meanings.{Means}
 use Rattle.stage_meanings.specs.Pipelines.{at_node}
-use Rattle.task_executor.proofs.PipelineLemmas.{filter_means, filter_never_learns}
+use Rattle.task_executor.proofs.PipelineLemmas.{filter_means, never_learns}
 use Rattle.task_executor.proofs.pipeline.Pipeline.with_filter.Goals as goal
 
 pub returns-clause-extends : goal.returns-clause-extends
@@ -18,5 +18,5 @@ returns-clause-extends c =
       means = filter_means op c.args.self.types c.args.self.types (at_node c.args.id (filter c.args.self.types (form_view c.args.predicate)) ∷ [])
           (subst (λ ts. Means ghosts op ts (at_node c.args.id (filter ts (form_view c.args.predicate)) ∷ []) ts) own c.in_ok-filter_of.ensures.means);
       made = ap Filter c.in_ok-filter_of.ensures.fresh.made;
-      fixed = filter_never_learns op;
+      fixed = never_learns (Filter op);
     }

@@ -6,7 +6,7 @@ use Rattle.row_ops.specs.contracts.filter_project.FilterProjectOperator.TheImpl.
 use Rattle.driver_loop.specs.declared.stage.Stage.TheVariants.{Filter}
 use Rattle.stage_meanings.specs.Meanings.{Means}
 use Rattle.stage_meanings.specs.Pipelines.{at_node}
-use Rattle.task_executor.proofs.PipelineLemmas.{filter_means, filter_never_learns}
+use Rattle.task_executor.proofs.PipelineLemmas.{filter_means, never_learns}
 use Rattle.task_executor.proofs.pipeline.Pipeline.with_project.Goals as goal
 
 pub returns-clause-extends : goal.returns-clause-extends
@@ -22,5 +22,5 @@ returns-clause-extends c =
           (subst (λ ts. Means ghosts op c.args.self.types stage ts) (sym given)
           (subst (λ ts. Means ghosts op ts (at_node c.args.id (project ts forms) ∷ []) (map (kind_of ts) forms)) c.into_vec.ensures c.project_of.ensures.means));
       made = ap Filter c.project_of.ensures.fresh.made;
-      fixed = filter_never_learns op;
+      fixed = never_learns (Filter op);
     }

@@ -1,0 +1,42 @@
+-- What an operator means that chooses and orders rows, and never fails.
+use Rattle.std.proofs.Common.{◌≡◌, ℕ, List, [], ◌∷◌, ◌++◌, take, refl, sym, subst}
+use Rattle.std.specs.Prelude.{IsTrue}
+use Rattle.std.proofs.lemmas.List.Elements.{All-take}
+use Rattle.std.proofs.lemmas.List.Sorted.{All-permutation}
+use Rattle.sql_values.specs.ColumnRows.{fits_row}
+use Rattle.sql_values.specs.declared.order.KeySpec.{KeySpec}
+use Rattle.sql_values.specs.declared.types.SqlType.{SqlType}
+use Rattle.page_judges.specs.Typed.{AllFit}
+use Rattle.operator_core.specs.declared.operator.Operator.{Ghosts}
+use Rattle.operator_core.specs.Rows.{Row}
+use Rattle.plan_trees.specs.Allowed.{skipping, strict}
+use Rattle.plan_runs.specs.Nets.{Makes, Stage, limit, sort, topn}
+use Rattle.plan_runs.proofs.GoOnLemmas.{goes_on-one}
+use Rattle.stage_meanings.specs.Pipelines.{at_node}
+use Rattle.stage_meanings.specs.Meanings.{Means}
+use Rattle.stage_meanings.specs.RowMeanings.{MakesRows}
+
+-- the stage keeps the types of its rows
+abbrev pub KeepsTypes : Stage → List SqlType → Type 0
+KeepsTypes stage types = (X Y : List Row) → AllFit types X → Makes strict stage X Y → AllFit types Y
+
+pub rows_mean : {S : Type 0} (g : Ghosts S) (m : S) (node : ℕ) (types : List SqlType) (stage : Stage) → KeepsTypes stage types → MakesRows g m stage
+    → Means g m types (at_node node stage ∷ []) types
+rows_mean g m node types stage keeps own = record {
+  fits = λ X Y fit gives. keeps X Y fit (own.makes strict X Y gives);
+  makes = λ X Y fit gives none. (Y, own.makes strict X Y gives, refl);
+  goes_on = λ X Y ended done fit can. goes_on-one stage X Y ended done (λ more may.
+      let c = can.could more may in (c.0, own.makes skipping (X ++ more) (Y ++ c.0) c.1, c.2));
+  fails = λ X ended at kind fit fails. absurd (own.calm (X ++ []) at kind (fails [] (λ e. refl)));
+}
+
+pub sort_keeps : (types : List SqlType) (keys : List KeySpec) → KeepsTypes (sort keys) types
+sort_keeps types keys X Y fit sorted = All-permutation (λ row. IsTrue (fits_row types row)) X Y sorted.same fit
+
+pub topn_keeps : (types : List SqlType) (count : ℕ) (keys : List KeySpec) → KeepsTypes (topn count keys) types
+topn_keeps types count keys X Y fit top =
+    let all = All-permutation (λ row. IsTrue (fits_row types row)) X top.order top.sorted.same fit in
+    subst (AllFit types) (sym top.is) (All-take (λ row. IsTrue (fits_row types row)) count top.order all)
+
+pub limit_keeps : (types : List SqlType) (count : ℕ) → KeepsTypes (limit count) types
+limit_keeps types count X Y fit is = subst (AllFit types) (sym is) (All-take (λ row. IsTrue (fits_row types row)) count X fit)

@@ -1,5 +1,7 @@
 pub mod FindLemmas
 pub mod PlaceLemmas
+pub mod NumberLemmas
+pub mod CellLemmas
 pub mod NodeLemmas
 pub mod TreeLemmas
 pub mod PlanLemmas

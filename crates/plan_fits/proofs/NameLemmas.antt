@@ -18,6 +18,7 @@ use Rattle.plan_grammar.specs.declared.kind.Kind.TheVariants as kind
 use Rattle.plan_grammar.specs.declared.tables.Part.{Part}
 use Rattle.plan_grammar.specs.declared.words.OpWord.{OpWord}
 use Rattle.plan_grammar.specs.declared.words.OpWord.TheVariants as op
+use Rattle.plan_grammar.specs.declared.words.StepWord.{StepWord}
 use Rattle.plan_grammar.specs.Grammar.{parts_of_node}
 use Rattle.plan_grammar.specs.Json.{entries_under, text_of, text_under, under}
 use Rattle.plan_grammar.specs.Spots.{Spot}
@@ -33,10 +34,11 @@ use Rattle.plan_docs.specs.Parts.{column_of, columns_of}
 use Rattle.plan_docs.specs.ReadNodes.{inner_node, node_at, node_by}
 use Rattle.plan_docs.specs.ReadNodes as read
 use Rattle.plan_docs.specs.Words.{small}
-use Rattle.plan_pipelines.specs.Built.{Scanned, scan_of}
+use Rattle.plan_pipelines.specs.Built.{PipelineSource, from_plan, from_table, source_of}
 use Rattle.plan_fits.proofs.FindLemmas.{both_none, first_false, not_false, rest_none, some_is}
 use Rattle.plan_fits.proofs.PlaceLemmas.{Free, Part-at, Passes, free_entry, free_here, free_part, in_list, not_beyond, part_passes, text_is, under_is}
-use Rattle.plan_fits.proofs.NodeLemmas.{IsNarrow, built_word, place_within, small_same}
+use Rattle.plan_fits.proofs.NodeLemmas.{IsNarrow, built_word, limit_own, place_within, single_limit, single_topn, topn_own}
+use Rattle.plan_fits.proofs.NumberLemmas.{small_same}
 
 -- a scan's name of a table, or of a column, that is not declared
 abbrev lacks : Kind → Data → Data → Data → Bool
@@ -90,11 +92,16 @@ columns_within cs (n ∷ ns) few has =
     All-cons (λ column. column < length (columns_of cs)) (column_place cs n) (places_of cs ns) (subst (λ (p : ℕ). p < length (columns_of cs)) (sym same) within)
     (columns_within cs ns few (λ j m at. has (suc j) m at))
 
--- what a scan reads is declared
-pub record IsFound (docs : List TableDoc) (scanned : Scanned) : Type 0 where
+-- a table is declared, with the columns
+pub record IsDeclared (docs : List TableDoc) (table : ℕ) (columns : List ℕ) : Type 0 where
   pub doc : TableDoc
-  pub is_doc : slice_get docs scanned.table ≡ Some doc
-  pub within : All (λ column. column < length doc.columns) scanned.columns
+  pub is_doc : slice_get docs table ≡ Some doc
+  pub within : All (λ column. column < length doc.columns) columns
+
+-- what a scan reads is declared
+abbrev pub IsFound : List TableDoc → PipelineSource → Type 0
+IsFound docs (from_table table columns) = IsDeclared docs table columns
+IsFound docs (from_plan types rows) = Unit {0}
 
 -- a node that passes, of names that are declared
 record Named (nodes filters : ℕ) (document d : Data) (path : List Step) (owner : Data) (level : ℕ) : Type 0 where
@@ -130,7 +137,7 @@ named_columns nodes filters document d path owner level p is j n at =
 -- a scan whose table is declared
 scan_found : (document d t : Data) → IsNarrow document → table_named (text_under key.Table d) document ≡ Some t
     → ((j : ℕ) (n : Data) → slice_get (entries_under key.Columns d) j ≡ Some n → scan_has (text_of n) d document ≡ true)
-    → IsFound (map table_of (entries_under key.Tables document)) (scan_of (read.scan_of document d))
+    → IsFound (map table_of (entries_under key.Tables document)) (source_of (read.scan_of document d))
 scan_found document d t narrow found has =
     let ts = entries_under key.Tables document in
     let ns = entries_under key.Columns d in
@@ -148,34 +155,51 @@ scan_found document d t narrow found has =
       within = subst (λ (o : Option Data). All (λ column. column < length (columns_of (entries_under key.Columns t))) (places_of (columns_in o) ns)) (sym at) within;
     }
 
--- a node whose input's scan is found
-input_found : (nodes filters n : ℕ) (document d : Data) (path : List Step) (owner : Data) (level : ℕ) (docs : List TableDoc) (parts : List Part)
+-- a node whose input's source is found
+input_found : (nodes filters n : ℕ) (document d : Data) (path : List Step) (owner : Data) (level : ℕ) (docs : List TableDoc) (parts : List Part) (i : ℕ)
     → Named nodes filters document d path owner level
-    → ((e : Data) (inner : List Step) → Named nodes filters document e inner d (level + 1) → IsFound docs (scan_of (node_at n document e)))
-    → parts_of_node (op_of d) d ≡ parts → slice_get parts 3 ≡ Some (part key.Input kind.Node)
-    → IsFound docs (scan_of (inner_node (node_at n document) (under key.Input d)))
-input_found nodes filters n document d path owner level docs parts p below own is =
-    let at : Part-at nodes filters d path key.Input kind.Node level = part_passes nodes filters d path owner kind.Node level parts 3 key.Input kind.Node p.passes refl own is in
-    let free = free_part (is_missing document) d path owner kind.Node level parts 3 key.Input kind.Node at.value p.free own is at.is in
-    subst (λ (o : Option Data). IsFound docs (scan_of (inner_node (node_at n document) o))) (sym at.is)
+    → ((e : Data) (inner : List Step) → Named nodes filters document e inner d (level + 1) → IsFound docs (source_of (node_at n document e)))
+    → parts_of_node (op_of d) d ≡ parts → slice_get parts i ≡ Some (part key.Input kind.Node)
+    → IsFound docs (source_of (inner_node (node_at n document) (under key.Input d)))
+input_found nodes filters n document d path owner level docs parts i p below own is =
+    let at : Part-at nodes filters d path key.Input kind.Node level = part_passes nodes filters d path owner kind.Node level parts i key.Input kind.Node p.passes refl own is in
+    let free = free_part (is_missing document) d path owner kind.Node level parts i key.Input kind.Node at.value p.free own is at.is in
+    subst (λ (o : Option Data). IsFound docs (source_of (inner_node (node_at n document) o))) (sym at.is)
     (below at.value (path ++ step.Key key.Input ∷ []) (record { passes = at.passes; free = free }))
 
 step_found : (nodes filters n : ℕ) (document d : Data) (path : List Step) (owner : Data) (level : ℕ) → IsNarrow document
     → Named nodes filters document d path owner level
-    → ((e : Data) (inner : List Step) → Named nodes filters document e inner d (level + 1) → IsFound (map table_of (entries_under key.Tables document)) (scan_of (node_at n document e)))
+    → ((e : Data) (inner : List Step) → Named nodes filters document e inner d (level + 1) → IsFound (map table_of (entries_under key.Tables document)) (source_of (node_at n document e)))
     → (w : OpWord) → op_of d ≡ w → is_built w ≡ true
-    → IsFound (map table_of (entries_under key.Tables document)) (scan_of (node_by (node_at n document) document d w))
+    → IsFound (map table_of (entries_under key.Tables document)) (source_of (node_by (node_at n document) document d w))
 step_found nodes filters n document d path owner level narrow p below op.Scan is built =
     let t = named_table nodes filters document d path owner level p is in
     scan_found document d t.0 narrow t.1 (named_columns nodes filters document d path owner level p is)
+step_found nodes filters n document d path owner level narrow p below op.Values is built = tt
 step_found nodes filters n document d path owner level narrow p below op.Filter is built =
-    input_found nodes filters n document d path owner level (map table_of (entries_under key.Tables document)) table.filter p below (ap (λ (w : OpWord). parts_of_node w d) is) refl
+    input_found nodes filters n document d path owner level (map table_of (entries_under key.Tables document)) table.filter 3 p below (ap (λ (w : OpWord). parts_of_node w d) is) refl
 step_found nodes filters n document d path owner level narrow p below op.Project is built =
-    input_found nodes filters n document d path owner level (map table_of (entries_under key.Tables document)) table.project p below (ap (λ (w : OpWord). parts_of_node w d) is) refl
-step_found nodes filters n document d path owner level narrow p below w is built = cc
+    input_found nodes filters n document d path owner level (map table_of (entries_under key.Tables document)) table.project 3 p below (ap (λ (w : OpWord). parts_of_node w d) is) refl
+step_found nodes filters n document d path owner level narrow p below op.Sort is built =
+    input_found nodes filters n document d path owner level (map table_of (entries_under key.Tables document)) table.sort 3 p below (ap (λ (w : OpWord). parts_of_node w d) is) refl
+step_found nodes filters n document d path owner level narrow p below op.TopN is built =
+    let docs = map table_of (entries_under key.Tables document) in
+    let single = single_topn nodes filters d path owner level p.passes is in
+    let inner = input_found nodes filters n document d path owner level docs table.topn 5 p below (topn_own d is single) refl in
+    subst (λ (w : StepWord). IsFound docs (source_of (read.top_n_of w d (inner_node (node_at n document) (under key.Input d))))) (sym single) inner
+step_found nodes filters n document d path owner level narrow p below op.Limit is built =
+    let docs = map table_of (entries_under key.Tables document) in
+    let single = single_limit nodes filters d path owner level p.passes is in
+    let inner = input_found nodes filters n document d path owner level docs table.limit 4 p below (limit_own d is single) refl in
+    subst (λ (w : StepWord). IsFound docs (source_of (read.limit_of w d (inner_node (node_at n document) (under key.Input d))))) (sym single) inner
+step_found nodes filters n document d path owner level narrow p below op.Remote is built = cc
+step_found nodes filters n document d path owner level narrow p below op.Join is built = cc
+step_found nodes filters n document d path owner level narrow p below op.Aggregate is built = cc
+step_found nodes filters n document d path owner level narrow p below op.Union is built = cc
+step_found nodes filters n document d path owner level narrow p below op.Unknown is built = cc
 
 node_named : (nodes filters n : ℕ) (document d : Data) (path : List Step) (owner : Data) (level : ℕ) → n + level ≡ 33 → IsNarrow document
-    → Named nodes filters document d path owner level → IsFound (map table_of (entries_under key.Tables document)) (scan_of (node_at n document d))
+    → Named nodes filters document d path owner level → IsFound (map table_of (entries_under key.Tables document)) (source_of (node_at n document d))
 unfolding node_at
 node_named nodes filters zero document d path owner level deep narrow p =
     let within : nat_lt 32 level ≡ false = not_beyond nodes filters d path owner kind.Node level p.passes in
@@ -188,6 +212,6 @@ node_named nodes filters (suc n) document d path owner level deep narrow p =
 
 pub node_found : (nodes filters n : ℕ) (document d : Data) (path : List Step) (owner : Data) (level : ℕ) → n + level ≡ 33 → IsNarrow document
     → Passes nodes filters d path owner kind.Node level → Free (is_missing document) d path owner kind.Node level
-    → IsFound (map table_of (entries_under key.Tables document)) (scan_of (node_at n document d))
+    → IsFound (map table_of (entries_under key.Tables document)) (source_of (node_at n document d))
 node_found nodes filters n document d path owner level deep narrow p free =
     node_named nodes filters n document d path owner level deep narrow (record { passes = p; free = free })

@@ -1,11 +1,12 @@
--- A node of a document that passes the checks is a scan of declared columns, or a filter or a project
--- over such a node.
+-- A node of a document that passes the checks is a scan of declared columns or rows of constants, or
+-- an operator of one input over such a node.
 use Rattle.std.proofs.Common.{◌≡◌, ℕ, ◌+◌, ◌<◌, ◌≤◌, ◌^◌, zero, suc, List, [], ◌∷◌, ◌++◌, length, map, Bool, true, false, cond, Option, Some, None, refl, ap, sym, ◌∙◌, subst, arith, add-one}
-use Rattle.std.specs.Prelude.{slice_get, nat_lt, if◌then◌else◌}
+use Rattle.std.specs.Prelude.{slice_get, ◌&&◌, ◌==◌, nat_lt, if◌then◌else◌}
 use Rattle.std.specs.List.{find}
-use Rattle.std.proofs.lemmas.Bool.{lt-ltb, ltb-false}
+use Rattle.std.proofs.lemmas.Bool.{ltb-false}
 use Rattle.std.proofs.lemmas.List.{length-map}
 use Rattle.serde_json.specs.Data.{Data}
+use Rattle.serde_json.specs.Find.{as_array}
 use Rattle.sql_values.specs.declared.types.SqlType.{SqlType}
 use Rattle.plan_places.specs.declared.key.Key.{Key}
 use Rattle.plan_places.specs.declared.key.Key.TheVariants as key
@@ -19,46 +20,52 @@ use Rattle.plan_grammar.specs.declared.words.OpWord.TheVariants as op
 use Rattle.plan_grammar.specs.declared.words.StepWord.{StepWord}
 use Rattle.plan_grammar.specs.declared.words.StepWord.TheVariants as word
 use Rattle.plan_grammar.specs.Grammar.{aggregate_parts, join_parts, level_of, limit_parts, parts_of_node, topn_parts}
-use Rattle.plan_grammar.specs.Json.{entries_under, has_key, text_of, text_under}
+use Rattle.plan_grammar.specs.Json.{entries_count, entries_in, entries_under, has_key, text_of, text_under, under}
 use Rattle.plan_grammar.specs.Tables.{part}
 use Rattle.plan_grammar.specs.Tables as table
-use Rattle.plan_grammar.specs.Words.{op_named, op_of, step_of}
+use Rattle.plan_grammar.specs.Spots.{spot}
+use Rattle.plan_grammar.specs.Words.{op_named, op_of, step_named, step_of}
 use Rattle.plan_checks.specs.declared.limits.Bound.TheVariants as bound
-use Rattle.plan_checks.specs.Built.{is_built}
+use Rattle.plan_checks.specs.Built.{is_built, is_whole}
 use Rattle.plan_checks.specs.Limits.{bound_of}
+use Rattle.plan_checks.specs.Shapes.{has_shape, is_cell, is_list, is_misshapen, row_width}
+use Rattle.plan_docs.specs.declared.node.NodeStep.TheVariants.{Single}
 use Rattle.plan_docs.specs.declared.plan.TableDoc.{TableDoc}
+use Rattle.plan_docs.specs.Cells.{rows_of}
 use Rattle.plan_docs.specs.Documents.{table_of}
 use Rattle.plan_docs.specs.Names.{column_place, column_type, columns_in, has_name, place_named, places_of, type_in, types_of}
 use Rattle.plan_docs.specs.Names as names
 use Rattle.plan_docs.specs.Nodes.{NodeForm, scan, values, remote, filter, project, join, aggregate, aggregate_final, sort, top_n, top_n_final, limit, limit_final, union}
 use Rattle.plan_docs.specs.Exprs.{expr_form}
-use Rattle.plan_docs.specs.Parts.{columns_of}
-use Rattle.plan_docs.specs.ReadNodes.{inner_node, node_at, node_by}
-use Rattle.plan_docs.specs.Words.{small}
+use Rattle.plan_docs.specs.Parts.{columns_of, kinds_of}
+use Rattle.plan_docs.specs.ReadNodes.{inner_node, limit_of, node_at, node_by, top_n_of}
+use Rattle.plan_docs.specs.Words.{small, type_of}
 use Rattle.tree_evaluator.specs.Fits.{ColumnFits, ColumnsFit, IsOrMissing, kinds}
+use Rattle.plan_fits.proofs.CellLemmas.{AreWide, rows_wide}
 use Rattle.plan_fits.proofs.FindLemmas.{not_false}
-use Rattle.plan_fits.proofs.PlaceLemmas.{Part-at, Passes, counted, not_beyond, not_unbuilt, part_passes, text_is, under_is}
+use Rattle.plan_fits.proofs.NumberLemmas.{small_same}
+use Rattle.plan_fits.proofs.PlaceLemmas.{Part-at, Passes, counted, entry_passes, in_list, not_beyond, not_unbuilt, part_passes, text_is, under_is, wide_row}
 
 -- the columns of a declared table, if there is one, have these types at these places
 abbrev pub ScanFits : Option TableDoc → List ℕ → List SqlType → Type 0
 ScanFits None columns types = Unit {0}
 ScanFits (Some doc) columns types = ColumnsFit (kinds doc.columns) columns types
 
--- scans of declared columns under filters and projects of columns
+-- scans of declared columns, or rows as wide as their types, under whole operators of one input
 abbrev pub IsSound : List TableDoc → NodeForm → Type 0
 IsSound docs (scan id table columns types) =
     (0 < length types) × (length types ≡ length columns) × ScanFits (slice_get docs table) columns types
-IsSound docs (values id types rows) = ⊥
+IsSound docs (values id types rows) = (0 < length types) × (length types ≤ 256) × AreWide (length types) rows
 IsSound docs (remote id fragment) = ⊥
 IsSound docs (filter id predicate input) = IsSound docs input
 IsSound docs (project id columns input) = (0 < length columns) × IsSound docs input
 IsSound docs (join id kind on filters left right) = ⊥
 IsSound docs (aggregate id step keys calls input) = ⊥
 IsSound docs (aggregate_final id input) = ⊥
-IsSound docs (sort id keys input) = ⊥
-IsSound docs (top_n id step count keys input) = ⊥
+IsSound docs (sort id keys input) = IsSound docs input
+IsSound docs (top_n id half count keys input) = (half ≡ Single) × IsSound docs input
 IsSound docs (top_n_final id input) = ⊥
-IsSound docs (limit id step count input) = ⊥
+IsSound docs (limit id half count input) = (half ≡ Single) × IsSound docs input
 IsSound docs (limit_final id input) = ⊥
 IsSound docs (union id left right) = ⊥
 
@@ -66,9 +73,6 @@ IsSound docs (union id left right) = ⊥
 pub record IsNarrow (document : Data) : Type 0 where
   pub tables : length (entries_under key.Tables document) ≤ 64
   pub columns : (i : ℕ) (t : Data) → slice_get (entries_under key.Tables document) i ≡ Some t → length (entries_under key.Columns t) ≤ 256
-
-pub small_same : (n : ℕ) → n ≤ 256 → small n ≡ n
-small_same n h = let below : n < 2 ^ 32 = omega (arith, h) in ap (λ b. if b then n else 0) (lt-ltb n (2 ^ 32) below)
 
 pub place_within : (t : List ℕ) (ds : List Data) → place_named t ds ≤ length ds
 place_within t [] = omega arith
@@ -148,14 +152,76 @@ built_word nodes filters d path owner level p =
     let same : op_named (text_of at.value) ≡ op_of d = ap op_named (sym (text_is key.Op d at.value at.is)) in
     subst (λ (w : OpWord). is_built w ≡ true) same built
 
+-- a top n and a limit have their step third
+topn_step : (w : StepWord) → slice_get (topn_parts w) 2 ≡ Some (part key.Step kind.Step)
+topn_step word.Single = refl
+topn_step word.Partial = refl
+topn_step word.Final = refl
+topn_step word.Unknown = refl
+
+limit_step : (w : StepWord) → slice_get (limit_parts w) 2 ≡ Some (part key.Step kind.Step)
+limit_step word.Single = refl
+limit_step word.Partial = refl
+limit_step word.Final = refl
+limit_step word.Unknown = refl
+
+whole_single : (w : StepWord) → is_whole w ≡ true → w ≡ word.Single
+whole_single word.Single h = refl
+whole_single w h = cc
+
+-- the step of a node that passes is SINGLE
+single_step : (nodes filters : ℕ) (d : Data) (path : List Step) (owner : Data) (level : ℕ) → Passes nodes filters d path owner kind.Node level
+    → slice_get (parts_of_node (op_of d) d) 2 ≡ Some (part key.Step kind.Step) → step_of d ≡ word.Single
+single_step nodes filters d path owner level p third =
+    let at : Part-at nodes filters d path key.Step kind.Step level =
+    part_passes nodes filters d path owner kind.Node level (parts_of_node (op_of d) d) 2 key.Step kind.Step p refl refl third in
+    let built = not_false (is_whole (step_named (text_of at.value))) (not_unbuilt nodes filters at.value (path ++ step.Key key.Step ∷ []) d kind.Step level at.passes) in
+    ap step_named (text_is key.Step d at.value at.is) ∙ whole_single (step_named (text_of at.value)) built
+
+pub single_topn : (nodes filters : ℕ) (d : Data) (path : List Step) (owner : Data) (level : ℕ) → Passes nodes filters d path owner kind.Node level → op_of d ≡ op.TopN → step_of d ≡ word.Single
+single_topn nodes filters d path owner level p is =
+    single_step nodes filters d path owner level p (subst (λ (w : OpWord). slice_get (parts_of_node w d) 2 ≡ Some (part key.Step kind.Step)) (sym is) (topn_step (step_of d)))
+
+pub single_limit : (nodes filters : ℕ) (d : Data) (path : List Step) (owner : Data) (level : ℕ) → Passes nodes filters d path owner kind.Node level → op_of d ≡ op.Limit → step_of d ≡ word.Single
+single_limit nodes filters d path owner level p is =
+    single_step nodes filters d path owner level p (subst (λ (w : OpWord). slice_get (parts_of_node w d) 2 ≡ Some (part key.Step kind.Step)) (sym is) (limit_step (step_of d)))
+
+-- so it has the keys of that step
+pub topn_own : (d : Data) → op_of d ≡ op.TopN → step_of d ≡ word.Single → parts_of_node (op_of d) d ≡ table.topn
+topn_own d is single = ap (λ (w : OpWord). parts_of_node w d) is ∙ ap topn_parts single
+
+pub limit_own : (d : Data) → op_of d ≡ op.Limit → step_of d ≡ word.Single → parts_of_node (op_of d) d ≡ table.limit
+limit_own d is single = ap (λ (w : OpWord). parts_of_node w d) is ∙ ap limit_parts single
+
 -- how many entries stand under a key of a node
 listed : (nodes filters : ℕ) (d : Data) (path : List Step) (owner : Data) (level : ℕ) (parts : List Part) (i least most : ℕ) (k : Key) (inner : Kind)
     → Passes nodes filters d path owner kind.Node level → parts_of_node (op_of d) d ≡ parts → slice_get parts i ≡ Some (part k inner)
-    → bound_of inner ≡ bound.Entries least most → least ≤ length (entries_under k d)
+    → bound_of inner ≡ bound.Entries least most → (least ≤ length (entries_under k d)) × (length (entries_under k d) ≤ most)
 listed nodes filters d path owner level parts i least most k inner p own at is =
     let here : Part-at nodes filters d path k inner level = part_passes nodes filters d path owner kind.Node level parts i k inner p refl own at in
     let count = counted nodes filters here.value (path ++ step.Key k ∷ []) d inner (level_of inner level) least most here.passes is in
-    subst (λ (es : List Data). least ≤ length es) (sym (under_is k d here.value here.is)) count.0
+    subst (λ (es : List Data). (least ≤ length es) × (length es ≤ most)) (sym (under_is k d here.value here.is)) count
+
+-- a row of a values node has as many entries as there are types
+wide_rows : (nodes filters : ℕ) (d : Data) (path : List Step) (owner : Data) (level : ℕ) → Passes nodes filters d path owner kind.Node level → op_of d ≡ op.Values
+    → (j : ℕ) (e : Data) → slice_get (entries_under key.Rows d) j ≡ Some e → length (entries_in e) ≡ length (entries_under key.Types d)
+wide_rows nodes filters d path owner level p is j e at =
+    let own = ap (λ (w : OpWord). parts_of_node w d) is in
+    let rows : Part-at nodes filters d path key.Rows kind.Rows level = part_passes nodes filters d path owner kind.Node level table.values 3 key.Rows kind.Rows p refl own refl in
+    let inside = path ++ step.Key key.Rows ∷ [] in
+    let here = in_list (as_array rows.value) j e (subst (λ (es : List Data). slice_get es j ≡ Some e) (under_is key.Rows d rows.value rows.is) at) in
+    let one = entry_passes nodes filters rows.value inside d kind.Rows level here.items j e rows.passes here.is refl here.at in
+    wide_row nodes filters e (inside ++ step.Index j ∷ []) d level one
+
+-- a node whose input passes is as sound as the input
+over_input : (nodes filters n : ℕ) (document d : Data) (path : List Step) (owner : Data) (level : ℕ) (docs : List TableDoc) (parts : List Part) (i : ℕ)
+    → Passes nodes filters d path owner kind.Node level
+    → ((e : Data) (inner : List Step) → Passes nodes filters e inner d kind.Node (level + 1) → IsSound docs (node_at n document e))
+    → parts_of_node (op_of d) d ≡ parts → slice_get parts i ≡ Some (part key.Input kind.Node)
+    → IsSound docs (inner_node (node_at n document) (under key.Input d))
+over_input nodes filters n document d path owner level docs parts i p below own is =
+    let at : Part-at nodes filters d path key.Input kind.Node level = part_passes nodes filters d path owner kind.Node level parts i key.Input kind.Node p refl own is in
+    subst (λ (o : Option Data). IsSound docs (inner_node (node_at n document) o)) (sym at.is) (below at.value (path ++ step.Key key.Input ∷ []) at.passes)
 
 node_step : (nodes filters n : ℕ) (document d : Data) (path : List Step) (owner : Data) (level : ℕ) → IsNarrow document
     → Passes nodes filters d path owner kind.Node level
@@ -166,7 +232,7 @@ node_step nodes filters n document d path owner level narrow p below op.Scan is 
     let ts = entries_under key.Tables document in
     let ns = entries_under key.Columns d in
     let own = ap (λ (w : OpWord). parts_of_node w d) is in
-    let some : 1 ≤ length ns = listed nodes filters d path owner level table.scan 3 1 256 key.Columns kind.ScanColumns p own refl refl in
+    let some = (listed nodes filters d path owner level table.scan 3 1 256 key.Columns kind.ScanColumns p own refl refl).0 in
     let cs = names.scanned_columns document d in
     let within = place_within (text_under key.Table d) ts in
     let few = narrow.tables in
@@ -176,27 +242,40 @@ node_step nodes filters n document d path owner level narrow p below op.Scan is 
       length-map ns (column_type cs) ∙ sym (length-map ns (column_place cs)),
       subst (λ (t : ℕ). ScanFits (slice_get (map table_of ts) t) (places_of cs ns) (types_of cs ns)) (sym same) fits,
     )
-node_step nodes filters n document d path owner level narrow p below op.Filter is built =
+node_step nodes filters n document d path owner level narrow p below op.Values is built =
     let own = ap (λ (w : OpWord). parts_of_node w d) is in
-    let at : Part-at nodes filters d path key.Input kind.Node level = part_passes nodes filters d path owner kind.Node level table.filter 3 key.Input kind.Node p refl own refl in
-    subst (λ (o : Option Data). IsSound (map table_of (entries_under key.Tables document)) (inner_node (node_at n document) o)) (sym at.is)
-    (below at.value (path ++ step.Key key.Input ∷ []) at.passes)
+    let ts = entries_under key.Types d in
+    let count = listed nodes filters d path owner level table.values 2 1 256 key.Types kind.Types p own refl refl in
+    let long : length (kinds_of ts) ≡ length ts = length-map ts type_of in (
+      omega (arith, long, count.0),
+      omega (arith, long, count.1),
+      subst (λ (width : ℕ). AreWide width (rows_of (kinds_of ts) (entries_under key.Rows d))) (sym long)
+          (rows_wide (kinds_of ts) (length ts) (entries_under key.Rows d) (wide_rows nodes filters d path owner level p is)),
+    )
+node_step nodes filters n document d path owner level narrow p below op.Filter is built =
+    over_input nodes filters n document d path owner level (map table_of (entries_under key.Tables document)) table.filter 3 p below (ap (λ (w : OpWord). parts_of_node w d) is) refl
 node_step nodes filters n document d path owner level narrow p below op.Project is built =
     let own = ap (λ (w : OpWord). parts_of_node w d) is in
     let es = entries_under key.Columns d in
-    let some : 1 ≤ length es = listed nodes filters d path owner level table.project 2 1 256 key.Columns kind.Expressions p own refl refl in
-    let at : Part-at nodes filters d path key.Input kind.Node level = part_passes nodes filters d path owner kind.Node level table.project 3 key.Input kind.Node p refl own refl in (
+    let some = (listed nodes filters d path owner level table.project 2 1 256 key.Columns kind.Expressions p own refl refl).0 in (
       omega (arith, length-map es expr_form, some),
-      subst (λ (o : Option Data). IsSound (map table_of (entries_under key.Tables document)) (inner_node (node_at n document) o)) (sym at.is)
-          (below at.value (path ++ step.Key key.Input ∷ []) at.passes),
+      over_input nodes filters n document d path owner level (map table_of (entries_under key.Tables document)) table.project 3 p below own refl,
     )
-node_step nodes filters n document d path owner level narrow p below op.Values is built = cc
+node_step nodes filters n document d path owner level narrow p below op.Sort is built =
+    over_input nodes filters n document d path owner level (map table_of (entries_under key.Tables document)) table.sort 3 p below (ap (λ (w : OpWord). parts_of_node w d) is) refl
+node_step nodes filters n document d path owner level narrow p below op.TopN is built =
+    let docs = map table_of (entries_under key.Tables document) in
+    let single = single_topn nodes filters d path owner level p is in
+    let inner = over_input nodes filters n document d path owner level docs table.topn 5 p below (topn_own d is single) refl in
+    subst (λ (w : StepWord). IsSound docs (top_n_of w d (inner_node (node_at n document) (under key.Input d)))) (sym single) (refl, inner)
+node_step nodes filters n document d path owner level narrow p below op.Limit is built =
+    let docs = map table_of (entries_under key.Tables document) in
+    let single = single_limit nodes filters d path owner level p is in
+    let inner = over_input nodes filters n document d path owner level docs table.limit 4 p below (limit_own d is single) refl in
+    subst (λ (w : StepWord). IsSound docs (limit_of w d (inner_node (node_at n document) (under key.Input d)))) (sym single) (refl, inner)
 node_step nodes filters n document d path owner level narrow p below op.Remote is built = cc
 node_step nodes filters n document d path owner level narrow p below op.Join is built = cc
 node_step nodes filters n document d path owner level narrow p below op.Aggregate is built = cc
-node_step nodes filters n document d path owner level narrow p below op.Sort is built = cc
-node_step nodes filters n document d path owner level narrow p below op.TopN is built = cc
-node_step nodes filters n document d path owner level narrow p below op.Limit is built = cc
 node_step nodes filters n document d path owner level narrow p below op.Union is built = cc
 node_step nodes filters n document d path owner level narrow p below op.Unknown is built = cc
 

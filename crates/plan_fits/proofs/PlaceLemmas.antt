@@ -1,8 +1,8 @@
 -- A document that passes the checks, seen from one of its places: what stands inside passes too.
-use Rattle.std.proofs.Common.{◌≡◌, ℕ, ◌+◌, ◌≤◌, zero, suc, List, [], ◌∷◌, ◌++◌, length, Bool, true, false, Option, Some, None, refl, ap, sym, subst, arith}
-use Rattle.std.specs.Prelude.{slice_get, ◌||◌, option_map, unwrap_or, nat_le, if◌then◌else◌}
-use Rattle.std.proofs.lemmas.Bool.{leb-true}
-use Rattle.std.specs.List.{find, flat_map}
+use Rattle.std.proofs.Common.{◌≡◌, ℕ, ◌+◌, ◌≤◌, zero, suc, List, [], ◌∷◌, ◌++◌, length, Bool, true, false, Option, Some, None, refl, ap, sym, ◌∙◌, subst, arith}
+use Rattle.std.specs.Prelude.{slice_get, ◌||◌, ◌==◌, option_map, unwrap_or, nat_le, if◌then◌else◌}
+use Rattle.std.proofs.lemmas.Bool.{eqb-true, leb-true}
+use Rattle.std.specs.List.{find, flat_map, list_all}
 use Rattle.serde_json.specs.Data.{Data, null, boolean, number, string, array, object, Items, no_items, item}
 use Rattle.serde_json.specs.Events.{items_len}
 use Rattle.serde_json.specs.Find.{as_array, get}
@@ -11,6 +11,7 @@ use Rattle.plan_places.specs.declared.step.Step.{Step}
 use Rattle.plan_places.specs.declared.step.Step.TheVariants as step
 use Rattle.plan_places.specs.Places.{key_text}
 use Rattle.plan_grammar.specs.declared.kind.Kind.{Kind}
+use Rattle.plan_grammar.specs.declared.kind.Kind.TheVariants as kind
 use Rattle.plan_grammar.specs.declared.tables.Part.{Part}
 use Rattle.plan_grammar.specs.Grammar.{element_of, has_entries, level_of, parts_of}
 use Rattle.plan_grammar.specs.Json.{count_of, entries, entries_count, entries_in, entries_of, entries_under, has_key, text_of, text_under, under}
@@ -21,7 +22,7 @@ use Rattle.plan_checks.specs.declared.shapes.Shape.TheVariants as shape
 use Rattle.plan_checks.specs.declared.limits.Bound.TheVariants as bound
 use Rattle.plan_checks.specs.Built.{is_unbuilt}
 use Rattle.plan_checks.specs.Limits.{bound_of, exceeds, is_beyond, is_crowded, is_within, lacks_work}
-use Rattle.plan_checks.specs.Shapes.{has_keys, has_shape, is_misshapen, shape_of}
+use Rattle.plan_checks.specs.Shapes.{has_keys, has_shape, is_cell, is_list, is_misshapen, is_wide, row_width, shape_of}
 use Rattle.plan_fits.proofs.FindLemmas.{first_true, neither, none_here, none_after, none_left, none_part, none_right, not_false, second_true, some_is}
 
 -- at no place from this one on does the test hold
@@ -171,6 +172,15 @@ counted nodes filters d path owner kind level least most p is =
   where
     at_most : (a b : ℕ) → nat_le a b ≡ true → a ≤ b
     at_most a b h = leb-true a b h
+
+-- how many entries a row has
+pub wide_row : (nodes filters : ℕ) (d : Data) (path : List Step) (owner : Data) (level : ℕ) → Passes nodes filters d path owner kind.Row level
+    → length (entries_in d) ≡ row_width owner
+wide_row nodes filters d path owner level p =
+    let good = not_false (has_shape shape.Row (spot d path owner kind.Row level)) (free_here is_misshapen d path owner kind.Row level p.shaped) in
+    let wide = first_true (is_wide (row_width owner) d) (list_all is_cell (entries_in d)) good in
+    let count = second_true (is_list d) (entries_count d == row_width owner) wide in
+    count-entries (as_array d) ∙ eqb-true (entries_count d) (row_width owner) count
 
 -- the list in which an entry stands
 pub record Listed (o : Option Items) (i : ℕ) (e : Data) : Type 0 where

@@ -1,7 +1,9 @@
 -- The tree of a typed node over tables of the declared columns.
 use Rattle.std.proofs.Common.{◌≡◌, ℕ, ◌+◌, zero, suc, List, [], ◌∷◌, length, map, Bool, true, false, ap, sym, ◌∙◌, subst, arith}
-use Rattle.std.specs.Prelude.{IsTrue, Ok, Err, slice_get, if◌then◌else◌}
+use Rattle.std.specs.Prelude.{IsTrue, Option, Some, None, Result, Ok, Err, slice_get, if◌then◌else◌}
+use Rattle.std.specs.List.{position_from}
 use Rattle.std.proofs.lemmas.List.Elements.{All-nil}
+use Rattle.sql_values.specs.declared.order.KeySpec.{KeySpec}
 use Rattle.sql_values.specs.declared.types.SqlType.{SqlType}
 use Rattle.sql_values.specs.declared.table.Table.{Table}
 use Rattle.sql_values.specs.ColumnRows.{fits_row}
@@ -19,13 +21,16 @@ use Rattle.plan_trees.specs.TreeTypes as tree
 use Rattle.page_judges.specs.Typed.{AllFit, AllTyped}
 use Rattle.plan_types.specs.declared.row_types.RowTypes.{RowTypes}
 use Rattle.plan_types.specs.RowTypes.{plain}
-use Rattle.plan_types.specs.Nodes.{node_types}
-use Rattle.plan_types.specs.Operators.{boolean_rows, column_types, filter_types, project_types}
+use Rattle.plan_types.specs.Cells.{cell_fault, misfit_from}
+use Rattle.plan_types.specs.Faults.{entry_fault, or_fault}
+use Rattle.plan_types.specs.Nodes.{node_types, same_rows}
+use Rattle.plan_types.specs.Operators.{boolean_rows, column_types, filter_types, is_key_beyond, project_types, sort_types}
 use Rattle.plan_reader.specs.Trees.{node_tree}
 use Rattle.tree_evaluator.specs.Fits.{FitsTables, TablesFit, kinds}
 use Rattle.tree_evaluator.specs.Stops.{rows_of}
 use Rattle.tree_evaluator.proofs.FitLemmas.{rows_cut}
 use Rattle.plan_fits.specs.Tables.{HaveColumns}
+use Rattle.plan_fits.proofs.CellLemmas.{rows_fit}
 use Rattle.plan_fits.proofs.NodeLemmas.{IsSound, ScanFits}
 
 scan_fit : (docs : List TableDoc) (tables : List Table) (n : ℕ) (columns : List ℕ) (types : List SqlType) → HaveColumns docs tables → TablesFit tables
@@ -68,6 +73,24 @@ boolean_same : (b : Bool) (path : Path) (columns : List SqlType) (types : RowTyp
 boolean_same true path columns types e = let same : plain columns ≡ types = cc e in ap (λ (t : RowTypes). t.columns) same
 boolean_same false path columns types e = cc
 
+-- a fault that there is none of says nothing
+unless_fault : (o : Option Path) (r : Result RowTypes Path) (types : RowTypes) → or_fault o r ≡ Ok types → (o ≡ None) × (r ≡ Ok types)
+unless_fault None r types e = (refl, e)
+unless_fault (Some path) r types e = cc
+
+plain_columns : (columns : List SqlType) (types : RowTypes) → Ok (plain columns) ≡ Ok types → columns ≡ types.columns
+plain_columns columns types e = let same : plain columns ≡ types = cc e in ap (λ (t : RowTypes). t.columns) same
+
+-- rows in an order have the types of the rows
+sorted_columns : (path : Path) (keys : List KeySpec) (below types : RowTypes) → sort_types path keys below ≡ Ok types → below.columns ≡ types.columns
+sorted_columns path keys below types e =
+    plain_columns below.columns types
+    (unless_fault (entry_fault path key.Keys (position_from (is_key_beyond (length below.columns)) 0 keys)) (Ok (plain below.columns)) types e).1
+
+no_cell : (path : Path) (o : Option (ℕ × ℕ)) → cell_fault path o ≡ None → o ≡ None
+no_cell path None e = refl
+no_cell path (Some (i, j)) e = cc
+
 pub node_agrees : (docs : List TableDoc) (tables : List Table) → HaveColumns docs tables → TablesFit tables → (first : ℕ) (later : List RowTypes) (path : Path) (reads : ℕ → TreeForm)
     (form : NodeForm) (types : RowTypes) → IsSound docs form → node_types first later path form ≡ Ok types → Agrees types (node_tree reads form) tables
 node_agrees docs tables own fit first later path reads (scan id table columns kinds) types sound e =
@@ -100,14 +123,31 @@ node_agrees docs tables own fit first later path reads (project id columns input
     (subst (λ cs. column_types cs (under path key.Columns) 0 columns ≡ Ok kinds) (sym ih.same) h2) in
     let same : plain kinds ≡ types = cc g2 in
     record { same = typed.same ∙ ap (λ (t : RowTypes). t.columns) same; fits = (sound.0, typed.typed, ih.fits) }))
-node_agrees docs tables own fit first later path reads (values id kinds rows) types sound e = absurd sound
+node_agrees docs tables own fit first later path reads (values id kinds rows) types sound e =
+    let none = unless_fault (cell_fault path (misfit_from kinds 0 rows)) (Ok (plain kinds)) types e in
+    record {
+      same = plain_columns kinds types none.1;
+      fits = (sound.0, rows_fit kinds 0 rows sound.1 sound.2 (no_cell path (misfit_from kinds 0 rows) none.0));
+    }
+node_agrees docs tables own fit first later path reads (sort id keys input) types sound e =
+    typed_then_ok (node_types first later (under path key.Input) input) (sort_types path keys) types (Agrees types (node_tree reads (sort id keys input)) tables) e
+    (λ below h g.
+    let ih = node_agrees docs tables own fit first later (under path key.Input) reads input below sound h in
+    record { same = ih.same ∙ sorted_columns path keys below types g; fits = ih.fits })
+node_agrees docs tables own fit first later path reads (top_n id half count keys input) types sound e =
+    typed_then_ok (node_types first later (under path key.Input) input) (sort_types path keys) types (Agrees types (node_tree reads (top_n id half count keys input)) tables) e
+    (λ below h g.
+    let ih = node_agrees docs tables own fit first later (under path key.Input) reads input below sound.1 h in
+    record { same = ih.same ∙ sorted_columns path keys below types g; fits = ih.fits })
+node_agrees docs tables own fit first later path reads (limit id half count input) types sound e =
+    typed_then_ok (node_types first later (under path key.Input) input) (same_rows) types (Agrees types (node_tree reads (limit id half count input)) tables) e
+    (λ below h g.
+    let ih = node_agrees docs tables own fit first later (under path key.Input) reads input below sound.1 h in
+    record { same = ih.same ∙ plain_columns below.columns types g; fits = ih.fits })
 node_agrees docs tables own fit first later path reads (remote id fragment) types sound e = absurd sound
 node_agrees docs tables own fit first later path reads (join id kind on filters left right) types sound e = absurd sound
 node_agrees docs tables own fit first later path reads (aggregate id step keys calls input) types sound e = absurd sound
 node_agrees docs tables own fit first later path reads (aggregate_final id input) types sound e = absurd sound
-node_agrees docs tables own fit first later path reads (sort id keys input) types sound e = absurd sound
-node_agrees docs tables own fit first later path reads (top_n id step count keys input) types sound e = absurd sound
 node_agrees docs tables own fit first later path reads (top_n_final id input) types sound e = absurd sound
-node_agrees docs tables own fit first later path reads (limit id step count input) types sound e = absurd sound
 node_agrees docs tables own fit first later path reads (limit_final id input) types sound e = absurd sound
 node_agrees docs tables own fit first later path reads (union id left right) types sound e = absurd sound

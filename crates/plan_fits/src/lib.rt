@@ -1,10 +1,12 @@
 //! The laws of a plan that was read, over the tables that are read for it.
 //!
 //! - `laws`: `tree_of_a_plan_fits`: its tree fits the tables: each column that a scan takes has the
-//!   type that the plan declares, each expression has a type, and each node has a column. So an
-//!   evaluator may ask for it, and no run refuses a plan that was read.
+//!   type that the plan declares, each constant the type of its column, each expression has a type,
+//!   and each node has a column. So an evaluator may ask for it, and no run refuses a plan that was
+//!   read.
 //! - `pipelines`: `plans_are_pipelines`: it is one fragment, and its root one pipeline over a table
-//!   that there is. So an executor may ask for it, and finds the table with its columns.
+//!   that there is, or over rows of the plan. So an executor may ask for it, and finds the table with
+//!   its columns.
 #![tactic(auto)]
 
 mod laws;

@@ -5,8 +5,9 @@ ghost use Rattle.plan_fits.specs.Tables.{HaveColumns, WasRead};
 use plan_reader::Plan;
 use sql_values::Table;
 
-/// The law that a plan that was read is one fragment, and its root one pipeline over a table that
-/// there is: a scan of columns of that table, or filters and projects over one.
+/// The law that a plan that was read is one fragment, and its root one pipeline: a scan of columns
+/// of a table that there is, or constant rows of a column or more, or filters, projects, sorts, top
+/// ns and limits, each the whole of its operator, over one of these.
 #[tactic(auto, using(crate::proofs::PipeLemmas::plan_runs))]
 pub fn plans_are_pipelines(plan: &Plan, tables: &[Table])
     requires read { WasRead (plan_view plan.now) }

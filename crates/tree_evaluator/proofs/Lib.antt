@@ -5,3 +5,4 @@ pub mod ListLemmas
 pub mod EvalLemmas
 pub mod ViewLemmas
 pub mod FitLemmas
+pub mod SortLemmas

@@ -1,4 +1,7 @@
--- A list of pages with one more.
+-- The rows of a list of pages, and a list with one page more.
+use Rattle.std.specs.Prelude.{IsTrue}
+use Rattle.std.proofs.lemmas.List.Elements.{All-append, All-nil}
+use Rattle.sql_values.specs.ColumnRows.{fits_row}
 use Rattle.std.proofs.Common.{◌≡◌, ◌<◌, List, [], ◌∷◌, ◌++◌, length, ap, sym, ◌∙◌, append_assoc}
 use Rattle.std.proofs.lemmas.List.{append-nil}
 use Rattle.sql_values.specs.declared.types.SqlType.{SqlType}
@@ -14,3 +17,7 @@ pub pages_more : (types : List SqlType) (pages : List TypedPage) (page : TypedPa
     → ArePages types (pages ++ page ∷ [])
 pages_more types [] page all t some fit = (t, some, fit, tt)
 pages_more types (first ∷ pages) page all t some fit = (all.0, all.1, all.2, pages_more types pages page all.3 t some fit)
+
+pub rows_fit : (types : List SqlType) (pages : List TypedPage) → ArePages types pages → AllFit types (rows_in pages)
+rows_fit types [] all = All-nil (λ row. IsTrue (fits_row types row))
+rows_fit types (page ∷ pages) all = All-append (λ row. IsTrue (fits_row types row)) page.rows (rows_in pages) all.2 (rows_fit types pages all.3)

@@ -8,6 +8,7 @@ use crate::judges::{filter_rows, project_rows};
 use crate::leaves::{constant_rows, scan_table};
 use crate::lists::{append_rows, limit_rows, list_of};
 use crate::node_rows::NodeRows;
+use crate::sorts::sort_rows;
 use crate::stop::EvalStop;
 use plan_trees::{Tree, types_of_tree};
 use sql_values::{RowList, Table};
@@ -54,6 +55,17 @@ fn evaluate_node(alloc: Global, tree: &Tree, tables: &[Table]) -> Result<NodeRow
             let rows = evaluate_node(alloc, input, tables)?;
             project_rows(alloc, *id, columns.as_slice(), types.as_slice(), rows)
         }
+        Tree::Sort { keys, input, .. } => {
+            let rows = evaluate_node(alloc, input, tables)?;
+            Ok(sort_rows(alloc, keys.as_slice(), rows)?)
+        }
+        Tree::TopN {
+            count, keys, input, ..
+        } => {
+            let rows = evaluate_node(alloc, input, tables)?;
+            let sorted = sort_rows(alloc, keys.as_slice(), rows)?;
+            Ok(limit_rows(alloc, *count, sorted)?)
+        }
         Tree::Limit { count, input, .. } => {
             let rows = evaluate_node(alloc, input, tables)?;
             Ok(limit_rows(alloc, *count, rows)?)
@@ -66,7 +78,5 @@ fn evaluate_node(alloc: Global, tree: &Tree, tables: &[Table]) -> Result<NodeRow
         }
         Tree::Join { .. } => unreachable!(),
         Tree::Aggregate { .. } => unreachable!(),
-        Tree::Sort { .. } => unreachable!(),
-        Tree::TopN { .. } => unreachable!(),
     }
 }

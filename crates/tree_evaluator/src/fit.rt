@@ -47,8 +47,8 @@ pub fn fits_tables(alloc: Global, tree: &Tree, tables: &[Table]) -> Result<bool,
         }
         Tree::Join { .. } => Ok(false),
         Tree::Aggregate { .. } => Ok(false),
-        Tree::Sort { .. } => Ok(false),
-        Tree::TopN { .. } => Ok(false),
+        Tree::Sort { input, .. } => fits_tables(alloc, input, tables),
+        Tree::TopN { input, .. } => fits_tables(alloc, input, tables),
         Tree::Limit { input, .. } => fits_tables(alloc, input, tables),
         Tree::Union { left, right, .. } => {
             let same = have_same_types(alloc, left, right)?;

@@ -6,8 +6,8 @@
 //! tables fit the tree and its expressions are typed (`specs/Fits.antt`): this is asked for, and
 //! that the tree of a plan that was read has it is the law of `plan_fits`.
 //!
-//! Scans, constants, filters, projects, limits and unions are built. A tree with a join, an
-//! aggregate, a sort or a top n fits no tables; no plan with one is run today.
+//! Scans, constants, filters, projects, sorts, top ns, limits and unions are built. A tree with a
+//! join or an aggregate fits no tables; no plan with one is run today.
 //!
 //! - `eval`: `evaluate`
 //! - `fit`: `fits_tables`, whether a tree fits the tables
@@ -15,6 +15,7 @@
 //! - `node_rows`: the rows of a node, as pages. `list_of` makes one list of them
 //! - `leaves`: the rows of scans and constants
 //! - `judges`: filters and projects
+//! - `sorts`: sorts, and with a limit top ns
 //! - `lists`: unions and limits
 #![tactic(auto)]
 
@@ -24,6 +25,7 @@ mod judges;
 mod leaves;
 mod lists;
 mod node_rows;
+mod sorts;
 mod stop;
 #[cfg(test)]
 mod tests;

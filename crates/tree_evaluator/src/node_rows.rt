@@ -44,6 +44,12 @@ impl NodeRows {
         self.types.as_slice()
     }
 
+    /// The law that each row has a value of each type.
+    #[tactic(auto, using(crate::proofs::PageLemmas::rows_fit))]
+    pub fn rows_fit_types(&self)
+        ensures { AllFit self.now.types self.now.rows }
+    {}
+
     /// Appends the rows of a page; one that has none is let go.
     #[tactic(auto, using(crate::proofs::PageLemmas::rows_more, crate::proofs::PageLemmas::pages_more))]
     pub fn push(&mut self, page: Page) -> Result<(), Memory>

@@ -1,27 +1,43 @@
 //! Small trees over constants, worked out by hand.
 
 use crate::{EvalStop, evaluate, fits_tables};
-use plan_trees::Tree;
+use plan_trees::{KeyList, Tree};
 use sql_exprs::{CallName, Expr};
-use sql_values::{Memory, Row, RowList, SqlType, Types, Value, ValueRef};
+use sql_values::{KeySpec, Memory, Order, Row, RowList, SqlType, Types, Value, ValueRef};
 use std::alloc::Global;
 
 const WHOLE: SqlType = SqlType::Bigint;
 
-/// The numbers of a list as rows; NULL for -1.
+/// The number; NULL for -1.
+fn cell(number: i64) -> Value {
+    if number == -1 {
+        return Value::Null;
+    }
+    Value::Bigint(number)
+}
+
+/// The numbers of a list as rows.
 fn numbers(alloc: Global, all: &[i64]) -> Result<Tree, Memory> {
     let mut rows = RowList::new(alloc);
     for number in all {
-        let value = if *number == -1 {
-            Value::Null
-        } else {
-            Value::Bigint(*number)
-        };
-        rows.push(Row::of(Vec::from_array(alloc, [value])?))?;
+        rows.push(Row::of(Vec::from_array(alloc, [cell(*number)])?))?;
     }
     Ok(Tree::Values {
         id: 9,
         types: Types::of(Vec::from_slice(alloc, &[WHOLE])?),
+        rows,
+    })
+}
+
+/// The pairs of a list as rows of two columns.
+fn pairs(alloc: Global, all: &[(i64, i64)]) -> Result<Tree, Memory> {
+    let mut rows = RowList::new(alloc);
+    for (first, second) in all {
+        rows.push(Row::of(Vec::from_array(alloc, [cell(*first), cell(*second)])?))?;
+    }
+    Ok(Tree::Values {
+        id: 9,
+        types: Types::of(Vec::from_slice(alloc, &[WHOLE, WHOLE])?),
         rows,
     })
 }
@@ -151,6 +167,66 @@ fn count_of(alloc: Global, tree: &Tree) -> Result<usize, Memory> {
         Ok(rows) => Ok(rows.len()),
         Err(_) => Err(Memory),
     }
+}
+
+const PAIRS: &[(i64, i64)] = &[(2, 1), (-1, 7), (1, -1), (2, -1), (2, 5), (1, 3)];
+
+/// The pairs, by the first column and then by the second.
+fn sorted(alloc: Global, first: Order, second: Order) -> Result<Tree, Memory> {
+    let mut keys = Vec::new(alloc);
+    keys.push(KeySpec {
+        column: 0,
+        order: first,
+    })?;
+    keys.push(KeySpec {
+        column: 1,
+        order: second,
+    })?;
+    Ok(Tree::Sort {
+        id: 3,
+        keys: KeyList::of(keys),
+        input: Box::new(alloc, pairs(alloc, PAIRS)?)?,
+    })
+}
+
+#[test]
+fn a_sort_goes_key_by_key(rt: HostRuntime) -> Result<(), Memory> {
+    let alloc = rt.alloc();
+    let tree = sorted(alloc, Order::Ascending, Order::Descending)?;
+    let text = outcome(alloc, tree, 2)?;
+    assert!(rt; text.as_str() == "1 3 1 null 2 5 2 1 2 null null 7 ");
+    let tree = sorted(alloc, Order::Descending, Order::Ascending)?;
+    let text = outcome(alloc, tree, 2)?;
+    assert!(rt; text.as_str() == "2 1 2 5 2 null 1 3 1 null null 7 ");
+    Ok(())
+}
+
+/// The greatest numbers, at most so many.
+fn top(alloc: Global, count: u32) -> Result<Tree, Memory> {
+    let key = KeySpec {
+        column: 0,
+        order: Order::Descending,
+    };
+    Ok(Tree::TopN {
+        id: 4,
+        count,
+        keys: KeyList::of(Vec::from_array(alloc, [key])?),
+        input: Box::new(alloc, numbers(alloc, &[3, -1, 1, 3, 2])?)?,
+    })
+}
+
+#[test]
+fn a_top_n_keeps_the_first(rt: HostRuntime) -> Result<(), Memory> {
+    let alloc = rt.alloc();
+    let text = outcome(alloc, top(alloc, 0)?, 1)?;
+    assert!(rt; text.as_str() == "");
+    let text = outcome(alloc, top(alloc, 1)?, 1)?;
+    assert!(rt; text.as_str() == "3 ");
+    let text = outcome(alloc, top(alloc, 5)?, 1)?;
+    assert!(rt; text.as_str() == "3 3 2 1 null ");
+    let text = outcome(alloc, top(alloc, 9)?, 1)?;
+    assert!(rt; text.as_str() == "3 3 2 1 null ");
+    Ok(())
 }
 
 #[test]

@@ -313,7 +313,16 @@ ROOT | SCAN | 0\n\
 'id':0,'placement':'SINGLE','root':ROOT | 'id':1,'placement':'SINGLE','root':SCAN | 6 /fragments/0/id\n\
 ROOT | {'id':2,'op':'filter','predicate':{'col':0},'input':SCAN} | 0\n\
 ROOT | {'id':2,'op':'project','columns':[{'col':7}],'input':SCAN} | 0\n\
-ROOT | {'id':2,'op':'limit','step':'SINGLE','count':1,'input':SCAN} | 10 /fragments/0/root/op\n\
+ROOT | {'id':2,'op':'limit','step':'SINGLE','count':1,'input':SCAN} | 0\n\
+ROOT | {'id':2,'op':'limit','step':'PARTIAL','count':1,'input':SCAN} | 10 /fragments/0/root/step\n\
+ROOT | {'id':2,'op':'sort','keys':[{'column':0,'order':'ASC'}],'input':SCAN} | 0\n\
+ROOT | {'id':2,'op':'topn','step':'SINGLE','count':1,'keys':[{'column':0,'order':'DESC'}],'input':SCAN} | 0\n\
+ROOT | {'id':2,'op':'topn','step':'PARTIAL','count':1,'keys':[{'column':0,'order':'DESC'}],'input':SCAN} | 10 /fragments/0/root/step\n\
+ROOT | {'id':2,'op':'topn','step':'FINAL','input':{'id':3,'op':'remote','fragment':9}} | 10 /fragments/0/root/step\n\
+ROOT | {'id':2,'op':'values','types':['bigint','date'],'rows':[['1',null],[null,'2000-01-01']]} | 0\n\
+ROOT | {'id':2,'op':'aggregate','step':'SINGLE','keys':[0],'calls':[],'input':SCAN} | 10 /fragments/0/root/op\n\
+ROOT | {'id':2,'op':'join','kind':'INNER','on':[[0,0]],'left':SCAN,'right':{'id':3,'op':'scan','table':'t','columns':['a']}} | 10 /fragments/0/root/op\n\
+ROOT | {'id':2,'op':'union','left':SCAN,'right':{'id':3,'op':'scan','table':'t','columns':['a']}} | 10 /fragments/0/root/op\n\
 ROOT | {'id':2,'op':'filter','predicate':{'col':0},'input':{'id':3,'op':'remote','fragment':9}} | 10 /fragments/0/root/input/op\n\
 ROOT | {'id':2,'op':'scan','table':'z','columns':['a']} | 4 /fragments/0/root/table\n\
 ROOT | {'id':2,'op':'limit','step':'SINGLE','count':2147483648,'input':SCAN} | 3 /fragments/0/root/count";

@@ -111,8 +111,14 @@ pub const ROOTS: &str = "\
 SCAN | 8 /fragments/0/placement\n\
 {'id':1,'op':'filter','predicate':{'col':0},'input':SCAN} | 5 /fragments/0/root/predicate\n\
 {'id':1,'op':'filter','predicate':{'call':'is_null','args':[{'col':0}]},'input':SCAN} | 8 /fragments/0/placement\n\
-{'id':1,'op':'values','types':['bigint'],'rows':[['x']]} | 10 /fragments/0/root/op\n\
-{'id':1,'op':'sort','keys':[{'column':9,'order':'ASC'}],'input':SCAN} | 10 /fragments/0/root/op\n\
+{'id':1,'op':'values','types':['bigint'],'rows':[['1'],[null]]} | 8 /fragments/0/placement\n\
+{'id':1,'op':'values','types':['bigint'],'rows':[['1'],['x']]} | 5 /fragments/0/root/rows/1/0\n\
+{'id':1,'op':'sort','keys':[{'column':0,'order':'DESC'}],'input':SCAN} | 8 /fragments/0/placement\n\
+{'id':1,'op':'sort','keys':[{'column':0,'order':'ASC'},{'column':9,'order':'ASC'}],'input':SCAN} | 5 /fragments/0/root/keys/1\n\
+{'id':1,'op':'topn','step':'SINGLE','count':1,'keys':[{'column':1,'order':'ASC'}],'input':SCAN} | 5 /fragments/0/root/keys/0\n\
+{'id':1,'op':'limit','step':'SINGLE','count':1,'input':SCAN} | 8 /fragments/0/placement\n\
+{'id':1,'op':'topn','step':'PARTIAL','count':1,'keys':[{'column':9,'order':'ASC'}],'input':SCAN} | 10 /fragments/0/root/step\n\
+{'id':1,'op':'aggregate','step':'SINGLE','keys':[9],'calls':[],'input':SCAN} | 10 /fragments/0/root/op\n\
 {'id':1,'op':'project','columns':[{'col':9}],'input':{'id':2,'op':'union','left':SCAN,'right':{'id':3,'op':'remote','fragment':0}}} | 10 /fragments/0/root/input/op";
 
 pub const SCAN: &str = "{'id':9,'op':'scan','table':'t','columns':['a']}";

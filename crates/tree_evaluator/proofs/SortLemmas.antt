@@ -1,0 +1,63 @@
+-- A sorted list of rows, and the types of what is sorted.
+use Rattle.std.proofs.Common.{◌≡◌, ℕ, ◌<◌, Bool, false, List, length, get_or, sym, ◌∙◌, ap, arith, subst}
+use Rattle.std.specs.Prelude.{IsPermutation, IsTrue}
+use Rattle.std.specs.Fn.{Called}
+use Rattle.std.specs.List.Sorted.{IsSortedBy, IsSortedByClosure}
+use Rattle.std.specs.Ordering.{is_lt}
+use Rattle.std.specs.declared.cmp.Ordering.{Ordering}
+use Rattle.std.proofs.lemmas.Bool.{true≢false}
+use Rattle.std.proofs.lemmas.Fn.{always_returns_same}
+use Rattle.std.proofs.lemmas.List.{length-map}
+use Rattle.std.proofs.lemmas.List.Sorted.{All-permutation, ranks_by, sorted_far}
+use denote.Ref.{Bor}
+use denote.Param.Members.{Mut}
+use Rattle.sql_values.specs.declared.types.SqlType.{SqlType}
+use Rattle.sql_values.specs.declared.value.Value.{Value}
+use Rattle.sql_values.specs.declared.order.KeySpec.{KeySpec}
+use Rattle.sql_values.specs.ColumnRows.{fits_row}
+use Rattle.sql_values.specs.Order.{IsOrdered, row_cmp}
+use Rattle.sql_values.proofs.OrderLemmas.{row_cmp_total}
+use Rattle.sql_exprs.specs.Meaning.{kind_of}
+use Rattle.relations.specs.Sorts.{IsSortOf}
+use Rattle.page_judges.specs.Typed.{AllFit}
+use Rattle.plan_trees.specs.TreeForms.{TreeForm, scan, values, remote, filter, project, join, aggregate, sort, topn, limit, union}
+use Rattle.plan_trees.specs.TreeTypes.{types_of}
+use Rattle.tree_evaluator.specs.Fits.{FitsTables}
+
+-- a tree that fits has a column
+pub has_column : (tree : TreeForm) (tables : List (List (List Value))) → FitsTables tree tables → 0 < length (types_of tree)
+has_column (scan id table columns types) tables fit = fit.0
+has_column (values id types constants) tables fit = fit.0
+has_column (remote id input) tables fit = has_column input tables fit
+has_column (filter id predicate input) tables fit = has_column input tables fit.1
+has_column (project id columns input) tables fit = omega (arith, length-map columns (kind_of (types_of input)), fit.0)
+has_column (join id kind on left right) tables fit = absurd fit
+has_column (aggregate id keys calls input) tables fit = absurd fit
+has_column (sort id keys input) tables fit = has_column input tables fit
+has_column (topn id count keys input) tables fit = has_column input tables fit
+has_column (limit id count input) tables fit = has_column input tables fit
+has_column (union id left right) tables fit = has_column left tables fit.1
+
+pub sort_fits : (types : List SqlType) (keys : List KeySpec) (rows sorted : List (List Value)) → IsSortOf keys rows sorted → AllFit types rows → AllFit types sorted
+sort_fits types keys rows sorted s fit = All-permutation (λ row. IsTrue (fits_row types row)) rows sorted s.same fit
+
+module _ (keys : List KeySpec) where
+  abbrev is_before : List Value → List Value → Bool
+  is_before a b = is_lt (row_cmp keys a b)
+
+  ordered_rows : (order : List (List Value)) → IsSortedBy is_before order → IsOrdered keys order
+  ordered_rows order up i j d lt within e =
+      let far : is_before (get_or order j d) (get_or order i d) ≡ false
+      = sorted_far is_before (ranks_by (row_cmp_total keys) (λ r. r)) order up i j d (omega arith) within in
+      true≢false (sym (ap is_lt e) ∙ far)
+
+  -- what std's sort gives by comparing rows
+  pub sorted_rows : {F : Type 0} {g : Mut F (Bor (List Value) × (Bor (List Value) × Unit {0})) Ordering} {f : F} (rows order : List (List Value))
+      → IsPermutation rows order → IsSortedByClosure g f order
+      → ((a : Bor (List Value) × (Bor (List Value) × Unit {0})) (r : Ordering) (f' : F) → Called g f a r f' → (r ≡ row_cmp keys a.0.now a.1.0.now) × (f' ≡ f))
+      → IsSortOf keys rows order
+  sorted_rows {g = g} {f = f} rows order same up h = record {
+    same = same;
+    ordered = ordered_rows order (up is_before (ranks_by (row_cmp_total keys) (λ r. r))
+        (always_returns_same g (λ a r. is_lt r ≡ is_before a.0.now a.1.0.now) f (λ a r f' k. (ap is_lt (h a r f' k).0, (h a r f' k).1))));
+  }

@@ -1,6 +1,6 @@
 -- A sorted list of rows, and the types of what is sorted.
 use Rattle.std.proofs.Common.{◌≡◌, ℕ, ◌<◌, Bool, false, List, length, get_or, sym, ◌∙◌, ap, arith, subst}
-use Rattle.std.specs.Prelude.{IsPermutation, IsTrue}
+use Rattle.std.specs.Prelude.{IfOk, IsPermutation, IsTrue, Result, Ok, Err}
 use Rattle.std.specs.Fn.{Called}
 use Rattle.std.specs.List.Sorted.{IsSortedBy, IsSortedByClosure}
 use Rattle.std.specs.Ordering.{is_lt}
@@ -38,6 +38,22 @@ has_column (topn id count keys input) tables fit = has_column input tables fit
 has_column (limit id count input) tables fit = has_column input tables fit
 has_column (union id left right) tables fit = has_column left tables fit.1
 
+-- so what is sorted has one
+pub sort_column : (tree : TreeForm) (id : ℕ) (keys : List KeySpec) (input : TreeForm) (tables : List (List (List Value))) (types : List SqlType) → tree ≡ sort id keys input
+    → FitsTables tree tables → types ≡ types_of input → 0 < length types
+sort_column tree id keys input tables types view fit same =
+    subst (λ (ts : List SqlType). 0 < length ts) (sym same) (has_column input tables (subst (λ (t : TreeForm). FitsTables t tables) view fit))
+
+pub topn_column : (tree : TreeForm) (id count : ℕ) (keys : List KeySpec) (input : TreeForm) (tables : List (List (List Value))) (types : List SqlType) → tree ≡ topn id count keys input
+    → FitsTables tree tables → types ≡ types_of input → 0 < length types
+topn_column tree id count keys input tables types view fit same =
+    subst (λ (ts : List SqlType). 0 < length ts) (sym same) (has_column input tables (subst (λ (t : TreeForm). FitsTables t tables) view fit))
+
+pub sort_answer : {E : Type 0} (r : Result (List (List Value)) E) (keys : List KeySpec) (rows order : List (List Value)) → IfOk r (λ list. list ≡ order) → IsSortOf keys rows order
+    → IfOk r (IsSortOf keys rows)
+sort_answer (Ok list) keys rows order same s = subst (IsSortOf keys rows) (sym same) s
+sort_answer (Err reason) keys rows order same s = tt
+
 pub sort_fits : (types : List SqlType) (keys : List KeySpec) (rows sorted : List (List Value)) → IsSortOf keys rows sorted → AllFit types rows → AllFit types sorted
 sort_fits types keys rows sorted s fit = All-permutation (λ row. IsTrue (fits_row types row)) rows sorted s.same fit
 
@@ -48,7 +64,7 @@ module _ (keys : List KeySpec) where
   ordered_rows : (order : List (List Value)) → IsSortedBy is_before order → IsOrdered keys order
   ordered_rows order up i j d lt within e =
       let far : is_before (get_or order j d) (get_or order i d) ≡ false
-      = sorted_far is_before (ranks_by (row_cmp_total keys) (λ r. r)) order up i j d (omega arith) within in
+      = sorted_far is_before (ranks_by (row_cmp_total keys) (λ (r : List Value). r)) order up i j d (omega arith) within in
       true≢false (sym (ap is_lt e) ∙ far)
 
   -- what std's sort gives by comparing rows
@@ -58,6 +74,6 @@ module _ (keys : List KeySpec) where
       → IsSortOf keys rows order
   sorted_rows {g = g} {f = f} rows order same up h = record {
     same = same;
-    ordered = ordered_rows order (up is_before (ranks_by (row_cmp_total keys) (λ r. r))
+    ordered = ordered_rows order (up is_before (ranks_by (row_cmp_total keys) (λ (r : List Value). r))
         (always_returns_same g (λ a r. is_lt r ≡ is_before a.0.now a.1.0.now) f (λ a r f' k. (ap is_lt (h a r f' k).0, (h a r f' k).1))));
   }

@@ -48,7 +48,9 @@ impl NodeRows {
     #[tactic(auto, using(crate::proofs::PageLemmas::rows_fit))]
     pub fn rows_fit_types(&self)
         ensures { AllFit self.now.types self.now.rows }
-    {}
+    {
+        let _ = &self.types;
+    }
 
     /// Appends the rows of a page; one that has none is let go.
     #[tactic(auto, using(crate::proofs::PageLemmas::rows_more, crate::proofs::PageLemmas::pages_more))]

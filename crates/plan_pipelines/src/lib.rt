@@ -3,6 +3,8 @@
 //! - `specs/Fragments.antt`: which plans are one fragment, and their root as it runs (`run_of`)
 //! - `specs/Sources.antt`: a run that is one pipeline, with its source, the rows that this holds, and
 //!   its stages from there on
+//! - `specs/Built.antt`: which plans run as one pipeline today, where its rows come from, and that this
+//!   can be read
 //!
 //! `laws` says what follows:
 //!

@@ -28,7 +28,7 @@ use Rattle.driver_loop.specs.declared.source.Source.{Source}
 use Rattle.driver_loop.specs.declared.stage.Stage.{Stage}
 use Rattle.driver_loop.specs.declared.target.Target.{Target}
 use Rattle.plan_pipelines.specs.Fragments.{IsOneFragment, run_of}
-use Rattle.plan_pipelines.specs.Built.{IsBuilt, source_of}
+use Rattle.plan_pipelines.specs.Built.{IsBuilt, PipelineSource, source_of}
 use Rattle.plan_runs.specs.RunPlans.{tree_of_run}
 use Rattle.plan_pipelines.specs.Sources.{IsPipeline, pipeline_of, source_rows, source_types}
 use Rattle.plan_pipelines.proofs.FragmentLemmas.{fragment_runs}
@@ -136,6 +136,13 @@ pub root_fits : (plan : PlanForm) (root found : NodeForm) (tables : List (List (
 root_fits plan root found tables one is fits =
     subst CanFit (sym (is ∙ root_is plan root one))
     (record { tables = tables; fits = subst (λ t. FitsTables t tables) (fragment_runs plan root one) fits })
+
+-- rows of the plan that lie below the root fit
+pub root_rows_fit : (plan : PlanForm) (root found : NodeForm) (tables : List (List (List Value))) (source : PipelineSource) → IsOneFragment plan root → IsBuilt root
+    → found ≡ root_in plan → FitsTables (tree_of plan) tables → source ≡ source_of found → RowsFit source
+root_rows_fit plan root found tables source one built is fits below =
+    subst RowsFit (sym (below ∙ ap source_of (is ∙ root_is plan root one)))
+    (rows_fit tables root built (subst (λ t. FitsTables t tables) (fragment_runs plan root one) fits))
 
 -- a seat that has drawn nothing
 pub gave_none : (s : ScanState) → s.seat.numbers ≡ [] → given s ≡ []

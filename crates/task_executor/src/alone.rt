@@ -124,8 +124,8 @@ fn settle(alloc: Global, driver: Driver<'_>) -> Result<RowList, Memory>
 
 /// Settles which splits a seat drew, if there is one.
 fn settle_seat(alloc: Global, claim: Option<ClaimSeat<'_>>) -> Result<(), Memory>
-    requires all { IsAll claim.entry }
-    requires ended { IsEnded claim.entry }
+    requires all { IsAll claim }
+    requires ended { IsEnded claim }
     ensures { IfOk result (λ _. IsSettled claim.entry) }
 {
     if let Some(seat) = claim {
@@ -153,7 +153,7 @@ fn stop(alloc: Global, driver: Driver<'_>, fault: RunFault) -> RunFault
 
 /// Tells which splits a seat drew, if there is one.
 fn stop_seat(alloc: Global, claim: Option<ClaimSeat<'_>>) -> Result<(), Memory>
-    requires { IsAll claim.entry }
+    requires { IsAll claim }
     ensures { IfOk result (λ _. IsStopped claim.entry) }
 {
     if let Some(seat) = claim {

@@ -92,9 +92,9 @@ fn source_of<'w>(
     requires fresh { wiring.old.claims.is_handed_out ≡ false }
     requires seats { wiring.old.claims.id.of.seats ≡ 1 }
     requires count { wiring.old.claims.id.of.count ≡ splits_of tables.now shape.now.split (below_view below) }
-    ensures fresh { IfOk result (λ source. IsFresh source.entry) }
+    ensures fresh { IfOk result (λ source. IsFresh source) }
     ensures reads { IfOk result
-        (λ source. Reads source.entry (rows_below (map rows_of tables.now) (below_view below))) }
+        (λ source. Reads source (rows_below (map rows_of tables.now) (below_view below.entry))) }
 {
     match below {
         Below::Scanned(table, columns) => {

@@ -58,7 +58,7 @@ fn splits_of(tables: &[Table], size: u32, source: Below<'_>) -> u32
     requires few { AreFew tables.now }
     requires size { 0 < size }
     requires there { CanBeRead tables.now (below_view source) }
-    ensures { result ≡ splits_of tables.now size (below_view source) }
+    ensures { result ≡ splits_of tables.now size (below_view source.entry) }
 {
     match source {
         Below::Scanned(table, _) => split_count(tables[table as usize].rows.len() as u32, size),

@@ -3,13 +3,19 @@ use Rattle.plan_docs.specs.Plans.{plan_view}
 use Rattle.plan_docs.specs.Nodes.{node_view}
 use Rattle.tree_evaluator.specs.Stops.{rows_of}
 use Rattle.task_executor.specs.Nets.{Reads, rows_below}
-use Rattle.task_executor.proofs.WiringLemmas.{net_is, ok_same, root_fits}
+use Rattle.task_executor.specs.Wirings.{below_view}
+use Rattle.task_executor.proofs.WiringLemmas.{net_is, ok_same, root_fits, root_rows_fit}
 use Rattle.task_executor.proofs.net.Net.build.Goals as goal
 
 pub of-requires-clause-fits : goal.of-requires-clause-fits
 of-requires-clause-fits c =
     root_fits (plan_view c.args.plan.now) c.requires.runnable.root (node_view c.root_of-root.result.now) (map rows_of c.args.tables.now)
     c.requires.runnable.one c.root_of-root.ensures c.requires.fits
+
+pub source_of-requires-clause-fits : goal.source_of-requires-clause-fits
+source_of-requires-clause-fits c =
+    root_rows_fit (plan_view c.args.plan.now) c.requires.runnable.root (node_view c.root_of-root.result.now) (map rows_of c.args.tables.now)
+    (below_view c.source_below.result) c.requires.runnable.one c.requires.runnable.built c.root_of-root.ensures c.requires.fits c.source_below.ensures
 
 pub returns : goal.returns
 returns c =

@@ -5,7 +5,7 @@ use Rattle.task_executor.proofs.pipeline.Pipeline.with_limit.Goals as goal
 
 pub returns-clause-extends : goal.returns-clause-extends
 returns-clause-extends c = λ id.
-    let own = c.of.result in
+    let own = c.of-taken.result in
     let op = c.new.result in
     record {
       stage = Limit op own;

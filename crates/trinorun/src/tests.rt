@@ -21,6 +21,8 @@ use std::test::Fail;
 use std::thread::Threads;
 use tree_evaluator::evaluate;
 
+mod orders;
+
 const WORDS: &str = "--plan p t=t";
 
 const A: &str = "{\"name\":\"a\",\"type\":\"bigint\"}";
@@ -272,6 +274,38 @@ fn plain_text(alloc: Global, plan: &Plan, tables: &[Table]) -> Result<Vec<u8>, F
     Ok(text_of(alloc, plan.output.as_slice(), types.as_slice(), &rows)?)
 }
 
+/// The texts of what a run under these words and picks gives over the table `t`, and of what the plain evaluator
+/// gives. None where the plan or the table is refused, or the run fails.
+fn both_texts<R: Threads + Wait + Sync + RandomSource + AllocGlobal>(
+    rt: &R,
+    words: &str,
+    plan: &str,
+    table: &str,
+    picks: &[u32],
+) -> Result<Option<(Vec<u8>, Vec<u8>)>, Fail> {
+    let alloc = rt.alloc();
+    let words = words_in(alloc, words)?;
+    let Some(job) = read_words(&words) else {
+        return Ok(None);
+    };
+    let mut files = files_of(alloc, plan, table, 0)?;
+    let Ok(plan) = load::load_plan(alloc, &job, &mut files) else {
+        return Ok(None);
+    };
+    let docs = plan.tables.as_slice();
+    let Ok(found) = load::files_of(alloc, &job, docs) else {
+        return Ok(None);
+    };
+    let Ok(tables) = load::load_tables(alloc, &job, docs, &found, &mut files) else {
+        return Ok(None);
+    };
+    let Ok(text) = result_of(rt, alloc, &shape_of(&job), &plan, &tables, picks) else {
+        return Ok(None);
+    };
+    let plain = plain_text(alloc, &plan, &tables)?;
+    Ok(Some((text, plain)))
+}
+
 /// Whether a run under these words and picks gives what the plain evaluator gives.
 fn gives_the_same<R: Threads + Wait + Sync + RandomSource + AllocGlobal>(
     rt: &R,
@@ -279,26 +313,10 @@ fn gives_the_same<R: Threads + Wait + Sync + RandomSource + AllocGlobal>(
     plan: &str,
     picks: &[u32],
 ) -> Result<bool, Fail> {
-    let alloc = rt.alloc();
-    let words = words_in(alloc, words)?;
-    let Some(job) = read_words(&words) else {
-        return Ok(false);
-    };
-    let mut files = files_of(alloc, plan, TEN_ROWS, 0)?;
-    let Ok(plan) = load::load_plan(alloc, &job, &mut files) else {
-        return Ok(false);
-    };
-    let docs = plan.tables.as_slice();
-    let Ok(found) = load::files_of(alloc, &job, docs) else {
-        return Ok(false);
-    };
-    let Ok(tables) = load::load_tables(alloc, &job, docs, &found, &mut files) else {
-        return Ok(false);
-    };
-    let Ok(text) = result_of(rt, alloc, &shape_of(&job), &plan, &tables, picks) else {
-        return Ok(false);
-    };
-    Ok(text == plain_text(alloc, &plan, &tables)?)
+    match both_texts(rt, words, plan, TEN_ROWS, picks)? {
+        Some((text, plain)) => Ok(text == plain),
+        None => Ok(false),
+    }
 }
 
 #[test]

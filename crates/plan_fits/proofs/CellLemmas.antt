@@ -35,29 +35,25 @@ cell_at : (before : List Value) (v : Value) (left : List Value) → cell (before
 cell_at [] v left = refl
 cell_at (w ∷ before) v left = cell_at before v left
 
-both_true : (a b : Bool) → IsTrue a → IsTrue b → IsTrue (a && b)
-both_true true b first second = second
-both_true false b first second = first
-
 -- the cells from the end of `before` on have these types
 cells_fit : (kinds : List SqlType) (before left : List Value) → length left ≡ length kinds → length before + length kinds ≤ 256
     → misfit_in kinds (length before) (before ++ left) ≡ None → IsTrue (fits_row kinds left)
-cells_fit [] before [] beside few e = tt
+cells_fit [] before [] beside few e = refl
 cells_fit [] before (v ∷ left) beside few e = absurd (omega (arith, beside))
 cells_fit (kind ∷ kinds) before [] beside few e = absurd (omega (arith, beside))
 cells_fit (kind ∷ kinds) before (v ∷ left) beside few e =
     let same : small (length before) ≡ length before = small_same (length before) (omega (arith, few)) in
     let found : cell (before ++ v ∷ left) (small (length before)) ≡ v = ap (cell (before ++ v ∷ left)) same ∙ cell_at before v left in
     let here = subst (λ (w : Value). (if fits kind w then misfit_in kinds (length before + 1) (before ++ v ∷ left) else Some (length before)) ≡ None) found e in
-    by_test (fits kind v) here
+    let longer : length (before ++ v ∷ []) ≡ length before + 1 = length-append before (v ∷ []) in
+    by_test (fits kind v) here (λ e2. cells_fit kinds (before ++ v ∷ []) left (omega (arith, beside)) (omega (arith, longer, few))
+    (subst (λ (n : ℕ). misfit_in kinds n ((before ++ v ∷ []) ++ left) ≡ None) (sym longer)
+    (subst (λ (row : List Value). misfit_in kinds (length before + 1) row ≡ None) (sym (append_assoc before (v ∷ []) left)) e2)))
   where
-    by_test : (b : Bool) → (if b then misfit_in kinds (length before + 1) (before ++ v ∷ left) else Some (length before)) ≡ None → IsTrue (b && fits_row kinds left)
-    by_test false h = cc
-    by_test true h =
-        let longer : length (before ++ v ∷ []) ≡ length before + 1 = length-append before (v ∷ []) in
-        let rest = subst (λ (row : List Value). misfit_in kinds (length before + 1) row ≡ None) (sym (append_assoc before (v ∷ []) left)) h in
-        cells_fit kinds (before ++ v ∷ []) left (omega (arith, beside)) (omega (arith, longer, few))
-        (subst (λ (n : ℕ). misfit_in kinds n ((before ++ v ∷ []) ++ left) ≡ None) (sym longer) rest)
+    by_test : (b : Bool) → (if b then misfit_in kinds (length before + 1) (before ++ v ∷ left) else Some (length before)) ≡ None
+        → (misfit_in kinds (length before + 1) (before ++ v ∷ left) ≡ None → IsTrue (fits_row kinds left)) → IsTrue (b && fits_row kinds left)
+    by_test false h rest = cc
+    by_test true h rest = rest h
 
 none_first : (i : ℕ) (o : Option ℕ) (later : Option (ℕ × ℕ)) → or_later i o later ≡ None → (o ≡ None) × (later ≡ None)
 none_first i None later e = (refl, e)

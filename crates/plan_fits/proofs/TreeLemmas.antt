@@ -78,13 +78,13 @@ unless_fault : (o : Option Path) (r : Result RowTypes Path) (types : RowTypes) �
 unless_fault None r types e = (refl, e)
 unless_fault (Some path) r types e = cc
 
-plain_columns : (columns : List SqlType) (types : RowTypes) → Ok (plain columns) ≡ Ok types → columns ≡ types.columns
-plain_columns columns types e = let same : plain columns ≡ types = cc e in ap (λ (t : RowTypes). t.columns) same
+same_columns : (below types : RowTypes) → same_rows below ≡ Ok types → below.columns ≡ types.columns
+same_columns below types e = let same : plain below.columns ≡ types = cc e in ap (λ (t : RowTypes). t.columns) same
 
 -- rows in an order have the types of the rows
 sorted_columns : (path : Path) (keys : List KeySpec) (below types : RowTypes) → sort_types path keys below ≡ Ok types → below.columns ≡ types.columns
 sorted_columns path keys below types e =
-    plain_columns below.columns types
+    same_columns below types
     (unless_fault (entry_fault path key.Keys (position_from (is_key_beyond (length below.columns)) 0 keys)) (Ok (plain below.columns)) types e).1
 
 no_cell : (path : Path) (o : Option (ℕ × ℕ)) → cell_fault path o ≡ None → o ≡ None
@@ -126,7 +126,7 @@ node_agrees docs tables own fit first later path reads (project id columns input
 node_agrees docs tables own fit first later path reads (values id kinds rows) types sound e =
     let none = unless_fault (cell_fault path (misfit_from kinds 0 rows)) (Ok (plain kinds)) types e in
     record {
-      same = plain_columns kinds types none.1;
+      same = same_columns (plain kinds) types none.1;
       fits = (sound.0, rows_fit kinds 0 rows sound.1 sound.2 (no_cell path (misfit_from kinds 0 rows) none.0));
     }
 node_agrees docs tables own fit first later path reads (sort id keys input) types sound e =
@@ -143,7 +143,7 @@ node_agrees docs tables own fit first later path reads (limit id half count inpu
     typed_then_ok (node_types first later (under path key.Input) input) (same_rows) types (Agrees types (node_tree reads (limit id half count input)) tables) e
     (λ below h g.
     let ih = node_agrees docs tables own fit first later (under path key.Input) reads input below sound.1 h in
-    record { same = ih.same ∙ plain_columns below.columns types g; fits = ih.fits })
+    record { same = ih.same ∙ same_columns below types g; fits = ih.fits })
 node_agrees docs tables own fit first later path reads (remote id fragment) types sound e = absurd sound
 node_agrees docs tables own fit first later path reads (join id kind on filters left right) types sound e = absurd sound
 node_agrees docs tables own fit first later path reads (aggregate id step keys calls input) types sound e = absurd sound

@@ -24,6 +24,7 @@ fn plan(alloc: Global, is_wide: bool, root: &str) -> Result<String, Fail> {
     }
 }
 
+#[derive(Drop)]
 struct Case<'c> {
     root: &'c str,
     table: &'c str,

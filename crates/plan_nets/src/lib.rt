@@ -1,0 +1,20 @@
+//! The pipelines of a plan of one fragment in one task: what their drivers give together, joins among them.
+//!
+//! A join cuts a plan: its right side is a pipeline of its own, whose driver builds what the pipeline of the join
+//! looks into. With one driver for each pipeline, such a run is a tree of drivers:
+//!
+//! - `specs/Trees.antt`: the pipelines, their sources, and their stages over what the joins built
+//! - `specs/Wholes.antt`: a run that is over (`SidesGave`)
+//! - `specs/Stopped.antt`: one that stands anywhere (`StandsAt`), and a stage that fails in it (`FailsAt`)
+//!
+//! `laws` says what follows:
+//!
+//! - `nets_give`: where each driver gave what its stages make, the driver of the root gave a list that the plan's
+//!   tree gives
+//! - `nets_fail`, `sides_fail`: where a stage fails in the pipeline of the root, or in that of a right side, its
+//!   node may fail so
+#![tactic(auto)]
+
+mod laws;
+
+pub use laws::{nets_fail, nets_give, sides_fail};

@@ -22,17 +22,17 @@ use Rattle.plan_nets.specs.Stopped.{AgreeWith, FailsAt, FailsOver, IsLeftOf, IsO
 use Rattle.plan_nets.proofs.TreeLemmas.{alone, are_for, flag, in_task, placed}
 
 -- what a driver's notes know, in each task
-notes_in : List (Option (List Row)) → Notes
-notes_in notes = map (λ (note : Option (List Row)). λ (k d : ℕ). note) notes
+abbrev notes_in : List (Option (List Row)) → Notes
+notes_in notes = map (λ (noted : Option (List Row)). λ (k d : ℕ). noted) notes
 
 agree : (notes : List (Option (List Row))) (builds : List TaskRows) (k d : ℕ) → AreNoted (notes_in notes) builds k d → AgreeWith notes (in_task k builds)
-agree [] builds k d noted = tt
-agree (note ∷ notes) [] k d noted = absurd noted
-agree (None ∷ notes) (build ∷ builds) k d noted = agree notes builds k d noted.1
-agree (Some known ∷ notes) (build ∷ builds) k d noted = (noted.0, agree notes builds k d noted.1)
+agree [] builds k d agreed = tt
+agree (noted ∷ notes) [] k d agreed = absurd agreed
+agree (None ∷ notes) (build ∷ builds) k d agreed = agree notes builds k d agreed.1
+agree (Some known ∷ notes) (build ∷ builds) k d agreed = (agreed.0, agree notes builds k d agreed.1)
 
-agree_rest : (note : Option (List Row)) (notes : List (Option (List Row))) (built : List Row) (builds : List (List Row))
-    → AgreeWith (note ∷ notes) (built ∷ builds) → AgreeWith notes builds
+agree_rest : (noted : Option (List Row)) (notes : List (Option (List Row))) (built : List Row) (builds : List (List Row))
+    → AgreeWith (noted ∷ notes) (built ∷ builds) → AgreeWith notes builds
 agree_rest None notes built builds agrees = agrees
 agree_rest (Some known) notes built builds agrees = agrees.1
 
@@ -46,9 +46,9 @@ module _ (tables : Tables) where
   builds_for (filter id predicate input) notes builds took ended stands agrees = builds_for input notes builds took ended stands agrees
   builds_for (project id columns input) notes builds took ended stands agrees = builds_for input notes builds took ended stands agrees
   builds_for (join id kind on left right) [] builds took ended stands agrees = absurd stands
-  builds_for (join id kind on left right) (note ∷ notes) [] took ended stands agrees = absurd agrees
-  builds_for (join id kind on left right) (note ∷ notes) (built ∷ builds) took ended (side, below, open, known, rest) agrees = 
-      builds_for left notes builds took ended rest (agree_rest note notes built builds agrees)
+  builds_for (join id kind on left right) (noted ∷ notes) [] took ended stands agrees = absurd agrees
+  builds_for (join id kind on left right) (noted ∷ notes) (built ∷ builds) took ended (side, below, opens, known, rest) agrees = 
+      builds_for left notes builds took ended rest (agree_rest noted notes built builds agrees)
   builds_for (aggregate id keys calls input) notes builds took ended stands agrees = builds_for input notes builds took ended stands agrees
   builds_for (aggregate_parts id source output tasks keys calls input) notes builds took ended stands agrees = absurd stands
   builds_for (sort id keys input) notes builds took ended stands agrees = builds_for input notes builds took ended stands agrees
@@ -61,11 +61,11 @@ module _ (tables : Tables) where
   opened : (run : RunPlan) → IsInOneTask run → (notes : List (Option (List Row))) (took gave : List Row) (ended done : Bool)
       → StandsAt tables run notes took ended → IsOpen run notes took gave ended done
       → AreOpen [] 1 1 run (notes_in notes) (alone took) (alone gave) (flag ended) (flag done)
-  opened run one notes took gave ended done stands open = λ k d lt less builds noted.
-      let agrees = agree notes builds k d noted in (
+  opened run one notes took gave ended done stands opens = λ k d lt less builds agreed.
+      let agrees = agree notes builds k d agreed in (
         stages_of (stages_over run (in_task k builds)),
         are_for run one builds k (builds_for run notes (in_task k builds) took ended stands agrees),
-        subst (λ (p : List Stage). CanGoOn p took gave ended done) (sym (append-nil (stages_of (stages_over run (in_task k builds))))) (open (in_task k builds) agrees),
+        subst (λ (p : List Stage). CanGoOn p took gave ended done) (sym (append-nil (stages_of (stages_over run (in_task k builds))))) (opens (in_task k builds) agrees),
       )
 
   hop : (rows took : List Row) (ended : Bool) (Over : Type 0) → (Over → ended ≡ true) → IsLeftOf rows took ended → Hop rows took Over (Unit {0})
@@ -79,10 +79,10 @@ module _ (tables : Tables) where
   stops (filter id predicate input) one notes took ended stands = stops input one notes took ended stands
   stops (project id columns input) one notes took ended stands = stops input one notes took ended stands
   stops (join id kind on left right) one [] took ended stands = absurd stands
-  stops (join id kind on left right) one (note ∷ notes) took ended (side, below, open, known, rest) = (
+  stops (join id kind on left right) one (noted ∷ notes) took ended (side, below, opens, known, rest) = (
       record { drivers = 1; notes = notes_in side.notes; took = alone side.took; gave = alone side.gave; ended = flag side.ended; done = flag side.done },
       stops right one.1 side.notes side.took side.ended below,
-      opened right one.1 side.notes side.took side.gave side.ended side.done below open,
+      opened right one.1 side.notes side.took side.gave side.ended side.done below opens,
       λ k d lt less built is. let n = known built is in ((λ e among. n.0), n.1),
       stops left one.0 notes took ended rest,
     )
@@ -123,7 +123,7 @@ module _ (tables : Tables) where
         inl (is, over (FailsOnOneOf (project_judge (types_of (tree_of_run input)) columns) kind) input one notes took ended stands f)
     fails_at (project id columns input) one notes took ended stands (inr f) = inr (fails_at input one notes took ended stands f)
     fails_at (join id how on left right) one [] took ended stands f = absurd f
-    fails_at (join id how on left right) one (note ∷ notes) took ended (side, below, open, known, rest) f = inl (fails_at left one.0 notes took ended rest f)
+    fails_at (join id how on left right) one (noted ∷ notes) took ended (side, below, opens, known, rest) f = inl (fails_at left one.0 notes took ended rest f)
     fails_at (aggregate id keys calls input) one notes took ended stands (inl (is, f)) =
         inl (is, refl, over (FailsOnGroupOf (groups_of (types_of (tree_of_run input)) keys calls) kind) input one notes took ended stands f)
     fails_at (aggregate id keys calls input) one notes took ended stands (inr f) = inr (fails_at input one notes took ended stands f)
@@ -141,7 +141,7 @@ module _ (tables : Tables) where
         failed tables node kind (omega arith) fits (placed run one) 1 (notes_in notes) (alone took) (flag ended) (fails_at run one notes took ended stands f)
 
     -- a note that knows nothing for each join along the left sides
-    no_notes : RunPlan → Notes
+    abbrev no_notes : RunPlan → Notes
     no_notes (scan id table columns types) = []
     no_notes (values id types rows) = []
     no_notes (remote id output tasks input) = []
@@ -157,7 +157,7 @@ module _ (tables : Tables) where
     no_notes (limit_parts id source output tasks count input) = []
     no_notes (union id left right) = []
 
-    pipe : Notes → Lanes → Flags → StoppedPipe
+    abbrev pipe : Notes → Lanes → Flags → StoppedPipe
     pipe notes took ended = record { drivers = 1; notes = notes; took = took; gave = took; ended = ended; done = ended }
 
     -- where a right side failed, so did the run

@@ -17,7 +17,7 @@ use Rattle.plan_nets.specs.Trees.{stages_over}
 -- the builds are what the notes of a driver know, in any order; where a note knows nothing, any
 abbrev pub AgreeWith : List (Option (List Row)) → List (List Row) → Type 0
 AgreeWith [] builds = Unit {0}
-AgreeWith (note ∷ notes) [] = ⊥
+AgreeWith (noted ∷ notes) [] = ⊥
 AgreeWith (None ∷ notes) (built ∷ builds) = AgreeWith notes builds
 AgreeWith (Some known ∷ notes) (built ∷ builds) = SameWeights built known × AgreeWith notes builds
 
@@ -49,10 +49,10 @@ StandsAt tables (remote id output tasks input) notes took ended = ⊥
 StandsAt tables (filter id predicate input) notes took ended = StandsAt tables input notes took ended
 StandsAt tables (project id columns input) notes took ended = StandsAt tables input notes took ended
 StandsAt tables (join id kind on left right) [] took ended = ⊥
-StandsAt tables (join id kind on left right) (note ∷ notes) took ended = 
+StandsAt tables (join id kind on left right) (noted ∷ notes) took ended = 
     (side : Standing) × StandsAt tables right side.notes side.took side.ended
     × IsOpen right side.notes side.took side.gave side.ended side.done
-    × ((built : List Row) → note ≡ Some built → (side.done ≡ true) × SameWeights side.gave built)
+    × ((built : List Row) → noted ≡ Some built → (side.done ≡ true) × SameWeights side.gave built)
     × StandsAt tables left notes took ended
 StandsAt tables (aggregate id keys calls input) notes took ended = StandsAt tables input notes took ended
 StandsAt tables (aggregate_parts id source output tasks keys calls input) notes took ended = ⊥
@@ -82,7 +82,7 @@ FailsAt (project id columns input) notes took ended node kind =
     ((id ≡ node) × FailsOver (FailsOnOneOf (project_judge (types_of (tree_of_run input)) columns) kind) input notes took ended)
     ⊎ FailsAt input notes took ended node kind
 FailsAt (join id how on left right) [] took ended node kind = ⊥
-FailsAt (join id how on left right) (note ∷ notes) took ended node kind = FailsAt left notes took ended node kind
+FailsAt (join id how on left right) (noted ∷ notes) took ended node kind = FailsAt left notes took ended node kind
 FailsAt (aggregate id keys calls input) notes took ended node kind =
     ((id ≡ node) × FailsOver (FailsOnGroupOf (groups_of (types_of (tree_of_run input)) keys calls) kind) input notes took ended)
     ⊎ FailsAt input notes took ended node kind

@@ -1,7 +1,7 @@
 -- A node of a document that passes the checks is a scan of declared columns or rows of constants, or
 -- an operator of one input over such a node.
-use Rattle.std.proofs.Common.{◌≡◌, ℕ, ◌+◌, ◌<◌, ◌≤◌, ◌^◌, zero, suc, List, [], ◌∷◌, ◌++◌, length, map, Bool, true, false, cond, Option, Some, None, refl, ap, sym, ◌∙◌, subst, arith, add-one}
-use Rattle.std.specs.Prelude.{slice_get, ◌&&◌, ◌==◌, nat_lt, if◌then◌else◌}
+use Rattle.std.proofs.Common.{◌≡◌, ℕ, ◌+◌, ◌<◌, ◌≤◌, zero, suc, List, [], ◌∷◌, ◌++◌, length, map, Bool, true, false, cond, Option, Some, None, refl, ap, sym, ◌∙◌, subst, arith, add-one}
+use Rattle.std.specs.Prelude.{slice_get, nat_lt, if◌then◌else◌}
 use Rattle.std.specs.List.{find}
 use Rattle.std.proofs.lemmas.Bool.{ltb-false}
 use Rattle.std.proofs.lemmas.List.{length-map}
@@ -20,15 +20,13 @@ use Rattle.plan_grammar.specs.declared.words.OpWord.TheVariants as op
 use Rattle.plan_grammar.specs.declared.words.StepWord.{StepWord}
 use Rattle.plan_grammar.specs.declared.words.StepWord.TheVariants as word
 use Rattle.plan_grammar.specs.Grammar.{aggregate_parts, join_parts, level_of, limit_parts, parts_of_node, topn_parts}
-use Rattle.plan_grammar.specs.Json.{entries_count, entries_in, entries_under, has_key, text_of, text_under, under}
+use Rattle.plan_grammar.specs.Json.{entries_in, entries_under, has_key, text_of, text_under, under}
 use Rattle.plan_grammar.specs.Tables.{part}
 use Rattle.plan_grammar.specs.Tables as table
-use Rattle.plan_grammar.specs.Spots.{spot}
 use Rattle.plan_grammar.specs.Words.{op_named, op_of, step_named, step_of}
 use Rattle.plan_checks.specs.declared.limits.Bound.TheVariants as bound
 use Rattle.plan_checks.specs.Built.{is_built, is_whole}
 use Rattle.plan_checks.specs.Limits.{bound_of}
-use Rattle.plan_checks.specs.Shapes.{has_shape, is_cell, is_list, is_misshapen, row_width}
 use Rattle.plan_docs.specs.declared.node.NodeStep.TheVariants.{Single}
 use Rattle.plan_docs.specs.declared.plan.TableDoc.{TableDoc}
 use Rattle.plan_docs.specs.Cells.{rows_of}

@@ -1,5 +1,5 @@
 -- A sorted list of rows, and the types of what is sorted.
-use Rattle.std.proofs.Common.{◌≡◌, ℕ, ◌<◌, Bool, false, List, length, get_or, sym, ◌∙◌, ap, arith, subst}
+use Rattle.std.proofs.Common.{◌≡◌, ◌<◌, Bool, false, List, length, get_or, sym, ◌∙◌, ap, arith, subst}
 use Rattle.std.specs.Prelude.{IfOk, IsPermutation, IsTrue, Result, Ok, Err}
 use Rattle.std.specs.Fn.{Called}
 use Rattle.std.specs.List.Sorted.{IsSortedBy, IsSortedByClosure}
@@ -38,22 +38,17 @@ has_column (topn id count keys input) tables fit = has_column input tables fit
 has_column (limit id count input) tables fit = has_column input tables fit
 has_column (union id left right) tables fit = has_column left tables fit.1
 
--- so what is sorted has one
-pub sort_column : (tree : TreeForm) (id : ℕ) (keys : List KeySpec) (input : TreeForm) (tables : List (List (List Value))) (types : List SqlType) → tree ≡ sort id keys input
-    → FitsTables tree tables → types ≡ types_of input → 0 < length types
-sort_column tree id keys input tables types view fit same =
-    subst (λ (ts : List SqlType). 0 < length ts) (sym same) (has_column input tables (subst (λ (t : TreeForm). FitsTables t tables) view fit))
+-- so rows that it gave have one
+pub gave_column : (tree : TreeForm) (tables : List (List (List Value))) (types : List SqlType) → FitsTables tree tables → types ≡ types_of tree → 0 < length types
+gave_column tree tables types fit same = subst (λ (ts : List SqlType). 0 < length ts) (sym same) (has_column tree tables fit)
 
-pub topn_column : (tree : TreeForm) (id count : ℕ) (keys : List KeySpec) (input : TreeForm) (tables : List (List (List Value))) (types : List SqlType) → tree ≡ topn id count keys input
-    → FitsTables tree tables → types ≡ types_of input → 0 < length types
-topn_column tree id count keys input tables types view fit same =
-    subst (λ (ts : List SqlType). 0 < length ts) (sym same) (has_column input tables (subst (λ (t : TreeForm). FitsTables t tables) view fit))
-
+-- a list that is a sort of the rows
 pub sort_answer : {E : Type 0} (r : Result (List (List Value)) E) (keys : List KeySpec) (rows order : List (List Value)) → IfOk r (λ list. list ≡ order) → IsSortOf keys rows order
     → IfOk r (IsSortOf keys rows)
 sort_answer (Ok list) keys rows order same s = subst (IsSortOf keys rows) (sym same) s
 sort_answer (Err reason) keys rows order same s = tt
 
+-- a sort of rows that fit fits
 pub sort_fits : (types : List SqlType) (keys : List KeySpec) (rows sorted : List (List Value)) → IsSortOf keys rows sorted → AllFit types rows → AllFit types sorted
 sort_fits types keys rows sorted s fit = All-permutation (λ row. IsTrue (fits_row types row)) rows sorted s.same fit
 

@@ -60,7 +60,10 @@ fn evaluate_node(alloc: Global, tree: &Tree, tables: &[Table]) -> Result<NodeRow
             Ok(sort_rows(alloc, keys.as_slice(), rows)?)
         }
         Tree::TopN {
-            count, keys, input, ..
+            count,
+            keys,
+            input,
+            ..
         } => {
             let rows = evaluate_node(alloc, input, tables)?;
             let sorted = sort_rows(alloc, keys.as_slice(), rows)?;

@@ -1,11 +1,12 @@
-use Rattle.std.proofs.Common.{◌≡◌, ◌∙◌, ap, map, sym}
+use Rattle.std.proofs.Common.{◌≡◌, ◌∙◌, ap, map, subst, sym}
 use Rattle.sql_exprs.specs.Forms.{form_view}
 use Rattle.plan_trees.specs.declared.tree.Tree.{Tree}
-use Rattle.plan_trees.specs.TreeForms.{filter, project, sort, topn, tree_view}
+use Rattle.plan_trees.specs.TreeForms.{TreeForm, filter, project, sort, topn, tree_view}
+use Rattle.tree_evaluator.specs.Fits.{FitsTables}
 use Rattle.tree_evaluator.specs.Stops.{rows_of}
 use Rattle.tree_evaluator.proofs.ViewLemmas.{view_filter, view_project, view_sort, view_topn}
 use Rattle.tree_evaluator.proofs.EvalLemmas.{filter_answer, project_answer}
-use Rattle.tree_evaluator.proofs.SortLemmas.{sort_column, topn_column}
+use Rattle.tree_evaluator.proofs.SortLemmas.{gave_column}
 use Rattle.tree_evaluator.proofs.eval.+evaluate_node.Goals as goal
 
 pub returns-in_ok-rows-in-Filter : goal.returns-in_ok-rows-in-Filter
@@ -30,13 +31,13 @@ sort_rows-requires t c =
     let view : tree_view c.args.tree.now ≡ sort c.in-Sort.id c.in-Sort.keys (tree_view c.deref-in-Sort.result.now) =
     ap tree_view c.in-Sort.is ∙ view_sort c.in-Sort.id c.in-Sort.keys c.in-Sort.input
     ∙ ap (λ (i : Tree). sort c.in-Sort.id c.in-Sort.keys (tree_view i)) (sym c.deref-in-Sort.ensures) in
-    sort_column (tree_view c.args.tree.now) c.in-Sort.id c.in-Sort.keys (tree_view c.deref-in-Sort.result.now) (map rows_of c.args.tables.now)
-    c.in_ok-rows-in-Sort.rows.types view c.requires c.in_ok-rows-in-Sort.ensures.types
+    let fit : FitsTables (tree_view c.deref-in-Sort.result.now) (map rows_of c.args.tables.now) = subst (λ (f : TreeForm). FitsTables f (map rows_of c.args.tables.now)) view c.requires in
+    gave_column (tree_view c.deref-in-Sort.result.now) (map rows_of c.args.tables.now) c.in_ok-rows-in-Sort.rows.types fit c.in_ok-rows-in-Sort.ensures.types
 
 pub sort_rows-requires-in-TopN : goal.sort_rows-requires-in-TopN
 sort_rows-requires-in-TopN t c =
     let view : tree_view c.args.tree.now ≡ topn c.in-TopN.id c.in-TopN.count c.in-TopN.keys (tree_view c.deref-in-TopN.result.now) =
     ap tree_view c.in-TopN.is ∙ view_topn c.in-TopN.id c.in-TopN.count c.in-TopN.keys c.in-TopN.input
     ∙ ap (λ (i : Tree). topn c.in-TopN.id c.in-TopN.count c.in-TopN.keys (tree_view i)) (sym c.deref-in-TopN.ensures) in
-    topn_column (tree_view c.args.tree.now) c.in-TopN.id c.in-TopN.count c.in-TopN.keys (tree_view c.deref-in-TopN.result.now) (map rows_of c.args.tables.now)
-    c.in_ok-rows-in-TopN.rows.types view c.requires c.in_ok-rows-in-TopN.ensures.types
+    let fit : FitsTables (tree_view c.deref-in-TopN.result.now) (map rows_of c.args.tables.now) = subst (λ (f : TreeForm). FitsTables f (map rows_of c.args.tables.now)) view c.requires in
+    gave_column (tree_view c.deref-in-TopN.result.now) (map rows_of c.args.tables.now) c.in_ok-rows-in-TopN.rows.types fit c.in_ok-rows-in-TopN.ensures.types

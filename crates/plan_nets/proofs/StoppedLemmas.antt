@@ -1,24 +1,22 @@
 -- What the failure of a driver says of a run that it stopped.
-use Rattle.std.proofs.Common.{◌≡◌, ◌⊎◌, inl, inr, ℕ, ◌<◌, List, [], ◌∷◌, ◌++◌, Option, Some, None, Bool, true, false, map, refl, ap, sym, subst, append-nil, arith}
+use Rattle.std.proofs.Common.{◌≡◌, inl, inr, ℕ, List, [], ◌∷◌, Option, Some, None, Bool, true, false, map, refl, ap, sym, subst, append-nil, arith}
 use Rattle.sql_values.specs.declared.fail.Fail.{Fail}
 use Rattle.operator_core.specs.Rows.{Row}
-use Rattle.bag_laws.specs.Gather.{gather}
 use Rattle.bag_laws.specs.Laws.{TaskRows}
-use Rattle.bag_laws.specs.Weights.{SameWeights}
 use Rattle.relations.specs.Groups.{groups_of}
 use Rattle.plan_trees.specs.Judges.{filter_judge, project_judge}
 use Rattle.plan_trees.specs.Stopped.{MayFail}
 use Rattle.plan_trees.specs.TreeTypes.{types_of}
 use Rattle.plan_trees.specs.Widths.{FitsWidths}
 use Rattle.plan_runs.specs.Faults.{Failed, FailedOver, FailsOnGroupOf, FailsOnOneOf}
-use Rattle.plan_runs.specs.Nets.{Lanes, Stage, of_tasks}
+use Rattle.plan_runs.specs.Nets.{Lanes, Stage}
 use Rattle.plan_runs.specs.RunPlans.{RunPlan, tree_of_run, scan, values, remote, filter, project, join, aggregate, aggregate_parts, sort, topn, topn_parts, limit, limit_parts, union}
 use Rattle.plan_runs.specs.Spreads.{Tables}
-use Rattle.plan_runs.specs.Stops.{AreNoted, AreOpen, CanGoOn, Flags, Hop, MayCome, Notes, StoppedPipe, Stops}
+use Rattle.plan_runs.specs.Stops.{AreNoted, AreOpen, CanGoOn, Flags, Hop, Notes, StoppedPipe, Stops}
 use Rattle.plan_runs.proofs.FailedLemmas.{failed}
 use Rattle.stage_meanings.specs.Pipelines.{stages_of}
 use Rattle.plan_nets.specs.Trees.{AreBuilds, IsInOneTask, IsSideOf, stages_over}
-use Rattle.plan_nets.specs.Stopped.{AgreeWith, FailsAt, FailsOver, IsLeftOf, IsOpen, Standing, StandsAt}
+use Rattle.plan_nets.specs.Stopped.{AgreeWith, FailsAt, FailsOver, IsLeftOf, IsOpen, StandsAt}
 use Rattle.plan_nets.proofs.TreeLemmas.{alone, are_for, flag, in_task, placed}
 
 -- what a driver's notes know, in each task
@@ -47,7 +45,7 @@ module _ (tables : Tables) where
   builds_for (project id columns input) notes builds took ended stands agrees = builds_for input notes builds took ended stands agrees
   builds_for (join id kind on left right) [] builds took ended stands agrees = absurd stands
   builds_for (join id kind on left right) (noted ∷ notes) [] took ended stands agrees = absurd agrees
-  builds_for (join id kind on left right) (noted ∷ notes) (built ∷ builds) took ended (side, below, opens, known, rest) agrees = 
+  builds_for (join id kind on left right) (noted ∷ notes) (built ∷ builds) took ended (side, below, opens, known, rest) agrees =
       builds_for left notes builds took ended rest (agree_rest noted notes built builds agrees)
   builds_for (aggregate id keys calls input) notes builds took ended stands agrees = builds_for input notes builds took ended stands agrees
   builds_for (aggregate_parts id source output tasks keys calls input) notes builds took ended stands agrees = absurd stands
@@ -80,12 +78,12 @@ module _ (tables : Tables) where
   stops (project id columns input) one notes took ended stands = stops input one notes took ended stands
   stops (join id kind on left right) one [] took ended stands = absurd stands
   stops (join id kind on left right) one (noted ∷ notes) took ended (side, below, opens, known, rest) = (
-      record { drivers = 1; notes = notes_in side.notes; took = alone side.took; gave = alone side.gave; ended = flag side.ended; done = flag side.done },
-      stops right one.1 side.notes side.took side.ended below,
-      opened right one.1 side.notes side.took side.gave side.ended side.done below opens,
-      λ k d lt less built is. let n = known built is in ((λ e among. n.0), n.1),
-      stops left one.0 notes took ended rest,
-    )
+    record { drivers = 1; notes = notes_in side.notes; took = alone side.took; gave = alone side.gave; ended = flag side.ended; done = flag side.done },
+    stops right one.1 side.notes side.took side.ended below,
+    opened right one.1 side.notes side.took side.gave side.ended side.done below opens,
+    λ k d lt less built is. let n = known built is in ((λ e among. n.0), n.1),
+    stops left one.0 notes took ended rest,
+  )
   stops (aggregate id keys calls input) one notes took ended stands = (refl, stops input one notes took ended stands)
   stops (aggregate_parts id source output tasks keys calls input) one notes took ended stands = absurd one
   stops (sort id keys input) one notes took ended stands = (refl, stops input one notes took ended stands)
@@ -168,9 +166,9 @@ module _ (tables : Tables) where
     side_failed side (remote id output tasks input) one is notes took ended f = absurd one
     side_failed side (filter id predicate input) one is notes took ended f = inr (side_failed side input one is notes took ended f)
     side_failed side (project id columns input) one is notes took ended f = inr (side_failed side input one is notes took ended f)
-    side_failed side (join id how on left right) one (inl same) notes took ended f = 
+    side_failed side (join id how on left right) one (inl same) notes took ended f =
         inr (pipe notes took ended, subst (λ (r : RunPlan). Failed tables 1 1 r notes took ended node kind) same f)
-    side_failed side (join id how on left right) one (inr (inl is)) notes took ended f = 
+    side_failed side (join id how on left right) one (inr (inl is)) notes took ended f =
         inr (pipe (no_notes right) (alone []) (flag false), side_failed side right one.1 is notes took ended f)
     side_failed side (join id how on left right) one (inr (inr is)) notes took ended f = inl (side_failed side left one.0 is notes took ended f)
     side_failed side (aggregate id keys calls input) one is notes took ended f = inr (side_failed side input one is notes took ended f)

@@ -1,5 +1,5 @@
 -- The pipelines of a plan in one task, as those of tasks and drivers that are numbered.
-use Rattle.std.proofs.Common.{◌≡◌, ◌⊎◌, inl, inr, ℕ, List, [], ◌∷◌, ◌++◌, Option, Some, None, Bool, map, refl, ap, sym, subst}
+use Rattle.std.proofs.Common.{◌≡◌, ℕ, List, [], ◌∷◌, ◌++◌, Bool, map, refl, ap, sym, subst}
 use Rattle.operator_core.specs.Rows.{Row}
 use Rattle.bag_laws.specs.Laws.{TaskRows}
 use Rattle.bag_laws.proofs.BagLemmas.{same-refl}

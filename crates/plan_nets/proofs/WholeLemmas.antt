@@ -1,7 +1,6 @@
 -- What the drivers of a run that is over give together.
-use Rattle.std.proofs.Common.{◌≡◌, ℕ, ◌<◌, List, [], ◌∷◌, refl, arith}
+use Rattle.std.proofs.Common.{List, [], ◌∷◌, refl, arith}
 use Rattle.operator_core.specs.Rows.{Row}
-use Rattle.bag_laws.specs.Laws.{TaskRows}
 use Rattle.bag_laws.specs.Weights.{SameWeights}
 use Rattle.plan_trees.specs.Allowed.{Gives, Mode}
 use Rattle.plan_trees.specs.Widths.{FitsWidths}
@@ -47,12 +46,12 @@ module _ (mode : Mode) (tables : Tables) where
   below (project id columns input) one builds sides took same = below input one builds sides took same
   below (join id kind on left right) one [] sides took same = absurd sides
   below (join id kind on left right) one (built ∷ builds) (side, taken, below_right, chain, gave, rest) took same = (
-      record { drivers = 1; builds = in_tasks side.builds; took = alone side.took; gave = alone side.gave },
-      below right one.1 side.builds below_right side.took taken,
-      went right one.1 side.builds (are_builds mode tables right side.builds below_right) side.took side.gave chain,
-      λ k lt. gave,
-      below left one.0 builds rest took same,
-    )
+    record { drivers = 1; builds = in_tasks side.builds; took = alone side.took; gave = alone side.gave },
+    below right one.1 side.builds below_right side.took taken,
+    went right one.1 side.builds (are_builds mode tables right side.builds below_right) side.took side.gave chain,
+    λ k lt. gave,
+    below left one.0 builds rest took same,
+  )
   below (aggregate id keys calls input) one builds sides took same = (refl, below input one builds sides took same)
   below (aggregate_parts id source output tasks keys calls input) one builds sides took same = absurd one
   below (sort id keys input) one builds sides took same = (refl, below input one builds sides took same)

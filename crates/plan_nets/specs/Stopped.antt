@@ -49,7 +49,7 @@ StandsAt tables (remote id output tasks input) notes took ended = ⊥
 StandsAt tables (filter id predicate input) notes took ended = StandsAt tables input notes took ended
 StandsAt tables (project id columns input) notes took ended = StandsAt tables input notes took ended
 StandsAt tables (join id kind on left right) [] took ended = ⊥
-StandsAt tables (join id kind on left right) (noted ∷ notes) took ended = 
+StandsAt tables (join id kind on left right) (noted ∷ notes) took ended =
     (side : Standing) × StandsAt tables right side.notes side.took side.ended
     × IsOpen right side.notes side.took side.gave side.ended side.done
     × ((built : List Row) → noted ≡ Some built → (side.done ≡ true) × SameWeights side.gave built)

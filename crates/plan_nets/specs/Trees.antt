@@ -1,6 +1,6 @@
 -- The pipelines of a plan of one fragment in one task, with one driver each: that of the root, and one for the
 -- right side of each join. A pipeline goes along inputs and left sides.
-use Rattle.std.specs.Prelude.{◌≡◌, ◌⊎◌, ℕ, List, [], ◌∷◌, ◌++◌}
+use Rattle.std.specs.Prelude.{◌≡◌, ◌⊎◌, List, [], ◌∷◌, ◌++◌}
 use Rattle.operator_core.specs.Rows.{Row}
 use Rattle.plan_trees.specs.Allowed.{scanned, width_of}
 use Rattle.plan_trees.specs.TreeTypes.{types_of}

@@ -1,5 +1,5 @@
 -- A run that is over: what each driver took and gave.
-use Rattle.std.specs.Prelude.{◌≡◌, List, [], ◌∷◌}
+use Rattle.std.specs.Prelude.{List, [], ◌∷◌}
 use Rattle.operator_core.specs.Rows.{Row}
 use Rattle.bag_laws.specs.Weights.{SameWeights}
 use Rattle.plan_trees.specs.Allowed.{Mode}
@@ -24,7 +24,7 @@ SidesGave mode tables (remote id output tasks input) builds = ⊥
 SidesGave mode tables (filter id predicate input) builds = SidesGave mode tables input builds
 SidesGave mode tables (project id columns input) builds = SidesGave mode tables input builds
 SidesGave mode tables (join id kind on left right) [] = ⊥
-SidesGave mode tables (join id kind on left right) (built ∷ builds) = 
+SidesGave mode tables (join id kind on left right) (built ∷ builds) =
     (side : Side) × SameWeights side.took (rows_of_source tables right) × SidesGave mode tables right side.builds
     × Chain mode (stages_of (stages_over right side.builds)) side.took side.gave × SameWeights side.gave built
     × SidesGave mode tables left builds

@@ -1,5 +1,5 @@
 -- What a run of a net says of its plan.
-use Rattle.std.proofs.Common.{Result, Ok, Err, IfOk, ◌≡◌, ◌<◌, inl, inr, ℕ, List, [], ◌∷◌, ◌++◌, true, Option, Some, None, length, map, refl, ap, sym, subst, ◌∙◌, arith}
+use Rattle.std.proofs.Common.{Result, Ok, Err, IfOk, ◌≡◌, ◌<◌, inl, inr, ℕ, List, [], ◌∷◌, ◌++◌, true, Option, None, length, map, refl, ap, sym, subst, ◌∙◌, arith}
 use Rattle.sql_values.specs.declared.fail.Fail.{Fail}
 use Rattle.sql_values.specs.Bags.{SameBag}
 use Rattle.std.specs.List.{range_with_len}
@@ -7,9 +7,8 @@ use Rattle.operator_core.specs.Rows.{Row}
 use Rattle.operator_core.specs.Calls.{IsLawful}
 use Rattle.operator_core.specs.Stages.{AllCameFrom, AreMadeOf, Chain}
 use Rattle.operator_core.proofs.MadeLemmas.{AllCameFrom-made}
-use Rattle.split_source.specs.Gathered.{AreDistinct, AreWhole, IsCount}
 use Rattle.split_source.specs.Scans.{ScanState, given}
-use Rattle.split_source.specs.Seats.{AllEnded, AreAll, AreAllOf, ClaimsId, SeatState, numbers_of}
+use Rattle.split_source.specs.Seats.{AreAllOf, ClaimsId, SeatState, numbers_of}
 use Rattle.split_source.specs.Splits.{split_count}
 use Rattle.sql_values.specs.Cells.{cut}
 use Rattle.bag_laws.specs.Weights.{SameWeights}

@@ -53,7 +53,10 @@ impl Pipeline {
                 below.with_sort(alloc, keys.as_slice(), page)
             }
             Node::TopN {
-                count, keys, input, ..
+                count,
+                keys,
+                input,
+                ..
             } => {
                 let below = Pipeline::of(alloc, input, page)?;
                 below.with_topn(alloc, *count, keys.as_slice(), page)

@@ -135,7 +135,8 @@ fn many_sorted(alloc: Global) -> Result<String, Fail> {
 #[test]
 fn many_rows_are_sorted_by_two_keys(rt: HostRuntime) -> Result<(), Fail> {
     let alloc = rt.alloc();
-    let root = "{'id':1,'op':'sort','keys':[{'column':1,'order':'DESC'},{'column':0,'order':'ASC'}],'input':SCAN}";
+    let root =
+        "{'id':1,'op':'sort','keys':[{'column':1,'order':'DESC'},{'column':0,'order':'ASC'}],'input':SCAN}";
     let plan = plan(alloc, true, root)?;
     let (table, sorted) = (many_rows(alloc)?, many_sorted(alloc)?);
     let words = "--plan p --page 700 --split 999 t=t";

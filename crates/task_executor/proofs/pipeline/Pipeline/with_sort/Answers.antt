@@ -1,4 +1,4 @@
-use Rattle.std.proofs.Common.{◌∷◌, [], ◌∙◌, List, ap, subst}
+use Rattle.std.proofs.Common.{◌∷◌, [], List, ap, subst}
 use Rattle.sql_values.specs.declared.order.KeySpec.{KeySpec}
 use Rattle.driver_loop.specs.contracts.stage.StageOperator.TheImpl.{ghosts}
 use Rattle.driver_loop.specs.declared.stage.Stage.TheVariants.{Sort}

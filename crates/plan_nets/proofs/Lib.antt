@@ -1,3 +1,5 @@
 pub mod TreeLemmas
 pub mod WholeLemmas
 pub mod StoppedLemmas
+pub mod SnocLemmas
+pub mod OperatorLemmas

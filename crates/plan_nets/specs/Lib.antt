@@ -1,3 +1,4 @@
 pub mod Trees
 pub mod Wholes
 pub mod Stopped
+pub mod Operators

@@ -1,19 +1,25 @@
 //! What follows from the definitions.
-ghost use Rattle.std.specs.Prelude.{ℕ, List, Bool, Option};
+ghost use Rattle.std.specs.Prelude.{◌≡◌, ℕ, ◌<◌, List, Bool, true, Option, get_or, length, map, take};
 ghost use Rattle.sql_values.specs.declared.fail.Fail.{Fail};
+ghost use Rattle.sql_values.specs.declared.types.SqlType.{SqlType};
+ghost use Rattle.page_judges.specs.Typed.{AllFit};
 ghost use Rattle.bag_laws.specs.Weights.{SameWeights};
 ghost use Rattle.operator_core.specs.Rows.{Row};
-ghost use Rattle.plan_trees.specs.Allowed.{Gives, Mode};
+ghost use Rattle.operator_core.specs.Stages.{Chain, FailsAfter, Linked, ToldInTurn, last_finished};
+ghost use Rattle.plan_trees.specs.Allowed.{Gives, Mode, strict};
 ghost use Rattle.plan_trees.specs.Stopped.{MayFail};
 ghost use Rattle.plan_trees.specs.Widths.{FitsWidths};
-ghost use Rattle.plan_runs.specs.Nets.{Chain};
+ghost use Rattle.plan_runs.specs.Nets.{Chain as StageChain};
 ghost use Rattle.plan_runs.specs.RunPlans.{RunPlan, tree_of_run};
 ghost use Rattle.stage_meanings.specs.Pipelines.{stages_of};
 ghost use Rattle.plan_nets.specs.Trees.{IsInOneTask, IsSideOf, rows_of_source, stages_over};
 ghost use Rattle.plan_nets.specs.Wholes.{SidesGave};
-ghost use Rattle.plan_nets.specs.Stopped.{FailsAt, StandsAt};
+ghost use Rattle.plan_nets.specs.Stopped.{FailsAt, IsOpen, StandsAt};
+ghost use Rattle.plan_nets.specs.Operators.{AreKnown, Operate, types_of_source};
 
+use operator_core::Operator;
 use sql_values::RowList;
+use std::marker::PhantomData;
 
 /// The law that where the drivers of the right sides gave what their stages make of all rows of their
 /// sources, and the driver of the root took all rows of its own, what its stages make of them is a list
@@ -22,7 +28,7 @@ pub fn nets_give(tables: &[RowList])
     ensures { (mode : Mode) (run : RunPlan) → IsInOneTask run → FitsWidths (tree_of_run run)
         → (builds : List (List Row)) → SidesGave mode tables.now run builds
         → (took gave : List Row) → SameWeights took (rows_of_source tables.now run)
-        → Chain mode (stages_of (stages_over run builds)) took gave
+        → StageChain mode (stages_of (stages_over run builds)) took gave
         → Gives mode (tree_of_run run) tables.now gave }
 {}
 
@@ -42,3 +48,39 @@ pub fn sides_fail(tables: &[RowList])
         → StandsAt tables.now side notes took ended → FailsAt side notes took ended node kind
         → MayFail (tree_of_run run) tables.now node kind }
 {}
+
+/// The law that a driver whose operators are the stages of a node's pipeline can go on wherever it
+/// stands, whatever comes and whatever its notes come to know.
+pub fn operators_go_on<O: Operator>(all: &[O])
+    ensures { (run : RunPlan) (notes : List (Option (List Row))) (given : List SqlType)
+        → Operate O.Operator run notes all.now given
+        → (ended : Bool) (took gave : List Row) → ToldInTurn O.Operator ended all.now
+        → Linked O.Operator all.now took gave → AllFit (types_of_source run) took
+        → IsOpen run notes took gave ended (last_finished O.Operator ended all.now) }
+{
+    operator_core::laws::laws::<O>(PhantomData);
+}
+
+/// The law that where nothing failed, and the notes know what the joins built, what the operators gave is
+/// what the stages make.
+pub fn operators_make<O: Operator>(all: &[O])
+    ensures { (run : RunPlan) (notes : List (Option (List Row))) (builds : List (List Row))
+        (given : List SqlType) → Operate O.Operator run notes all.now given → AreKnown notes builds
+        → (took gave : List Row) → AllFit (types_of_source run) took
+        → Chain O.Operator true (map O.Operator.as_made all.now) took gave
+        → StageChain strict (stages_of (stages_over run builds)) took gave }
+{
+    operator_core::laws::laws::<O>(PhantomData);
+}
+
+/// The law that where an operator failed, a stage of the pipeline fails so: never a probe.
+pub fn operators_fail<O: Operator>(all: &[O])
+    ensures { (node : ℕ) (kind : Fail) (run : RunPlan) (notes : List (Option (List Row)))
+        (given : List SqlType) → Operate O.Operator run notes all.now given
+        → (ended : Bool) (took : List Row) → AllFit (types_of_source run) took
+        → (i : ℕ) (s : O) → i < length all.now → s ≡ get_or all.now i s
+        → FailsAfter O.Operator (take i all.now) (O.Operator.as_made s) ended took node kind
+        → FailsAt run notes took ended node kind }
+{
+    operator_core::laws::laws::<O>(PhantomData);
+}

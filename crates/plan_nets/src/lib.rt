@@ -6,6 +6,7 @@
 //! - `specs/Trees.antt`: the pipelines, their sources, and their stages over what the joins built
 //! - `specs/Wholes.antt`: a run that is over (`SidesGave`)
 //! - `specs/Stopped.antt`: one that stands anywhere (`StandsAt`), and a stage that fails in it (`FailsAt`)
+//! - `specs/Operators.antt`: operators that are the stages of a pipeline, one for one (`Operate`)
 //!
 //! `laws` says what follows:
 //!
@@ -13,8 +14,10 @@
 //!   tree gives
 //! - `nets_fail`, `sides_fail`: where a stage fails in the pipeline of the root, or in that of a right side, its
 //!   node may fail so
+//! - `operators_go_on`, `operators_make`, `operators_fail`: the same premises in terms of any operators that are the
+//!   stages, as a driver knows of them
 #![tactic(auto)]
 
 mod laws;
 
-pub use laws::{nets_fail, nets_give, sides_fail};
+pub use laws::{nets_fail, nets_give, operators_fail, operators_go_on, operators_make, sides_fail};

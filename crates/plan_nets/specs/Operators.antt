@@ -1,0 +1,79 @@
+-- The operators of a driver, one for each stage of a node's pipeline.
+use Rattle.std.specs.Prelude.{◌≡◌, ℕ, List, [], ◌∷◌, ◌++◌, Option, Some, None, true}
+use Rattle.sql_values.specs.declared.fail.Fail.{Fail}
+use Rattle.sql_values.specs.declared.types.SqlType.{SqlType}
+use Rattle.operator_core.specs.declared.operator.Operator.{Ghosts}
+use Rattle.operator_core.specs.Rows.{Row}
+use Rattle.operator_core.specs.Stages.{MadeOf}
+use Rattle.plan_trees.specs.Allowed.{width_of}
+use Rattle.plan_trees.specs.TreeTypes.{types_of}
+use Rattle.plan_runs.specs.Nets as stage
+use Rattle.plan_runs.specs.RunPlans.{RunPlan, tree_of_run, scan, values, remote, filter, project, join, aggregate, aggregate_parts, sort, topn, topn_parts, limit, limit_parts, union}
+use Rattle.plan_runs.specs.Stops.{IsNoted}
+use Rattle.stage_meanings.specs.Meanings.{Means}
+use Rattle.stage_meanings.specs.Pipelines.{NodeStage, at_node}
+
+-- the types of the rows of the source of the node's pipeline
+abbrev pub types_of_source : RunPlan → List SqlType
+types_of_source (scan id table columns types) = types
+types_of_source (values id types rows) = types
+types_of_source (remote id output tasks input) = []
+types_of_source (filter id predicate input) = types_of_source input
+types_of_source (project id columns input) = types_of_source input
+types_of_source (join id kind on left right) = types_of_source left
+types_of_source (aggregate id keys calls input) = types_of_source input
+types_of_source (aggregate_parts id source output tasks keys calls input) = []
+types_of_source (sort id keys input) = types_of_source input
+types_of_source (topn id count keys input) = types_of_source input
+types_of_source (topn_parts id source output tasks count keys input) = []
+types_of_source (limit id count input) = types_of_source input
+types_of_source (limit_parts id source output tasks count input) = []
+types_of_source (union id left right) = []
+
+-- the last operator is so over rows of some types, and those before it are for the input
+pub record EndsIn {S : Type 0} (AreForInput : List S → List SqlType → Type 0) (IsLast : S → List SqlType → Type 0) (all : List S) : Type 0 where
+  pub before : List S
+  pub last : S
+  pub between : List SqlType
+  pub are : all ≡ before ++ last ∷ []
+  pub input : AreForInput before between
+  pub is : IsLast last between
+
+-- the operator looks rows up for a join, in what its note knows or may come to know, and never fails
+pub record LooksUp {S : Type 0} (g : Ghosts S) (s : S) (noted : Option (List Row)) (taken : List SqlType) (probe : List Row → NodeStage) (given : List SqlType) : Type 0 where
+  pub means : (built : List Row) → IsNoted noted built → (m : S) × MadeOf g s m × Means g m taken (probe built ∷ []) given
+  pub knows : (built : List Row) → noted ≡ Some built → g.knows s ≡ true
+  pub calm : (X : List Row) (node : ℕ) (kind : Fail) → g.may_still_fail (g.as_made s) X node kind → ⊥
+
+-- each operator is the stage of a node, from the source on
+abbrev pub Operate : {S : Type 0} → Ghosts S → RunPlan → List (Option (List Row)) → List S → List SqlType → Type 0
+Operate g (scan id table columns types) notes all given = (all ≡ []) × (types ≡ given)
+Operate g (values id types rows) notes all given = (all ≡ []) × (types ≡ given)
+Operate g (remote id output tasks input) notes all given = ⊥
+Operate g (filter id predicate input) notes all given =
+    EndsIn (Operate g input notes) (λ last between. Means g (g.as_made last) between (at_node id (stage.filter (types_of (tree_of_run input)) predicate) ∷ []) given) all
+Operate g (project id columns input) notes all given =
+    EndsIn (Operate g input notes) (λ last between. Means g (g.as_made last) between (at_node id (stage.project (types_of (tree_of_run input)) columns) ∷ []) given) all
+Operate g (join id kind on left right) [] all given = ⊥
+Operate g (join id kind on left right) (noted ∷ notes) all given =
+    EndsIn (Operate g left notes)
+    (λ last between. LooksUp g last noted between (λ built. at_node id (stage.probe kind on (width_of (tree_of_run left)) (width_of (tree_of_run right)) built)) given) all
+Operate g (aggregate id keys calls input) notes all given =
+    EndsIn (Operate g input notes) (λ last between. Means g (g.as_made last) between (at_node id (stage.grouping (types_of (tree_of_run input)) keys calls) ∷ []) given) all
+Operate g (aggregate_parts id source output tasks keys calls input) notes all given = ⊥
+Operate g (sort id keys input) notes all given =
+    EndsIn (Operate g input notes) (λ last between. Means g (g.as_made last) between (at_node id (stage.sort keys) ∷ []) given) all
+Operate g (topn id count keys input) notes all given =
+    EndsIn (Operate g input notes) (λ last between. Means g (g.as_made last) between (at_node id (stage.topn count keys) ∷ []) given) all
+Operate g (topn_parts id source output tasks count keys input) notes all given = ⊥
+Operate g (limit id count input) notes all given =
+    EndsIn (Operate g input notes) (λ last between. Means g (g.as_made last) between (at_node id (stage.limit count) ∷ []) given) all
+Operate g (limit_parts id source output tasks count input) notes all given = ⊥
+Operate g (union id left right) notes all given = ⊥
+
+-- the notes know all builds
+abbrev pub AreKnown : List (Option (List Row)) → List (List Row) → Type 0
+AreKnown [] builds = Unit {0}
+AreKnown (noted ∷ notes) [] = ⊥
+AreKnown (None ∷ notes) (built ∷ builds) = ⊥
+AreKnown (Some known ∷ notes) (built ∷ builds) = (built ≡ known) × AreKnown notes builds

@@ -7,11 +7,7 @@ use sql_values::{Block, ColumnRows, Memory};
 use std::alloc::Global;
 
 /// The rows of both, which have the same types. Where the first has none, nothing is copied.
-pub fn join_rows(
-    alloc: Global,
-    left: ColumnRows,
-    right: ColumnRows,
-) -> Result<ColumnRows, Memory>
+pub fn join_rows(alloc: Global, left: ColumnRows, right: ColumnRows) -> Result<ColumnRows, Memory>
     requires whole { (left.begun ≡ []) × (right.begun ≡ []) }
     requires types { left.types ≡ right.types }
     ensures { IfOk result

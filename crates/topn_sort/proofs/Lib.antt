@@ -1,4 +1,3 @@
-pub mod JoinLemmas
 pub mod PlaceLemmas
 pub mod TopLemmas
 pub mod BufferLemmas

@@ -6,14 +6,12 @@
 //! - `buffer`: `SortBuffer`, the rows of either, in typed columns. No row is moved while they are put in
 //!   order: their places are, and pages are gathered by these
 //! - `places`: places of rows by the order of keys
-//! - `joins`: columns behind columns
 //!
 //! `specs/Sorting.antt` says what the operators may give. NULL is last, ascending and descending, and rows
 //! that the keys do not tell apart stand in any order.
 #![tactic(auto)]
 
 mod buffer;
-mod joins;
 mod places;
 mod sort;
 mod topn;

@@ -1,7 +1,5 @@
-use Rattle.std.proofs.Common.{◌≡◌, List, [], take, ap, subst, ◌∙◌}
-use Rattle.columns.specs.Present.{gather}
+use Rattle.std.proofs.Common.{◌≡◌, List, ap, subst, ◌∙◌}
 use Rattle.sql_values.specs.declared.order.KeySpec.{KeySpec}
-use Rattle.relations.specs.Sorts.{IsSortOf}
 use Rattle.topn_sort.specs.Sorting.{AreTop, BufferState, IsCutTo}
 use Rattle.topn_sort.proofs.BufferLemmas.{kept-are, kept-cut, kept-fit}
 use Rattle.topn_sort.proofs.buffer.SortBuffer.cut.Goals as goal

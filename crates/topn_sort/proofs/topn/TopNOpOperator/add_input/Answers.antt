@@ -1,8 +1,8 @@
-use Rattle.std.proofs.Common.{◌≡◌, ◌<◌, List, [], ◌++◌, true, false, not, length, ap, append-nil, arith, inl, subst, sym, ◌∙◌}
+use Rattle.std.proofs.Common.{◌≡◌, ◌<◌, List, [], ◌++◌, true, false, not, ap, append-nil, arith, inl, subst, sym, ◌∙◌}
 use Rattle.std.proofs.lemmas.List.{nil_from_length}
 use Rattle.sql_values.specs.declared.value.Value.{Value}
 use Rattle.sql_values.specs.declared.order.KeySpec.{KeySpec}
-use Rattle.topn_sort.specs.Sorting.{AreCandidates, BufferState, IsCutTo, TopGives, TopState}
+use Rattle.topn_sort.specs.Sorting.{AreCandidates, BufferState, TopGives, TopState}
 use Rattle.topn_sort.proofs.BufferLemmas.{not_begun, still-top}
 use Rattle.topn_sort.proofs.TopLemmas.{top-none, top-took}
 use Rattle.topn_sort.proofs.topn.TopNOpOperator.add_input.Goals as goal

@@ -1,0 +1,52 @@
+ghost use Rattle.std.specs.Prelude.{◌≡◌, ◌++◌, [], map, take, IfOk, OnOk, OnErr};
+ghost use Rattle.sql_values.specs.Blocks.{with_cells};
+ghost use Rattle.sql_values.specs.ColumnRows.{AreFilled, kinds_of};
+ghost use Rattle.column_moves.specs.Joined.{joined};
+
+use sql_values::{Block, ColumnRows, Memory};
+use std::alloc::Global;
+
+/// The rows of both, which have the same types. Where the first has none, nothing is copied.
+pub fn join_rows(alloc: Global, left: ColumnRows, right: ColumnRows) -> Result<ColumnRows, Memory>
+    requires whole { (left.begun ≡ []) × (right.begun ≡ []) }
+    requires types { left.types ≡ right.types }
+    ensures { IfOk result
+        (λ r. r ≡ record { types = left.types; rows = left.rows ++ right.rows; begun = [] }) }
+{
+    if left.len() == 0 {
+        return Ok(right);
+    }
+    let types = Vec::from_slice(alloc, left.types())?;
+    let len = left.len();
+    let mut columns = left.into_columns();
+    append_each(&mut columns, len, &right.into_columns())?;
+    Ok(ColumnRows::of_columns(types, columns))
+}
+
+/// Appends cells to each of some columns of a length. Where memory does not suffice they stay as
+/// they are.
+pub fn append_each(columns: &mut Vec<Block>, len: usize, others: &[Block]) -> Result<(), Memory>
+    requires kinds { kinds_of columns.old.items ≡ kinds_of others.now }
+    requires level { AreFilled len 0 columns.old.items }
+    ensures ok { OnOk result (columns.new.items ≡ joined columns.old.items others.now) }
+    ensures err { OnErr result (columns.new.items ≡ columns.old.items) }
+{
+    for (place, other) in others.iter().enumerate() {
+        match columns[place].append(other) {
+            Ok(_) => {}
+            Err(error) => {
+                truncate_each(columns, len);
+                return Err(error);
+            }
+        }
+    }
+    Ok(())
+}
+
+fn truncate_each(columns: &mut Vec<Block>, len: usize)
+    ensures { columns.new.items ≡ map (λ c. with_cells c (take len c.cells)) columns.old.items }
+{
+    for column in columns.iter_mut() {
+        column.truncate(len);
+    }
+}

@@ -1,9 +1,0 @@
--- Columns behind columns.
-use Rattle.std.specs.Prelude.{List, [], ◌∷◌, ◌++◌}
-use Rattle.sql_values.specs.Blocks.{TypedCells, with_cells}
-
--- to each column the cells of the other one at its place
-abbrev pub joined : List TypedCells → List TypedCells → List TypedCells
-joined [] others = []
-joined (column ∷ columns) [] = column ∷ columns
-joined (column ∷ columns) (other ∷ others) = with_cells column (column.cells ++ other.cells) ∷ joined columns others

@@ -3,3 +3,4 @@ pub mod WholeLemmas
 pub mod StoppedLemmas
 pub mod SnocLemmas
 pub mod OperatorLemmas
+pub mod ProbeLemmas

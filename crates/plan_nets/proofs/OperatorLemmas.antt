@@ -1,4 +1,8 @@
 -- Operators that are the stages of a node's pipeline: how they go on, what they gave, and how they fail.
+use Rattle.std.specs.Prelude.{IsTrue}
+use Rattle.std.proofs.lemmas.List.Elements.{All-nil}
+use Rattle.sql_values.specs.ColumnRows.{fits_row}
+use Rattle.sql_values.specs.declared.value.Value.{Value}
 use Rattle.std.proofs.Common.{◌≡◌, ◌⊎◌, inl, inr, ℕ, ◌<◌, List, [], ◌∷◌, ◌++◌, Option, Some, None, Bool, true, length, get_or, map, take, refl, ap, sym, subst, ◌∙◌, arith, append-nil}
 use Rattle.sql_values.specs.declared.fail.Fail.{Fail}
 use Rattle.sql_values.specs.declared.types.SqlType.{SqlType}
@@ -23,11 +27,6 @@ use Rattle.plan_nets.specs.Stopped.{AgreeWith, FailsAt, FailsOver, IsOpen}
 use Rattle.plan_nets.specs.Operators.{AreKnown, EndsIn, LooksUp, Operate, types_of_source}
 use Rattle.plan_nets.proofs.SnocLemmas.{Chain-snoc, Linked-snoc, Place, Turns-snoc, last-snoc, last_or_before, only_one}
 
--- some build that a note agrees with
-some_built : (noted : Option (List Row)) → (built : List Row) × IsNoted noted built
-some_built None = ([], tt)
-some_built (Some known) = (known, same-refl known)
-
 -- the first build of those that agree
 first_agrees : (noted : Option (List Row)) (notes : List (Option (List Row))) (built : List Row) (builds : List (List Row)) → AgreeWith (noted ∷ notes) (built ∷ builds)
     → IsNoted noted built × AgreeWith notes builds
@@ -38,9 +37,6 @@ first_known : (noted : Option (List Row)) (notes : List (Option (List Row))) (bu
     → (noted ≡ Some built) × AreKnown notes builds
 first_known None notes built builds known = absurd known
 first_known (Some rows) notes built builds known = (ap (λ (r : List Row). Some r) (sym known.0), known.1)
-
-noted_is : (noted : Option (List Row)) (built : List Row) → noted ≡ Some built → IsNoted noted built
-noted_is noted built is = subst (λ (o : Option (List Row)). IsNoted o built) (sym is) (same-refl built)
 
 module _ {S : Type 0} (g : Ghosts S) (laws : IsLawful g) where
   -- one more operator behind others
@@ -102,6 +98,23 @@ module _ {S : Type 0} (g : Ghosts S) (laws : IsLawful g) where
   none_agree : (noted : Option (List Row)) (notes : List (Option (List Row))) → AgreeWith (noted ∷ notes) [] → ⊥
   none_agree noted notes agrees = agrees
 
+  -- the last operator looks rows up that the note agrees with
+  looks_up : (pipeline : List NodeStage) (noted : Option (List Row)) (probe : List Row → NodeStage) (last : S) (between given : List SqlType) → LooksUp g last noted between probe given
+      → (built took M gave : List Row) (ended told : Bool) → IsNoted noted built → (g.is_told last ≡ true → told ≡ true) → Steps g last M gave → AllFit between M
+      → CanGoOn (stages_of pipeline) took M ended told → CanGoOn (stages_of (pipeline ++ probe built ∷ [])) took gave ended (g.is_finished last)
+  looks_up pipeline (Some rows) probe last between given is built took M gave ended told same turn steps fit opens =
+      opens_behind pipeline (probe built) last (g.as_made last) between given (is.means rows built refl same) (inl refl) took M gave ended told turn steps fit opens
+  looks_up pipeline None probe last between given is built took M gave ended told any turn steps fit opens =
+      subst (λ (p : List Stage). CanGoOn p took gave ended (g.is_finished last)) (sym (stages-append pipeline (probe built ∷ [])))
+      (goes_on-append (stages_of pipeline) (stages_of (probe built ∷ [])) took M gave ended told (g.is_finished last) opens (is.goes_on refl built M gave told fit steps turn))
+
+  gave_fits : (noted : Option (List Row)) (probe : List Row → NodeStage) (last : S) (between given : List SqlType) → LooksUp g last noted between probe given
+      → (took M gave : List Row) (ended told : Bool) → (g.is_told last ≡ true → told ≡ true) → Steps g last M gave → AllFit between M → AllFit given gave
+  gave_fits (Some rows) probe last between given is took M gave ended told turn steps fit =
+      (one_more [] (probe rows) last (g.as_made last) between given (is.means rows rows refl (same-refl rows)) (inl refl) took M gave ended told turn steps fit).1
+  gave_fits None probe last between given is took M gave ended told turn steps fit =
+      subst (AllFit given) (sym (is.idle refl M gave steps)) (All-nil (λ (row : List Value). IsTrue (fits_row given row)))
+
   opens_join : (left run : RunPlan) (probe : List Row → NodeStage) (noted : Option (List Row)) (notes : List (Option (List Row))) (all : List S) (given : List SqlType)
       → ((built : List Row) (builds : List (List Row)) → stages_over run (built ∷ builds) ≡ stages_over left builds ++ probe built ∷ [])
       → (o : EndsIn (Operate g left notes) (λ last between. LooksUp g last noted between probe given) all)
@@ -110,10 +123,9 @@ module _ {S : Type 0} (g : Ghosts S) (laws : IsLawful g) where
   opens_join left run probe noted notes all given over o ended took gave b stood [] agrees = absurd (none_agree noted notes agrees)
   opens_join left run probe noted notes all given over o ended took gave b stood (built ∷ builds) agrees =
       let first = first_agrees noted notes built builds agrees in
-      let m = o.is.means built first.0 in
       subst (λ (p : List NodeStage). CanGoOn (stages_of p) took gave ended (last_finished g ended all)) (sym (over built builds))
       (subst (CanGoOn (stages_of (stages_over left builds ++ probe built ∷ [])) took gave ended) (sym (done_is all o.before o.last ended o.are))
-      (opens_behind (stages_over left builds) (probe built) o.last m.0 o.between given m.2 m.1 took b.came gave ended (last_finished g ended o.before) b.turn b.steps stood.1
+      (looks_up (stages_over left builds) noted probe o.last o.between given o.is built took b.came gave ended (last_finished g ended o.before) first.0 b.turn b.steps stood.1
       (stood.0 builds first.1)))
 
   pub stood_at : (run : RunPlan) (notes : List (Option (List Row))) (all : List S) (given : List SqlType) → Operate g run notes all given
@@ -135,11 +147,9 @@ module _ {S : Type 0} (g : Ghosts S) (laws : IsLawful g) where
   stood_at (join id kind on left right) (noted ∷ notes) all given o ended took gave turns linked fit =
       let probe : List Row → NodeStage = λ (built : List Row). at_node id (stage.probe kind on (width_of (tree_of_run left)) (width_of (tree_of_run right)) built) in
       let b = came_before all o.before o.last ended took gave o.are turns linked in
-      let stood = stood_at left notes o.before o.between o.input ended took b.came b.told b.linked fit in
-      let some = some_built noted in
-      let any = o.is.means some.0 some.1 in (
+      let stood = stood_at left notes o.before o.between o.input ended took b.came b.told b.linked fit in (
         opens_join left (join id kind on left right) probe noted notes all given (λ built builds. refl) o ended took gave b stood,
-        (one_more (stages_over left []) (probe some.0) o.last any.0 o.between given any.2 any.1 took b.came gave ended (last_finished g ended o.before) b.turn b.steps stood.1).1,
+        gave_fits noted probe o.last o.between given o.is took b.came gave ended (last_finished g ended o.before) b.turn b.steps stood.1,
       )
   stood_at (aggregate id keys calls input) notes all given o ended took gave turns linked fit =
       let b = came_before all o.before o.last ended took gave o.are turns linked in
@@ -182,10 +192,6 @@ module _ {S : Type 0} (g : Ghosts S) (laws : IsLawful g) where
         one.1,
       )
 
-  known_made : (last m : S) → g.knows last ≡ true → MadeOf g last m → m ≡ g.as_made last
-  known_made last m knows (inl is) = is
-  known_made last m knows (inr learned) = let unknown = learned.0 in cc
-
   chain_before : (all before : List S) (last : S) (took gave : List Row) → all ≡ before ++ last ∷ [] → Chain g true (map g.as_made all) took gave
       → (M : List Row) × Chain g true (map g.as_made before) took M × g.may_give (g.as_made last) M gave × NothingFails g (g.as_made last) M
   chain_before all before last took gave are chain =
@@ -208,12 +214,10 @@ module _ {S : Type 0} (g : Ghosts S) (laws : IsLawful g) where
   made_all (join id kind on left right) (noted ∷ notes) [] all given o known took gave fit chain = absurd known
   made_all (join id kind on left right) (noted ∷ notes) (built ∷ builds) all given o known took gave fit chain =
       let first = first_known noted notes built builds known in
-      let m = o.is.means built (noted_is noted built first.0) in
-      let same = known_made o.last m.0 (o.is.knows built first.0) m.1 in
       let at = at_node id (stage.probe kind on (width_of (tree_of_run left)) (width_of (tree_of_run right)) built) in
       let c = chain_before all o.before o.last took gave o.are chain in
       made_behind (join id kind on left right) left builds (built ∷ builds) at (g.as_made o.last) o.between given took c.0 gave refl
-      (subst (λ (x : S). Means g x o.between (at ∷ []) given) same m.2) c.2 c.3
+      (o.is.means built built first.0 (same-refl built)) c.2 c.3
       (made_all left notes builds o.before o.between o.input first.1 took c.0 fit c.1)
   made_all (aggregate id keys calls input) notes builds all given o known took gave fit chain =
       let c = chain_before all o.before o.last took gave o.are chain in

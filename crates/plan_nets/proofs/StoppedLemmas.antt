@@ -17,7 +17,7 @@ use Rattle.plan_runs.proofs.FailedLemmas.{failed}
 use Rattle.stage_meanings.specs.Pipelines.{stages_of}
 use Rattle.plan_nets.specs.Trees.{AreBuilds, IsInOneTask, IsSideOf, stages_over}
 use Rattle.plan_nets.specs.Stopped.{AgreeWith, FailsAt, FailsOver, IsLeftOf, IsOpen, StandsAt}
-use Rattle.plan_nets.proofs.TreeLemmas.{alone, are_for, flag, in_task, placed}
+use Rattle.plan_nets.proofs.TreeLemmas.{alone, are_for, flag, in_task, placed, side_in_one_task}
 
 -- what a driver's notes know, in each task
 abbrev notes_in : List (Option (List Row)) → Notes
@@ -180,9 +180,9 @@ module _ (tables : Tables) where
     side_failed side (limit_parts id source output tasks count input) one is notes took ended f = absurd one
     side_failed side (union id left right) one is notes took ended f = absurd one
 
-    pub side_fails : (side run : RunPlan) → IsInOneTask run → IsInOneTask side → FitsWidths (tree_of_run run) → IsSideOf side run
+    pub side_fails : (side run : RunPlan) → IsInOneTask run → FitsWidths (tree_of_run run) → IsSideOf side run
         → (notes : List (Option (List Row))) (took : List Row) (ended : Bool) → StandsAt tables side notes took ended → FailsAt side notes took ended node kind
         → MayFail (tree_of_run run) tables node kind
-    side_fails side run one local fits is notes took ended stands f =
+    side_fails side run one fits is notes took ended stands f =
         failed tables node kind (omega arith) fits (placed run one) 1 (no_notes run) (alone []) (flag false)
-        (side_failed side run one is (notes_in notes) (alone took) (flag ended) (fails_at side local notes took ended stands f))
+        (side_failed side run one is (notes_in notes) (alone took) (flag ended) (fails_at side (side_in_one_task side run one is) notes took ended stands f))

@@ -1,5 +1,5 @@
 -- The pipelines of a plan in one task, as those of tasks and drivers that are numbered.
-use Rattle.std.proofs.Common.{◌≡◌, ℕ, List, [], ◌∷◌, ◌++◌, Bool, map, refl, ap, sym, subst}
+use Rattle.std.proofs.Common.{◌≡◌, inl, inr, ℕ, List, [], ◌∷◌, ◌++◌, Bool, map, refl, ap, sym, subst}
 use Rattle.operator_core.specs.Rows.{Row}
 use Rattle.bag_laws.specs.Laws.{TaskRows}
 use Rattle.bag_laws.proofs.BagLemmas.{same-refl}
@@ -13,7 +13,7 @@ use Rattle.plan_runs.specs.Spreads.{whole}
 use Rattle.plan_runs.specs.Stops.{Flags}
 use Rattle.stage_meanings.specs.Pipelines.{NodeStage, at_node, stages_of}
 use Rattle.stage_meanings.proofs.MeaningLemmas.{stages-append}
-use Rattle.plan_nets.specs.Trees.{AreBuilds, IsInOneTask, stages_over}
+use Rattle.plan_nets.specs.Trees.{AreBuilds, IsInOneTask, IsSideOf, stages_over}
 
 pub placed : (run : RunPlan) → IsInOneTask run → Placed 1 run whole
 placed (scan id table columns types) one = scan_whole
@@ -84,3 +84,22 @@ are_for_builds run one builds k are =
     let same = in_tasks-task k builds in
     subst (λ (bs : List (List Row)). AreFor run (in_tasks builds) k (stages_of (stages_over run bs))) same
     (are_for run one (in_tasks builds) k (subst (AreBuilds run) (sym same) are))
+
+-- a right side is in the one task as well
+pub side_in_one_task : (side run : RunPlan) → IsInOneTask run → IsSideOf side run → IsInOneTask side
+side_in_one_task side (scan id table columns types) one is = absurd is
+side_in_one_task side (values id types rows) one is = absurd is
+side_in_one_task side (remote id output tasks input) one is = absurd is
+side_in_one_task side (filter id predicate input) one is = side_in_one_task side input one is
+side_in_one_task side (project id columns input) one is = side_in_one_task side input one is
+side_in_one_task side (join id kind on left right) one (inl same) = subst IsInOneTask (sym same) one.1
+side_in_one_task side (join id kind on left right) one (inr (inl is)) = side_in_one_task side right one.1 is
+side_in_one_task side (join id kind on left right) one (inr (inr is)) = side_in_one_task side left one.0 is
+side_in_one_task side (aggregate id keys calls input) one is = side_in_one_task side input one is
+side_in_one_task side (aggregate_parts id source output tasks keys calls input) one is = absurd is
+side_in_one_task side (sort id keys input) one is = side_in_one_task side input one is
+side_in_one_task side (topn id count keys input) one is = side_in_one_task side input one is
+side_in_one_task side (topn_parts id source output tasks count keys input) one is = absurd is
+side_in_one_task side (limit id count input) one is = side_in_one_task side input one is
+side_in_one_task side (limit_parts id source output tasks count input) one is = absurd is
+side_in_one_task side (union id left right) one is = absurd is

@@ -1,17 +1,21 @@
 -- The operators of a driver, one for each stage of a node's pipeline.
-use Rattle.std.specs.Prelude.{◌≡◌, ℕ, List, [], ◌∷◌, ◌++◌, Option, Some, None, true}
+use Rattle.std.specs.Prelude.{◌≡◌, ℕ, Bool, List, [], ◌∷◌, ◌++◌, Option, Some, None, false, length, true}
 use Rattle.sql_values.specs.declared.fail.Fail.{Fail}
 use Rattle.sql_values.specs.declared.types.SqlType.{SqlType}
+use Rattle.sql_values.specs.declared.relational.JoinKind.{JoinKind}
+use Rattle.relations.specs.Joins.{join_of}
+use Rattle.page_judges.specs.Typed.{AllFit}
 use Rattle.operator_core.specs.declared.operator.Operator.{Ghosts}
 use Rattle.operator_core.specs.Rows.{Row}
-use Rattle.operator_core.specs.Stages.{MadeOf}
+use Rattle.operator_core.specs.Stages.{Steps}
+use Rattle.bag_laws.specs.Weights.{SameWeights}
 use Rattle.plan_trees.specs.Allowed.{width_of}
 use Rattle.plan_trees.specs.TreeTypes.{types_of}
 use Rattle.plan_runs.specs.Nets as stage
 use Rattle.plan_runs.specs.RunPlans.{RunPlan, tree_of_run, scan, values, remote, filter, project, join, aggregate, aggregate_parts, sort, topn, topn_parts, limit, limit_parts, union}
-use Rattle.plan_runs.specs.Stops.{IsNoted}
+use Rattle.plan_runs.specs.Stops.{CanGoOn}
 use Rattle.stage_meanings.specs.Meanings.{Means}
-use Rattle.stage_meanings.specs.Pipelines.{NodeStage, at_node}
+use Rattle.stage_meanings.specs.Pipelines.{NodeStage, at_node, stages_of}
 
 -- the types of the rows of the source of the node's pipeline
 abbrev pub types_of_source : RunPlan → List SqlType
@@ -39,10 +43,22 @@ pub record EndsIn {S : Type 0} (AreForInput : List S → List SqlType → Type 0
   pub input : AreForInput before between
   pub is : IsLast last between
 
--- the operator looks rows up for a join, in what its note knows or may come to know, and never fails
+-- the operator looks rows up for a join. Where its note knows them it is the probe of them, in any order; where it
+-- does not it gave nothing, and can go on as the probe of whatever they are. It never fails
 pub record LooksUp {S : Type 0} (g : Ghosts S) (s : S) (noted : Option (List Row)) (taken : List SqlType) (probe : List Row → NodeStage) (given : List SqlType) : Type 0 where
-  pub means : (built : List Row) → IsNoted noted built → (m : S) × MadeOf g s m × Means g m taken (probe built ∷ []) given
-  pub knows : (built : List Row) → noted ≡ Some built → g.knows s ≡ true
+  pub means : (rows built : List Row) → noted ≡ Some rows → SameWeights built rows → Means g (g.as_made s) taken (probe built ∷ []) given
+  pub goes_on : noted ≡ None → (built X Y : List Row) (ended : Bool) → AllFit taken X → Steps g s X Y → (g.is_told s ≡ true → ended ≡ true)
+      → CanGoOn (stages_of (probe built ∷ [])) X Y ended (g.is_finished s)
+  pub idle : noted ≡ None → (X Y : List Row) → Steps g s X Y → Y ≡ []
+  pub calm : (X : List Row) (node : ℕ) (kind : Fail) → g.may_still_fail (g.as_made s) X node kind → ⊥
+
+-- the operator waits for a note. Where that knows rows, which fit some types, it gives their join with the rows that
+-- come; it never fails
+pub record Probes {S : Type 0} (g : Ghosts S) (s : S) (noted : Option (List Row)) (kind : JoinKind) (on : List (ℕ × ℕ)) (left : ℕ) (right : List SqlType) : Type 0 where
+  pub waits : g.waits s ≡ true
+  pub unknown : noted ≡ None → g.knows s ≡ false
+  pub gives : (rows : List Row) → noted ≡ Some rows → (X Y : List Row) → g.may_give (g.as_made s) X Y → Y ≡ join_of kind on left (length right) X rows
+  pub fits : (rows : List Row) → noted ≡ Some rows → AllFit right rows
   pub calm : (X : List Row) (node : ℕ) (kind : Fail) → g.may_still_fail (g.as_made s) X node kind → ⊥
 
 -- each operator is the stage of a node, from the source on

@@ -1,6 +1,7 @@
 //! What follows from the definitions.
-ghost use Rattle.std.specs.Prelude.{◌≡◌, ℕ, ◌<◌, List, Bool, true, Option, get_or, length, map, take};
+ghost use Rattle.std.specs.Prelude.{◌≡◌, ℕ, ◌<◌, List, ◌++◌, Bool, true, Option, get_or, length, map, take};
 ghost use Rattle.sql_values.specs.declared.fail.Fail.{Fail};
+ghost use Rattle.sql_values.specs.declared.relational.JoinKind.{JoinKind};
 ghost use Rattle.sql_values.specs.declared.types.SqlType.{SqlType};
 ghost use Rattle.page_judges.specs.Typed.{AllFit};
 ghost use Rattle.bag_laws.specs.Weights.{SameWeights};
@@ -9,13 +10,13 @@ ghost use Rattle.operator_core.specs.Stages.{Chain, FailsAfter, Linked, ToldInTu
 ghost use Rattle.plan_trees.specs.Allowed.{Gives, Mode, strict};
 ghost use Rattle.plan_trees.specs.Stopped.{MayFail};
 ghost use Rattle.plan_trees.specs.Widths.{FitsWidths};
-ghost use Rattle.plan_runs.specs.Nets.{Chain as StageChain};
+ghost use Rattle.plan_runs.specs.Nets.{Chain as StageChain, probe};
 ghost use Rattle.plan_runs.specs.RunPlans.{RunPlan, tree_of_run};
-ghost use Rattle.stage_meanings.specs.Pipelines.{stages_of};
+ghost use Rattle.stage_meanings.specs.Pipelines.{at_node, stages_of};
 ghost use Rattle.plan_nets.specs.Trees.{IsInOneTask, IsSideOf, rows_of_source, stages_over};
 ghost use Rattle.plan_nets.specs.Wholes.{SidesGave};
 ghost use Rattle.plan_nets.specs.Stopped.{FailsAt, IsOpen, StandsAt};
-ghost use Rattle.plan_nets.specs.Operators.{AreKnown, Operate, types_of_source};
+ghost use Rattle.plan_nets.specs.Operators.{AreKnown, LooksUp, Operate, Probes, types_of_source};
 
 use operator_core::Operator;
 use sql_values::RowList;
@@ -42,7 +43,7 @@ pub fn nets_fail(tables: &[RowList])
 
 /// The law that where a stage in the pipeline of a right side fails, its node may fail so.
 pub fn sides_fail(tables: &[RowList])
-    ensures { (node : ℕ) (kind : Fail) (side run : RunPlan) → IsInOneTask run → IsInOneTask side
+    ensures { (node : ℕ) (kind : Fail) (side run : RunPlan) → IsInOneTask run
         → FitsWidths (tree_of_run run) → IsSideOf side run
         → (notes : List (Option (List Row))) (took : List Row) (ended : Bool)
         → StandsAt tables.now side notes took ended → FailsAt side notes took ended node kind
@@ -81,6 +82,17 @@ pub fn operators_fail<O: Operator>(all: &[O])
         → (i : ℕ) (s : O) → i < length all.now → s ≡ get_or all.now i s
         → FailsAfter O.Operator (take i all.now) (O.Operator.as_made s) ended took node kind
         → FailsAt run notes took ended node kind }
+{
+    operator_core::laws::laws::<O>(PhantomData);
+}
+
+/// The law that an operator which probes is the stage of a join, over rows of the left side's types.
+pub fn probes_look_up<O: Operator>(_of: PhantomData<O>)
+    ensures { (s : O) (noted : Option (List Row)) (id : ℕ) (kind : JoinKind) (on : List (ℕ × ℕ))
+        (left : ℕ) (taken right : List SqlType)
+        → Probes O.Operator s noted kind on left right
+        → LooksUp O.Operator s noted taken
+        (λ (built : List Row). at_node id (probe kind on left (length right) built)) (taken ++ right) }
 {
     operator_core::laws::laws::<O>(PhantomData);
 }

@@ -3,9 +3,9 @@ ghost use Rattle.col_pages.specs.Pages.{most_rows};
 ghost use Rattle.operator_core.specs.Samples.{has_row};
 ghost use Rattle.topn_sort.specs.Sorting.{AllFit, AreTop, BeganRows, FitsTypes, IsCutTo, IsNextPage, last_row, rows_before};
 
-use column_moves::join_rows;
 use crate::places::{places_before, sorted_places};
 use col_pages::Page;
+use column_moves::join_rows;
 use sql_values::{ColumnRows, KeySpec, Memory, SqlType};
 use std::alloc::Global;
 use std::marker::Model;

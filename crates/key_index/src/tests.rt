@@ -108,7 +108,7 @@ fn many_rows_have_one_key(rt: HostRuntime) -> Result<(), ParseFault> {
     let page = Page::of_columns(one);
     let mut places = Vec::new(alloc);
     for place in index.matches(Key::of(&page, 0, &[0])) {
-        assert!(rt; place as usize == places.len());
+        assert!(rt; place == places.len());
         places.push(place)?;
     }
     assert!(rt; places.len() == 5_000);

@@ -82,7 +82,7 @@ chains-more mask heads links x chains few before within =
       few = omega (arith, few, many);
       buckets = omega (arith, chains.buckets, long);
       headed = λ bucket lt. head-new mask heads links x bucket chains.headed (omega (arith, lt, long)) (eqb_tells (bit_and x.hash mask) bucket)
-      ∙ ap (last_below (sits mask (hashes_of (links ++ x ∷ [])) bucket)) (sym many);
+          ∙ ap (last_below (sits mask (hashes_of (links ++ x ∷ [])) bucket)) (sym many);
       linked = λ place lt. link-new mask links x place chains.linked (before ∙ chains.headed (bit_and x.hash mask) within) (below_or_last (length links) place (omega (arith, lt, many)) (cases_lt place (length links)));
     }
 
@@ -119,7 +119,7 @@ passed-over links hash m c other =
     let hs = hashes_of links in
     last_below-over (has_hash hs hash) m (ne_eqb (hash_at hs m) hash (λ e. other (sym (hash-link links m) ∙ e)))
     ∙ last_below-skip (sits c.mask hs (bit_and hash c.mask)) (has_hash hs hash) m
-    (λ k is. eq-eqb (bit_and (hash_at hs k) c.mask) (bit_and hash c.mask) (ap (λ h. bit_and h c.mask) (eqb-true (hash_at hs k) hash is)))
+    (λ k lt is. eq-eqb (bit_and (hash_at hs k) c.mask) (bit_and hash c.mask) (ap (λ h. bit_and h c.mask) (eqb-true (hash_at hs k) hash is)))
     ∙ ap (last_below (has_hash hs hash)) (sym (before-is links hash m c))
 
 pub found-at : (links : List Link) (hash m : ℕ) → (link_at links m).hash ≡ hash → last_below (has_hash (hashes_of links) hash) (suc m) ≡ suc m
@@ -154,7 +154,7 @@ from-start : (links : List Link) (hash mask below start : ℕ) → start ≡ las
 from-start links hash mask below start is =
     let hs = hashes_of links in
     last_below-skip (sits mask hs (bit_and hash mask)) (has_hash hs hash) below
-    (λ k at. eq-eqb (bit_and (hash_at hs k) mask) (bit_and hash mask) (ap (λ h. bit_and h mask) (eqb-true (hash_at hs k) hash at)))
+    (λ k lt at. eq-eqb (bit_and (hash_at hs k) mask) (bit_and hash mask) (ap (λ h. bit_and h mask) (eqb-true (hash_at hs k) hash at)))
     ∙ ap (last_below (has_hash hs hash)) (sym is)
 
 pub from-head : (mask : ℕ) (heads : List ℕ) (links : List Link) (hash : ℕ) → AreChains mask heads links → bit_and hash mask < length heads

@@ -24,9 +24,9 @@ skip_at p q n false e more h = fails_at (q n) refl
         ap (λ (c : Bool). if c then suc n else last_below q n) f ∙ h
         ∙ ap (λ (c : Bool). last_below q (if c then suc n else last_below p n)) (sym e)
 
-pub last_below-skip : (p q : ℕ → Bool) (n : ℕ) → ((k : ℕ) → q k ≡ true → p k ≡ true) → last_below q n ≡ last_below q (last_below p n)
+pub last_below-skip : (p q : ℕ → Bool) (n : ℕ) → ((k : ℕ) → k < n → q k ≡ true → p k ≡ true) → last_below q n ≡ last_below q (last_below p n)
 last_below-skip p q zero more = refl
-last_below-skip p q (suc n) more = skip_at p q n (p n) refl (more n) (last_below-skip p q n more)
+last_below-skip p q (suc n) more = skip_at p q n (p n) refl (more n (omega arith)) (last_below-skip p q n (λ k lt. more k (omega (arith, lt))))
 
 -- tests that agree below
 pub last_below-same : (p q : ℕ → Bool) (n : ℕ) → ((k : ℕ) → k < n → p k ≡ q k) → last_below p n ≡ last_below q n

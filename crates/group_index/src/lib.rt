@@ -9,5 +9,8 @@
 #![tactic(auto)]
 
 mod chains;
+mod hashes;
+mod index;
 
 pub use chains::HashChains;
+pub use index::GroupIndex;

@@ -32,6 +32,6 @@ loop-place-preserved c =
     record {
       on = on-before c.args.links.now c.args.hash m on;
       same = c.loop-place.invariant.same
-      ∙ ap (last_below (has_hash (hashes_of c.args.links.now) c.args.hash)) e
-      ∙ passed-over c.args.links.now c.args.hash m on c.if-link-hash.false;
+          ∙ ap (last_below (has_hash (hashes_of c.args.links.now) c.args.hash)) e
+          ∙ passed-over c.args.links.now c.args.hash m on c.if-link-hash.false;
     }

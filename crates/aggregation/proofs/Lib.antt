@@ -7,3 +7,5 @@ pub mod PageLemmas
 pub mod RowLemmas
 pub mod ResultLemmas
 pub mod LeftLemmas
+pub mod SingleLemmas
+pub mod OperatorLemmas

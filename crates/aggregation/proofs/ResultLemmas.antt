@@ -1,7 +1,8 @@
 -- What is said of a group, and rows of groups one by one.
-use Rattle.std.proofs.Common.{◌≡◌, ℕ, ◌+◌, ◌<◌, ◌≤◌, List, [], ◌∷◌, ◌++◌, length, map, get_or, take, refl, ap, sym, subst, ◌∙◌, arith}
-use Rattle.std.specs.Prelude.{Contains, Result, Ok, Err}
-use Rattle.std.proofs.lemmas.List.{get_or-map, length-map, map-append, take_all, take_more}
+use Rattle.std.proofs.Common.{◌≡◌, ℕ, suc, ◌+◌, ◌<◌, ◌≤◌, List, [], ◌∷◌, ◌++◌, length, map, get_or, take, refl, ap, sym, subst, ◌∙◌, arith}
+use Rattle.std.specs.Prelude.{Contains, Result, Ok, Err, nat_lt}
+use Rattle.std.proofs.lemmas.Bool.{le-ltb, lt-ltb}
+use Rattle.std.proofs.lemmas.List.{append-nil, get_or-map, length-map, map-append, take_all, take_more}
 use Rattle.sql_values.specs.declared.types.SqlType.{SqlType}
 use Rattle.sql_values.specs.declared.value.Value.{Value}
 use Rattle.sql_values.specs.declared.fail.Fail.{Fail}
@@ -14,7 +15,11 @@ use Rattle.relations.specs.Partials.{results_from}
 use Rattle.relations.specs.Verdicts.{Verdict, drops, fails, keeps}
 use Rattle.accumulators.specs.Columns.{kind_in}
 use Rattle.accumulators.specs.Groups.{Group, RowFailsBy}
-use Rattle.aggregation.specs.Tables.{AreResults, GroupFailsBy, IsGroupOf, IsPut, IsTable, OneFailsBy, TableState, partials_of_groups, verdict_at, verdicts_of}
+use Rattle.aggregation.specs.Tables.{AreResults, GroupFailsBy, IsGroupOf, IsPut, IsTable, OneFailsBy, TableState, held_in, partials_of_groups, verdict_at, verdicts_of}
+use Rattle.bag_laws.specs.Pieces.{finals_of}
+use Rattle.aggregation.specs.Giving.{has_verdict, verdicts_with}
+use Rattle.aggregation.specs.Held.{AreHeld}
+use Rattle.aggregation.proofs.HeldLemmas.{finals-held}
 use Rattle.aggregation.proofs.RowLemmas.{each-at, each-long}
 use Rattle.aggregation.proofs.TableLemmas.{group-there}
 
@@ -95,3 +100,19 @@ module _ (columns : List ℕ) (calls : List Call) (types : List SqlType) (keys :
   pub one-fails : (place : ℕ) (f : EvalFault) → place < length groups → GroupFailsBy (verdict_at state place) f → OneFailsBy (verdicts_of state) f
   one-fails place (fault.Fail kind) lt h = (place, omega (arith, lt, long), verdict-there place (fails kind) (inside place lt) ∙ h)
   one-fails place fault.Memory lt h = tt
+
+  -- what the partial rows tell is said of the groups
+  pub told-of : verdicts_with state [] ≡ verdicts_of state
+  told-of =
+      ap (finals_of state.types (length state.columns) state.calls) (append-nil (held_in state))
+      ∙ finals-held (length state.columns) state.calls state.keys state.partials
+      (subst (λ (x : TableState). AreHeld (length x.columns) x.calls x.keys x.partials) view t.held) state.types
+
+  some-verdict : (n : ℕ) (vs : List Verdict) → length vs ≡ n → nat_lt 0 n ≡ has_verdict vs
+  some-verdict n [] e = ap (nat_lt 0) (sym e) ∙ le-ltb 0 0 (omega arith)
+  some-verdict n (v ∷ vs) e = ap (nat_lt 0) (sym e) ∙ lt-ltb 0 (suc (length vs)) (omega arith)
+
+  pub some-told : (n : ℕ) → n ≡ length keys → nat_lt 0 n ≡ has_verdict (verdicts_with state [])
+  some-told n e =
+      some-verdict n (verdicts_of state) (long ∙ omega (arith, e, t.held.level, length-map groups (λ (x : Group). x.partial)))
+      ∙ ap has_verdict (sym told-of)

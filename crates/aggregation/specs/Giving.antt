@@ -1,5 +1,5 @@
 -- What operators that keep groups may give, and on what they may fail.
-use Rattle.std.specs.Prelude.{◌≡◌, ℕ, ◌<◌, ◌≤◌, List, [], ◌∷◌, ◌++◌, length, flat_map, Bool, true, false, All, IsTrue, Contains}
+use Rattle.std.specs.Prelude.{◌≡◌, ℕ, ◌<◌, ◌≤◌, List, [], ◌∷◌, ◌++◌, length, map, flat_map, Bool, true, false, All, IsTrue, Contains, Option, Some, None}
 use Rattle.sql_values.specs.declared.types.SqlType.{SqlType}
 use Rattle.sql_values.specs.declared.value.Value.{Value}
 use Rattle.sql_values.specs.declared.fail.Fail.{Fail}
@@ -7,9 +7,10 @@ use Rattle.sql_values.specs.Bags.{SameBag}
 use Rattle.sql_values.specs.ColumnRows.{TypedRows, fits_row}
 use Rattle.col_pages.specs.Pages.{TypedPage, most_rows}
 use Rattle.operator_core.specs.Samples.{has_row}
-use Rattle.relations.specs.Verdicts.{Verdict, kept, fails}
+use Rattle.relations.specs.Verdicts.{Verdict, fails, keeps, kept}
 use Rattle.bag_laws.specs.Pieces.{finals_of}
 use Rattle.aggregation.specs.Alike.{part_rows}
+use Rattle.aggregation.specs.Held.{first_keys, first_partials}
 use Rattle.aggregation.specs.Tables.{TableState, held_in}
 
 -- what is said of each group of the rows that came and of those still to come
@@ -67,3 +68,38 @@ pub record IsNextPage (old : RowsLeft) (p : TypedPage) (new : RowsLeft) : Type 0
   pub some : 0 < length p.rows
   pub most : length p.rows ≤ old.page
   pub of : FitsTypes old.types p
+
+-- an aggregate of whole groups: what it holds, and what it has left to give once its output has begun
+pub record SingleState : Type 0 where
+  pub table : TableState
+  pub node : ℕ
+  pub left : RowsLeft
+  pub begun : Bool
+  pub is_told : Bool
+
+abbrev pub single_verdicts : SingleState → List (List Value) → List Verdict
+single_verdicts s more = verdicts_with s.table more
+
+-- the output has begun: none of the groups fails, and their rows are left
+abbrev pub IsBegun : Bool → List Verdict → List (List Value) → List (List Value) → Type 0
+IsBegun true verdicts old new = new ≡ old
+IsBegun false verdicts old new = map keeps new ≡ verdicts
+
+-- it has a column to give, and gives only when it was told
+pub record IsSingle (types : List SqlType) (begun is_told : Bool) : Type 0 where
+  pub some : 0 < length types
+  pub late : begun ≡ true → is_told ≡ true
+
+-- as it was made
+abbrev pub single_made : SingleState → SingleState
+single_made s = record s {
+  table = record s.table { keys = first_keys (length s.table.columns); partials = first_partials (length s.table.columns) s.table.calls };
+  left = record s.left { rows = [] };
+  begun = false;
+  is_told = false;
+}
+
+-- the next page, or none where no row is left
+abbrev pub IsGiven : RowsLeft → Option TypedPage → RowsLeft → Type 0
+IsGiven old None new = (old.rows ≡ []) × (new ≡ old)
+IsGiven old (Some page) new = IsNextPage old page new

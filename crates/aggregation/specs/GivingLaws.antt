@@ -1,5 +1,5 @@
 -- Laws of operators that keep groups.
-use Rattle.std.specs.Prelude.{◌≡◌, ◌↔◌, ℕ, List, [], ◌∷◌, ◌++◌, Bool, true, false, not, ◌&&◌, flat_map, map, Contains, Result, Ok, Err, refl}
+use Rattle.std.specs.Prelude.{◌≡◌, ◌↔◌, ℕ, List, [], ◌∷◌, ◌++◌, Bool, true, false, not, ◌&&◌, flat_map, length, map, Contains, Result, Ok, Err, refl}
 use Rattle.std.proofs.Common.{ap, sym, ◌∙◌, subst, arith}
 use Rattle.std.proofs.lemmas.Bool.{true≢false}
 use Rattle.std.proofs.lemmas.List.Elements.{Contains-append_left, Contains-push}
@@ -11,7 +11,11 @@ use Rattle.relations.specs.Groups.{grouped_row}
 use Rattle.relations.specs.Verdicts.{Verdict, kept, fails}
 use Rattle.bag_laws.specs.Weights.{SameWeights}
 use Rattle.bag_laws.proofs.BagLemmas.{bag_from_same, same-nil, same-refl, same-sym, same_from_bag}
-use Rattle.aggregation.specs.Giving.{GroupsFail, GroupsGive, has_more, has_verdict, to_give}
+use Rattle.relations.specs.Partials.{results_from}
+use Rattle.bag_laws.specs.Pieces.{all_merged, behind_key, front_keys}
+use Rattle.aggregation.specs.Alike.{part_rows}
+use Rattle.aggregation.specs.Tables.{held_in}
+use Rattle.aggregation.specs.Giving.{GroupsFail, GroupsGive, SingleState, has_more, has_verdict, single_verdicts, to_give}
 
 pub groups-some : (begun : Bool) (left : List (List Value)) (V : List Verdict) → (B : List (List Value)) × GroupsGive begun left V B
 groups-some true left V = (left, refl)
@@ -66,3 +70,12 @@ groups-done true told own left keys r = done-begun told left
 groups-done false false own left keys r = ((λ e. cc), (λ h. cc (h.0)))
 groups-done false true own left [] r = ((λ e. (refl, refl, λ node kind f. none-in (fails kind) f.1)), (λ h. refl))
 groups-done false true own left (key ∷ keys) r = ((λ e. cc), (λ h. absurd (said (r key) key (map (λ k. grouped_row k (r k)) keys) own h.1 h.2)))
+
+pub single-done : (s : SingleState)
+    → ((s.is_told && not (has_more s.begun s.left.rows (single_verdicts s []))) ≡ true)
+    ↔ ((s.is_told ≡ true) × ((s.is_told && has_row (to_give s.begun s.left.rows (single_verdicts s []))) ≡ false)
+    × ((node : ℕ) (kind : Fail) → GroupsFail s.begun s.node (single_verdicts s []) node kind → ⊥))
+single-done s =
+    let rows = held_in s.table ++ part_rows s.table.columns s.table.calls [] in
+    groups-done s.begun s.is_told s.node s.left.rows (front_keys (length s.table.columns) rows)
+    (λ key. results_from s.table.types s.table.calls (all_merged s.table.calls (behind_key (length s.table.columns) rows key)))

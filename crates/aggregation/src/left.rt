@@ -4,7 +4,7 @@ ghost use Rattle.operator_core.specs.Samples.{has_row};
 ghost use Rattle.aggregation.specs.Giving.{IsNextPage};
 
 use col_pages::Page;
-use sql_values::{ColumnRows, Memory};
+use sql_values::{ColumnRows, Memory, SqlType};
 use std::alloc::Global;
 use std::marker::Model;
 
@@ -41,6 +41,22 @@ impl LeftRows {
             given: 0,
             page,
         }
+    }
+
+    pub fn types(&self) -> &[SqlType]
+        ensures { result.now ≡ self.now.types }
+    {
+        self.rows.types()
+    }
+
+    /// Rows of the same types in place of those that were left.
+    pub fn fill(&mut self, rows: ColumnRows)
+        requires types { rows.types ≡ self.old.types }
+        requires whole { rows.begun ≡ [] }
+        ensures { self.new ≡ record self.old { rows = rows.rows } }
+    {
+        self.rows = rows;
+        self.given = 0;
     }
 
     pub fn holds_row(&self) -> bool

@@ -4,13 +4,16 @@
 //! may give is stated over these partial rows (`specs/Alike.antt`, `specs/Held.antt`): with rows still to
 //! come it is what they tell together, and that is what grouping all rows gives.
 //!
+//! - `single`: `SingleAgg` takes rows and gives the results of their groups
 //! - `table`: `GroupTable`, the groups, found by their keys
 //! - `left`: `LeftRows`, rows that are still to be given, in pages
 #![tactic(auto)]
 
 mod left;
 mod page_row;
+mod single;
 mod table;
 
 pub use left::LeftRows;
+pub use single::SingleAgg;
 pub use table::GroupTable;

@@ -5,6 +5,7 @@ ghost use Rattle.group_index.specs.Keys.{place_of};
 ghost use Rattle.accumulators.specs.Limits.{are_allowed};
 ghost use Rattle.aggregation.specs.Alike.{TellAlike, part_row, part_rows};
 ghost use Rattle.aggregation.specs.Held.{first_keys, first_partials};
+ghost use Rattle.aggregation.specs.Giving.{has_verdict, verdicts_with};
 ghost use Rattle.aggregation.specs.Tables.{AreResults, GroupFailsBy, IsKeyAt, IsOpen, IsPut, OneFailsBy, held_in, verdict_at, verdicts_of};
 
 use crate::page_row::PageRow;
@@ -182,6 +183,20 @@ impl GroupTable {
             self.add(&PageRow { page, position })?;
         }
         Ok(())
+    }
+
+    /// The law that what is said of the groups is what their partial rows tell.
+    pub fn groups_are_told(&self)
+        ensures { verdicts_with self.now [] ≡ verdicts_of self.now }
+    {
+        let _ = &self.alloc;
+    }
+
+    /// Whether there is a group.
+    pub fn has_group(&self) -> bool
+        ensures { result ≡ has_verdict (verdicts_with self.now []) }
+    {
+        self.index.len() > 0
     }
 
     /// The row of each group, its key and the results, as columns of these types.

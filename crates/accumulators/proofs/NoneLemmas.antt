@@ -1,18 +1,17 @@
 -- The partial row of no row adds nothing.
-use Rattle.std.proofs.Common.{◌≡◌, ℕ, ◌+◌, ◌^◌, ◌<◌, ◌≤◌, List, [], ◌∷◌, ◌++◌, length, drop, refl, ap, sym, ◌∙◌, arith, drop_at, ◌⊎◌, inl, inr}
+use Rattle.std.proofs.Common.{◌≡◌, ℕ, ◌+◌, ◌^◌, ◌<◌, ◌≤◌, List, [], ◌∷◌, ◌++◌, length, refl, ap, sym, ◌∙◌, arith, drop_at, ◌⊎◌, inl, inr}
 use Rattle.std.specs.Prelude.{All, IsTrue, flat_map, pos}
 use Rattle.std.proofs.lemmas.Bool.{cases_lt}
 use Rattle.std.proofs.lemmas.List.Elements.{All-head, All-tail}
 use Rattle.sql_values.specs.declared.types.SqlType.{SqlType}
 use Rattle.sql_values.specs.declared.value.Value.{Value}
-use Rattle.sql_values.specs.declared.value.Value.TheVariants.{Null, Boolean, Bigint, Decimal, Varchar, Date}
-use Rattle.sql_values.specs.declared.order.Order.{Order}
+use Rattle.sql_values.specs.declared.value.Value.TheVariants.{Null, Bigint}
 use Rattle.sql_values.specs.declared.order.Order.TheVariants.{Ascending, Descending}
 use Rattle.sql_values.specs.declared.relational.Call.{Call}
 use Rattle.sql_values.specs.declared.relational.Call.TheVariants.{CountAll, Count, Sum, Min, Max, Avg}
 use Rattle.relations.specs.Aggregates.{earlier, most_rows}
 use Rattle.relations.specs.Partials.{added_counts, added_sums, call_columns, call_width, merged_call, partial_of}
-use Rattle.accumulators.specs.Columns.{columns_of, count_in}
+use Rattle.accumulators.specs.Columns.{count_in}
 use Rattle.accumulators.specs.Kept.{Kept, calls_of, merged_each}
 use Rattle.accumulators.specs.Limits.{IsKept, are_columns, greatest, is_count}
 use Rattle.accumulators.specs.Groups.{Group, IsGroup, group_kept, with_part}

@@ -1,5 +1,5 @@
 -- Steps over the states of the calls, one by one.
-use Rattle.std.proofs.Common.{◌≡◌, ℕ, ◌-◌, ◌<◌, ◌≤◌, suc, List, [], ◌∷◌, ◌++◌, length, get_or, set, take, drop, refl, ap, sym, subst, ◌∙◌, arith, append_assoc, append-nil, drop-cons, take-append-drop}
+use Rattle.std.proofs.Common.{◌≡◌, ℕ, ◌<◌, suc, List, [], ◌∷◌, ◌++◌, length, get_or, set, take, drop, refl, ap, sym, subst, ◌∙◌, arith, append_assoc, append-nil, drop-cons, take-append-drop}
 use Rattle.std.specs.Prelude.{All, OnErr, Result, Ok, Err}
 use Rattle.std.proofs.lemmas.List.{drop_all, length-drop, length-take, set-get_or, take_all, take_at}
 use Rattle.std.proofs.lemmas.List.Elements.{All-head}

@@ -1,6 +1,6 @@
 -- A group as its accumulator keeps it.
 use Rattle.std.specs.Global.{Vec}
-use Rattle.std.specs.Prelude.{◌≡◌, ℕ, ◌^◌, ◌≤◌, List, [], ◌∷◌, drop, map, All, Result, Ok, Err, MatchResult}
+use Rattle.std.specs.Prelude.{◌≡◌, ℕ, ◌^◌, ◌≤◌, List, [], ◌∷◌, map, All, Result, Ok, Err, MatchResult}
 use Rattle.sql_values.specs.declared.types.SqlType.{SqlType}
 use Rattle.sql_values.specs.declared.value.Value.{Value}
 use Rattle.sql_values.specs.declared.fail.Fail.{Fail}
@@ -8,7 +8,7 @@ use Rattle.sql_values.specs.declared.fail.EvalFault.{EvalFault}
 use Rattle.sql_values.specs.declared.fail.EvalFault.TheVariants as fault
 use Rattle.sql_values.specs.declared.relational.Call.{Call}
 use Rattle.relations.specs.Aggregates.{all_values, most_rows}
-use Rattle.relations.specs.Partials.{merged, partial_of, results_from, with_rows}
+use Rattle.relations.specs.Partials.{merged, partial_of, with_rows}
 use Rattle.accumulators.specs.Columns.{kind_in}
 use Rattle.accumulators.specs.Kept.{Kept, all_columns, calls_of, kinds_of, outcome_in}
 use Rattle.accumulators.specs.Limits.{IsKept}

@@ -1,20 +1,18 @@
 -- Rows that tell the same groups.
-use Rattle.std.proofs.Common.{◌≡◌, ℕ, ◌<◌, zero, suc, List, [], ◌∷◌, ◌++◌, Bool, true, false, length, map, take, drop, get_or, set, refl, ap, sym, ◌∙◌, arith, append_assoc, append-nil}
+use Rattle.std.proofs.Common.{◌≡◌, ℕ, zero, suc, List, [], ◌∷◌, ◌++◌, Bool, true, false, length, map, take, drop, refl, ap, sym, ◌∙◌, append-nil}
 use Rattle.std.specs.Prelude.{filter, if◌then◌else◌, not}
-use Rattle.std.proofs.lemmas.Bool.{true≢false}
 use Rattle.std.proofs.lemmas.List.{drop_at, map-append, take_at}
 use Rattle.std.proofs.lemmas.List.Elements.{filter-append}
 use Rattle.sql_values.specs.declared.types.SqlType.{SqlType}
 use Rattle.sql_values.specs.declared.value.Value.{Value}
 use Rattle.sql_values.specs.declared.relational.Call.{Call}
-use Rattle.sql_values.specs.Cells.{cut}
 use Rattle.relations.specs.Equality.{same_row}
 use Rattle.relations.specs.Groups.{distinct, grouped_row}
-use Rattle.relations.specs.Partials.{merged, partial_of, results_from}
+use Rattle.relations.specs.Partials.{merged, results_from}
 use Rattle.relations.proofs.EqualityLemmas.{same_row_decides}
 use Rattle.bag_laws.specs.Pieces.{all_merged, behind_key, finals_of, front_keys}
 use Rattle.bag_laws.proofs.DistinctLemmas.{distinct-append, distinct-filter}
-use Rattle.aggregation.specs.Alike.{TellAlike, merged_rows, part_row, part_rows}
+use Rattle.aggregation.specs.Alike.{TellAlike, merged_rows}
 use Rattle.aggregation.proofs.MergeLemmas.{merged-append, merged-first}
 
 module _ (width : ℕ) (calls : List Call) where
@@ -94,7 +92,7 @@ module _ (width : ℕ) (calls : List Call) where
       let last : map (take width) (R ++ (key ++ q) ∷ []) ≡ K ++ key ∷ [] = map-append (take width) R ((key ++ q) ∷ []) ∙ ap (λ k. K ++ k ∷ []) (take_at key q width wide) in
       record {
         keys = ap (λ k. distinct same_row (k ∷ K)) (take_at key (merged calls p q) width wide) ∙ sym (twice key K)
-        ∙ (λ i. distinct same_row (sym (take_at key p width wide) i ∷ sym last i));
+            ∙ (λ i. distinct same_row (sym (take_at key p width wide) i ∷ sym last i));
         merged = λ k. told-first k key p q R wide (same_row k key) refl;
       }
 

@@ -1,20 +1,19 @@
 -- Groups that are held: one more row of a group, one more group, and what they tell.
-use Rattle.std.proofs.Common.{◌≡◌, ℕ, ◌<◌, zero, suc, List, [], ◌∷◌, ◌++◌, Bool, true, false, length, map, take, drop, get_or, set, refl, ap, sym, subst, ◌∙◌, arith}
+use Rattle.std.proofs.Common.{◌≡◌, ℕ, ◌<◌, zero, suc, List, [], ◌∷◌, ◌++◌, Bool, true, false, length, map, take, get_or, set, refl, ap, sym, ◌∙◌, arith}
 use Rattle.std.specs.Prelude.{All, filter, if◌then◌else◌, not}
 use Rattle.std.proofs.lemmas.Bool.{true≢false}
-use Rattle.std.proofs.lemmas.List.{append_assoc, append-nil, map-append, take_at}
+use Rattle.std.proofs.lemmas.List.{append_assoc, take_at}
 use Rattle.std.proofs.lemmas.List.Elements.{All-cons, All-head, All-nil, All-tail, All-append}
 use Rattle.sql_values.specs.declared.types.SqlType.{SqlType}
 use Rattle.sql_values.specs.declared.value.Value.{Value}
 use Rattle.sql_values.specs.declared.relational.Call.{Call}
 use Rattle.relations.specs.Equality.{same_row}
 use Rattle.relations.specs.Groups.{distinct, grouped_row}
-use Rattle.relations.specs.Partials.{merged, partial_of, results_from}
-use Rattle.relations.specs.Verdicts.{Verdict}
+use Rattle.relations.specs.Partials.{merged, results_from}
 use Rattle.relations.proofs.EqualityLemmas.{same_row_decides}
 use Rattle.bag_laws.specs.Pieces.{all_merged, behind_key, finals_of, front_keys}
 use Rattle.aggregation.specs.Alike.{AreApart, TellAlike, merged_rows}
-use Rattle.aggregation.specs.Held.{AreHeld, HasFirst, IsTold, first_keys, first_partials, group_verdicts, held_rows, of_each}
+use Rattle.aggregation.specs.Held.{AreHeld, HasFirst, IsTold, group_verdicts, held_rows, of_each}
 use Rattle.aggregation.proofs.AlikeLemmas.{alike-cons, alike-first, behind-append, behind-here, behind-other}
 
 -- a partial row merged in at the place of its key
@@ -40,7 +39,7 @@ pub apart-more : (keys : List (List Value)) (key : List Value) → AreApart keys
 apart-more [] key apart new = (All-nil (λ other. same_row key other ≡ false), tt)
 apart-more (k ∷ keys) key apart new = (
   All-append (λ other. same_row k other ≡ false) keys (key ∷ []) apart.0
-  (All-cons (λ other. same_row k other ≡ false) key [] (All-head (λ other. same_row other key ≡ false) k keys new) (All-nil (λ other. same_row k other ≡ false))),
+      (All-cons (λ other. same_row k other ≡ false) key [] (All-head (λ other. same_row other key ≡ false) k keys new) (All-nil (λ other. same_row k other ≡ false))),
   apart-more keys key apart.1 (All-tail (λ other. same_row other key ≡ false) k keys new),
 )
 

@@ -1,6 +1,6 @@
 -- Rows that are left, and the next page of them.
 use Rattle.std.proofs.Common.{◌≡◌, ℕ, ◌+◌, ◌-◌, ◌<◌, ◌≤◌, zero, suc, List, [], ◌∷◌, ◌++◌, length, take, drop, Bool, true, false, refl, ap, sym, subst, ◌∙◌, arith, length-drop}
-use Rattle.std.specs.Prelude.{All, IsTrue, nat_lt}
+use Rattle.std.specs.Prelude.{IsTrue, nat_lt}
 use Rattle.std.proofs.lemmas.Bool.{le-ltb, lt-ltb, ltb-false, ltb-true}
 use Rattle.std.proofs.lemmas.List.{drop-drop, length-take, take-append-drop}
 use Rattle.std.proofs.lemmas.List.Elements.{All-drop, All-take}
@@ -35,14 +35,14 @@ next-page held cut given high page old new p before after is of fit more inside 
     let kinds : held.types ≡ old.types = sym (ap (λ (x : RowsLeft). x.types) before) in
     record {
       rows = ap (λ (x : RowsLeft). x.rows) before
-      ∙ sym (take-append-drop (high - given) (drop given R))
-      ∙ (λ i. sym rows i ++ (drop-drop (high - given) given R ∙ ap (λ n. drop n R) place ∙ sym (ap (λ (x : RowsLeft). x.rows) after)) i);
+          ∙ sym (take-append-drop (high - given) (drop given R))
+          ∙ (λ i. sym rows i ++ (drop-drop (high - given) given R ∙ ap (λ n. drop n R) place ∙ sym (ap (λ (x : RowsLeft). x.rows) after)) i);
       some = omega (arith, long, more);
       most = omega (arith, long, most, size);
       of = (
         types ∙ kinds,
         subst (λ (ts : List SqlType). AllFit ts p.rows) kinds
-        (subst (λ (rs : List (List Value)). AllFit held.types rs) (sym rows)
-        (All-take (λ row. IsTrue (fits_row held.types row)) (high - given) (drop given R) (All-drop (λ row. IsTrue (fits_row held.types row)) given R fit))),
+            (subst (λ (rs : List (List Value)). AllFit held.types rs) (sym rows)
+            (All-take (λ row. IsTrue (fits_row held.types row)) (high - given) (drop given R) (All-drop (λ row. IsTrue (fits_row held.types row)) given R fit))),
       );
     }

@@ -9,3 +9,4 @@ pub mod ResultLemmas
 pub mod LeftLemmas
 pub mod SingleLemmas
 pub mod OperatorLemmas
+pub mod MadeLemmas

@@ -1,5 +1,5 @@
 -- The clauses of `SingleAgg` as an operator.
-use Rattle.std.proofs.Common.{◌≡◌, ℕ, List, [], ◌∷◌, ◌++◌, Bool, true, false, refl, ap, sym, subst, ◌∙◌}
+use Rattle.std.proofs.Common.{◌≡◌, ℕ, List, [], ◌++◌, Bool, true, false, refl, ap, sym, subst, ◌∙◌}
 use Rattle.std.specs.Prelude.{◌↔◌, Contains, Option, Some, None, Result, Ok, Err}
 use Rattle.sql_values.specs.declared.value.Value.{Value}
 use Rattle.sql_values.specs.declared.fail.Fail.{Fail}
@@ -41,7 +41,7 @@ module _ (old mid new : SingleState) (told : old.is_told ≡ true)
   got-fails X node kind come = (
     (λ f. absurd (subst (λ (b : Bool). GroupsFail b new.node (single_verdicts new X) node kind) has-begun f)),
     (λ f. absurd (begun-calm old.begun old.node (single_verdicts old []) old.left.rows mid.left.rows node kind begun
-    (subst (λ (Y : List (List Value)). GroupsFail old.begun old.node (single_verdicts old Y) node kind) (none-comes old.is_told X told come) f))),
+        (subst (λ (Y : List (List Value)). GroupsFail old.begun old.node (single_verdicts old Y) node kind) (none-comes old.is_told X told come) f))),
   )
 
 -- where a group failed, something fails

@@ -1,6 +1,6 @@
 -- What the partial rows of single rows tell together.
-use Rattle.std.proofs.Common.{◌≡◌, ℕ, zero, suc, List, [], ◌∷◌, ◌++◌, Bool, true, false, length, map, take, drop, refl, ap, sym, ◌∙◌}
-use Rattle.std.specs.Prelude.{filter, if◌then◌else◌}
+use Rattle.std.proofs.Common.{◌≡◌, ℕ, zero, suc, List, [], ◌∷◌, ◌++◌, Bool, true, false, length, map, take, refl, ap, sym, ◌∙◌}
+use Rattle.std.specs.Prelude.{if◌then◌else◌}
 use Rattle.std.proofs.lemmas.List.{length-map, take_at}
 use Rattle.sql_values.specs.declared.types.SqlType.{SqlType}
 use Rattle.sql_values.specs.declared.value.Value.{Value}
@@ -11,7 +11,7 @@ use Rattle.relations.specs.Groups.{distinct, group_of, grouped_row, groups_of, k
 use Rattle.relations.specs.Partials.{merged, partial_of, results_from}
 use Rattle.relations.proofs.PartialLemmas.{partial_of-append, results_from-partial_of}
 use Rattle.bag_laws.specs.Pieces.{all_merged, behind_key, finals_of, front_keys, partials_of}
-use Rattle.aggregation.specs.Alike.{merged_rows, part_row, part_rows}
+use Rattle.aggregation.specs.Alike.{merged_rows, part_rows}
 use Rattle.aggregation.specs.Held.{first_rows}
 use Rattle.aggregation.proofs.MergeLemmas.{merged-none}
 use Rattle.aggregation.proofs.AlikeLemmas.{behind-here, behind-other}
@@ -64,3 +64,8 @@ finals-first types (suc width) calls Z = refl
 pub merged_rows-first : (width : ℕ) (calls : List Call) (Z : List (List Value)) → merged_rows width calls (first_rows width calls ++ Z) ≡ merged_rows width calls Z
 merged_rows-first zero calls Z = ap (λ p. p ∷ []) (first-told calls Z)
 merged_rows-first (suc width) calls Z = refl
+
+-- what is said of the groups of all rows, where none came yet
+pub made_verdicts : (types : List SqlType) (columns : List ℕ) (calls : List Call) (X : List (List Value))
+    → finals_of types (length columns) calls (first_rows (length columns) calls ++ part_rows columns calls X) ≡ groups_of types columns calls X
+made_verdicts types columns calls X = finals-first types (length columns) calls (part_rows columns calls X) ∙ finals-are types columns calls X

@@ -1,6 +1,6 @@
 -- What is said of a group, and rows of groups one by one.
-use Rattle.std.proofs.Common.{◌≡◌, ℕ, suc, ◌+◌, ◌<◌, ◌≤◌, List, [], ◌∷◌, ◌++◌, length, map, get_or, take, refl, ap, sym, subst, ◌∙◌, arith}
-use Rattle.std.specs.Prelude.{Contains, Result, Ok, Err, nat_lt}
+use Rattle.std.proofs.Common.{◌≡◌, ℕ, suc, ◌+◌, ◌<◌, ◌≤◌, List, [], ◌∷◌, ◌++◌, length, map, get_or, take, ap, sym, subst, ◌∙◌, arith}
+use Rattle.std.specs.Prelude.{Result, Ok, nat_lt}
 use Rattle.std.proofs.lemmas.Bool.{le-ltb, lt-ltb}
 use Rattle.std.proofs.lemmas.List.{append-nil, get_or-map, length-map, map-append, take_all, take_more}
 use Rattle.sql_values.specs.declared.types.SqlType.{SqlType}
@@ -15,7 +15,7 @@ use Rattle.relations.specs.Partials.{results_from}
 use Rattle.relations.specs.Verdicts.{Verdict, drops, fails, keeps}
 use Rattle.accumulators.specs.Columns.{kind_in}
 use Rattle.accumulators.specs.Groups.{Group, RowFailsBy}
-use Rattle.aggregation.specs.Tables.{AreResults, GroupFailsBy, IsGroupOf, IsPut, IsTable, OneFailsBy, TableState, held_in, partials_of_groups, verdict_at, verdicts_of}
+use Rattle.aggregation.specs.Tables.{AreResults, GroupFailsBy, IsPut, IsTable, OneFailsBy, TableState, held_in, partials_of_groups, verdict_at, verdicts_of}
 use Rattle.bag_laws.specs.Pieces.{finals_of}
 use Rattle.aggregation.specs.Giving.{has_verdict, verdicts_with}
 use Rattle.aggregation.specs.Held.{AreHeld}
@@ -81,9 +81,9 @@ module _ (columns : List ℕ) (calls : List Call) (types : List SqlType) (keys :
     of = ap (λ (r : TypedRows). r.types) put ∙ so_far.of;
     whole = ap (λ (r : TypedRows). r.begun) put ∙ so_far.whole;
     said = ap (λ (r : TypedRows). map keeps r.rows) put
-    ∙ map-append keeps old.rows (row ∷ [])
-    ∙ (λ i. so_far.said i ++ sym at i ∷ [])
-    ∙ sym (take_more (verdicts_of state) place (keeps row) lt);
+        ∙ map-append keeps old.rows (row ∷ [])
+        ∙ (λ i. so_far.said i ++ sym at i ∷ [])
+        ∙ sym (take_more (verdicts_of state) place (keeps row) lt);
   }
   put-at kinds place old new drops at lt so_far put = absurd put
   put-at kinds place old new (fails kind) at lt so_far put = absurd put

@@ -1,6 +1,6 @@
 -- Rows that were taken from a page, one by one, and rows of groups.
-use Rattle.std.proofs.Common.{◌≡◌, ℕ, ◌+◌, ◌<◌, zero, suc, List, [], ◌∷◌, ◌++◌, length, map, get_or, take, refl, ap, sym, subst, ◌∙◌, arith}
-use Rattle.std.specs.Prelude.{Contains, slice_index_or}
+use Rattle.std.proofs.Common.{◌≡◌, ℕ, ◌+◌, ◌<◌, zero, suc, List, [], ◌∷◌, ◌++◌, length, get_or, take, refl, ap, sym, subst, ◌∙◌, arith}
+use Rattle.std.specs.Prelude.{slice_index_or}
 use Rattle.std.proofs.lemmas.List.{append_assoc, map-append, take_more}
 use Rattle.sql_values.specs.declared.value.Value.{Value}
 use Rattle.sql_values.specs.declared.relational.Call.{Call}
@@ -36,7 +36,7 @@ pub page-more : (first now next : TableState) (rows : List (List Value)) (i : �
 page-more first now next rows i lt same alike again more = (
   ap (λ (t : TableState). record t { keys = first.keys; partials = first.partials }) again ∙ same,
   rows-more first.columns first.calls (held_in first) (held_in now) (held_in next) rows i (slice_index_or rows i []) lt refl alike
-  (subst (λ (t : TableState). TellAlike (length t.columns) t.calls (held_in next) (held_in now ++ part_row t.columns t.calls (slice_index_or rows i []) ∷ [])) same more),
+      (subst (λ (t : TableState). TellAlike (length t.columns) t.calls (held_in next) (held_in now ++ part_row t.columns t.calls (slice_index_or rows i []) ∷ [])) same more),
 )
 
 -- what is made of the key and the partial row at a place

@@ -4,7 +4,6 @@ use Rattle.std.specs.Prelude.{Contains, flat_map, slice_index_or}
 use Rattle.std.proofs.lemmas.List.{map-append}
 use Rattle.sql_values.specs.declared.value.Value.{Value}
 use Rattle.sql_values.specs.declared.fail.Fail.{Fail}
-use Rattle.sql_values.specs.declared.types.SqlType.{SqlType}
 use Rattle.sql_values.specs.Bags.{SameBag}
 use Rattle.relations.specs.Verdicts.{Verdict, fails, keeps, kept}
 use Rattle.bag_laws.specs.Pieces.{finals_of}

@@ -1,8 +1,8 @@
 -- Tables with one more group, and with one more row of a group.
-use Rattle.std.proofs.Common.{◌≡◌, ℕ, ◌+◌, ◌<◌, zero, suc, List, [], ◌∷◌, ◌++◌, Bool, true, false, length, map, get_or, set, refl, ap, sym, subst, ◌∙◌, arith, ◌⊎◌, inl, inr}
+use Rattle.std.proofs.Common.{◌≡◌, ℕ, ◌<◌, zero, suc, List, [], ◌∷◌, ◌++◌, false, length, get_or, set, refl, ap, sym, subst, ◌∙◌, arith, inl, inr}
 use Rattle.std.specs.Prelude.{All, IsTrue, None, OnOk, Result, Ok, Err}
 use Rattle.std.proofs.lemmas.Bool.{true≢false}
-use Rattle.std.proofs.lemmas.List.{append_assoc, get_or-map, get_or-set_same, length-append, length-map, length-set, map-append, map-set, nil_from_length}
+use Rattle.std.proofs.lemmas.List.{append_assoc, get_or-map, length-append, length-map, length-set, map-append, map-set, nil_from_length}
 use Rattle.std.proofs.lemmas.List.Elements.{All-append, All-cons, All-get_or, All-head, All-nil, All-set}
 use Rattle.sql_values.specs.declared.types.SqlType.{SqlType}
 use Rattle.sql_values.specs.declared.value.Value.{Value}
@@ -11,13 +11,12 @@ use Rattle.sql_values.specs.Cells.{cell, cut}
 use Rattle.relations.specs.Equality.{same_row}
 use Rattle.relations.specs.Partials.{merged, partial_of}
 use Rattle.relations.proofs.PartialLemmas.{partial_of-append}
-use Rattle.accumulators.specs.Columns.{kind_in}
 use Rattle.accumulators.specs.Groups.{Group, empty_group, with_part, with_row}
-use Rattle.accumulators.specs.Limits.{are_allowed, takes_row}
+use Rattle.accumulators.specs.Limits.{are_allowed}
 use Rattle.group_index.specs.Keys.{place_of}
 use Rattle.group_index.proofs.KeyLemmas.{none-stands}
 use Rattle.aggregation.specs.Alike.{TellAlike, part_row}
-use Rattle.aggregation.specs.Held.{AreHeld, HasFirst, IsTold, first_keys, first_partials, held_rows}
+use Rattle.aggregation.specs.Held.{AreHeld, HasFirst, IsTold, held_rows}
 use Rattle.aggregation.specs.Tables.{IsGroupOf, IsKeyAt, IsOpen, IsTable, TableState, held_in, partials_of_groups}
 use Rattle.aggregation.proofs.AlikeLemmas.{alike-append, alike-first, alike-from_equal, alike-refl, alike-sym, alike-trans}
 use Rattle.aggregation.proofs.HeldLemmas.{apart-more, held-more, merged-at}
@@ -71,7 +70,7 @@ module _ (columns : List ℕ) (calls : List Call) (types : List SqlType) (keys :
       record {
         allowed = t.allowed;
         held = subst (λ (ps : List (List Value)). AreHeld (length columns) calls (keys ++ cut columns row ∷ []) ps) (sym partials)
-        (held-with (length columns) calls keys (partials_of_groups groups) (cut columns row) t.held (length-map columns (cell row)) none);
+            (held-with (length columns) calls keys (partials_of_groups groups) (cut columns row) t.held (length-map columns (cell row)) none);
         each = All-append (IsGroupOf types calls) groups (g ∷ []) t.each (All-cons (IsGroupOf types calls) g [] (none-of types calls g e) (All-nil (IsGroupOf types calls)));
       }
 
@@ -147,8 +146,14 @@ opened-at old table row (inr more) h =
 opened-level : (old table : TableState) (key : List Value) → IsOpen old key table → length old.partials ≡ length old.keys → length table.partials ≡ length table.keys
 opened-level old table key (inl same) h = ap (λ (t : TableState). length t.partials) same ∙ h ∙ sym (ap (λ (t : TableState). length t.keys) same)
 opened-level old table key (inr more) h =
-    omega (arith, ap (λ (t : TableState). length t.partials) more, ap (λ (t : TableState). length t.keys) more, h,
-    length-append old.partials (partial_of old.calls [] ∷ []), length-append old.keys (key ∷ []))
+    omega (
+      arith,
+      ap (λ (t : TableState). length t.partials) more,
+      ap (λ (t : TableState). length t.keys) more,
+      h,
+      length-append old.partials (partial_of old.calls [] ∷ []),
+      length-append old.keys (key ∷ []),
+    )
 
 opened-wide : (old table : TableState) (key : List Value) (width : ℕ) → IsOpen old key table → length key ≡ width → All (λ k. length k ≡ width) old.keys → All (λ k. length k ≡ width) table.keys
 opened-wide old table key width (inl same) wide h = subst (λ (t : TableState). All (λ k. length k ≡ width) t.keys) (sym same) h
@@ -198,7 +203,7 @@ table-none column columns calls types keys groups allowed none empty = record {
   held = (λ (ks : List (List Value)) (ps : List (List Value)) (e : ks ≡ []) (f : ps ≡ []).
       subst (λ (x : List (List Value)). AreHeld (suc (length columns)) calls x ps) (sym e)
       (subst (λ (x : List (List Value)). AreHeld (suc (length columns)) calls [] x) (sym f) (nothing-held (length columns) calls)))
-  keys (partials_of_groups groups) none (ap partials_of_groups empty);
+      keys (partials_of_groups groups) none (ap partials_of_groups empty);
   each = subst (λ (gs : List Group). All (IsGroupOf types calls) gs) (sym empty) (All-nil (IsGroupOf types calls));
 }
 
@@ -209,6 +214,6 @@ table-one calls types keys groups g allowed one only e =
     record {
       allowed = allowed;
       held = subst (λ (x : List (List Value)). AreHeld 0 calls x (partials_of_groups groups)) (sym one)
-      (subst (λ (x : List (List Value)). AreHeld 0 calls ([] ∷ []) x) (sym partials) (one-held calls));
+          (subst (λ (x : List (List Value)). AreHeld 0 calls ([] ∷ []) x) (sym partials) (one-held calls));
       each = subst (λ (gs : List Group). All (IsGroupOf types calls) gs) (sym only) (All-cons (IsGroupOf types calls) g [] (none-of types calls g e) (All-nil (IsGroupOf types calls)));
     }

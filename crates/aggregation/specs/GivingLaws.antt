@@ -1,6 +1,6 @@
 -- Laws of operators that keep groups.
 use Rattle.std.specs.Prelude.{◌≡◌, ◌↔◌, ℕ, List, [], ◌∷◌, ◌++◌, Bool, true, false, not, ◌&&◌, flat_map, length, map, Contains, Result, Ok, Err, refl}
-use Rattle.std.proofs.Common.{ap, sym, ◌∙◌, subst, arith}
+use Rattle.std.proofs.Common.{sym, ◌∙◌, subst, arith}
 use Rattle.std.proofs.lemmas.Bool.{true≢false}
 use Rattle.std.proofs.lemmas.List.Elements.{Contains-append_left, Contains-push}
 use Rattle.sql_values.specs.declared.value.Value.{Value}
@@ -15,7 +15,7 @@ use Rattle.relations.specs.Partials.{results_from}
 use Rattle.bag_laws.specs.Pieces.{all_merged, behind_key, front_keys}
 use Rattle.aggregation.specs.Alike.{part_rows}
 use Rattle.aggregation.specs.Tables.{held_in}
-use Rattle.aggregation.specs.Giving.{GroupsFail, GroupsGive, SingleState, has_more, has_verdict, single_verdicts, to_give}
+use Rattle.aggregation.specs.Giving.{GroupsFail, GroupsGive, SingleState, has_more, single_verdicts, to_give}
 
 pub groups-some : (begun : Bool) (left : List (List Value)) (V : List Verdict) → (B : List (List Value)) × GroupsGive begun left V B
 groups-some true left V = (left, refl)

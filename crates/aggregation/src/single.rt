@@ -1,18 +1,25 @@
-ghost use Rattle.std.specs.Prelude.{◌≡◌, ◌<◌, ◌≤◌, ◌↔◌, ℕ, List, [], true, false, length, Contains, IfOk, IsTrue, Err, OnOk, OnErr};
+ghost use Rattle.std.specs.Prelude.{◌≡◌, ◌<◌, ◌≤◌, ◌↔◌, ◌+◌, ◌++◌, ℕ, List, [], flat_map, map, true, false, length, Contains, IfOk, IsTrue, Err, OnOk, OnErr};
 ghost use Rattle.sql_values.specs.declared.fail.Fail.{Fail as Kind};
-ghost use Rattle.col_pages.specs.Pages.{most_rows};
-ghost use Rattle.relations.specs.Verdicts.{fails};
+ghost use Rattle.sql_values.specs.declared.types.SqlType.{SqlType as Typed};
+ghost use Rattle.sql_values.specs.Bags.{SameBag};
+ghost use Rattle.sql_functions.specs.CallTypes.{type_at};
+ghost use Rattle.col_pages.specs.Pages.{TypedPage, most_rows};
+ghost use Rattle.relations.specs.Verdicts.{fails, kept};
+ghost use Rattle.relations.specs.Groups.{groups_of};
+ghost use Rattle.plan_trees.specs.TreeTypes.{call_kind};
+ghost use Rattle.operator_core.specs.Rows.{Row};
+ghost use Rattle.operator_core.specs.Calls.{IsFresh};
 ghost use Rattle.accumulators.specs.Limits.{are_allowed};
-ghost use Rattle.aggregation.specs.Giving.{IsBegun, IsGiven, single_verdicts};
+ghost use Rattle.aggregation.specs.Giving.{FitsTypes, IsBegun, IsGiven, single_verdicts};
 ghost use Rattle.aggregation.specs.Held.{first_keys, first_partials};
 
 use crate::left::LeftRows;
 use crate::table::GroupTable;
 use blocked::{Bells, BlockedOn};
 use col_pages::Page;
-
 use operator_core::{OpFault, Operator};
-use sql_values::{Call, ColumnRows, EvalFault, Memory, SqlType};
+use plan_trees::{append_call_types, append_key_types};
+use sql_values::{Call, ColumnRows, EvalFault, Memory, SqlType, Types};
 use std::alloc::Global;
 use std::marker::Model;
 use std::sync::Wait;
@@ -46,8 +53,45 @@ impl Model for SingleAgg {
 }
 
 impl SingleAgg {
+    /// The groups by these columns of rows of some types.
+    pub fn new(
+        alloc: Global,
+        node: u32,
+        keys: Vec<u32>,
+        calls: Vec<Call>,
+        types: Vec<SqlType>,
+        page: u32,
+    ) -> Result<SingleAgg, Memory>
+        requires allowed { IsTrue (are_allowed types.items calls.items) }
+        requires some { 0 < length keys.items + length calls.items }
+        requires page { (0 < page) × (page ≤ most_rows) }
+        ensures fresh { IfOk result (λ op. IsFresh ⟦<SingleAgg as Operator>⟧ op) }
+        ensures gives { IfOk result (λ op. (X B : List Row) → ⟦<SingleAgg as Operator>⟧.may_give op X B
+            ↔ SameBag (flat_map kept (groups_of types.items keys.items calls.items X)) B) }
+        ensures fails { IfOk result (λ op. (X : List Row) (n : ℕ) (kind : Kind)
+            → ⟦<SingleAgg as Operator>⟧.may_still_fail op X n kind
+            ↔ ((n ≡ node) × Contains (groups_of types.items keys.items calls.items X) (fails kind))) }
+        ensures takes { IfOk result (λ op. (page : TypedPage)
+            → ⟦<SingleAgg as Operator>⟧.takes op page ↔ FitsTypes types.items page) }
+        ensures pages { IfOk result (λ op. (before : List Typed) (page : TypedPage)
+            → ⟦<SingleAgg as Operator>⟧.may_give_page op before page
+            ↔ FitsTypes (map (type_at types.items) keys.items ++ map (call_kind types.items) calls.items) page) }
+        ensures open { IfOk result (λ op. ⟦<SingleAgg as Operator>⟧.is_full op ≡ false) }
+        ensures size { IfOk result (λ op. ⟦<SingleAgg as Operator>⟧.page_size op ≡ page) }
+        ensures late { IfOk result (λ op. ⟦<SingleAgg as Operator>⟧.gives_late op ≡ true) }
+        ensures waits { IfOk result (λ op. ⟦<SingleAgg as Operator>⟧.waits op ≡ false) }
+        ensures knows { IfOk result (λ op. ⟦<SingleAgg as Operator>⟧.knows op ≡ true) }
+        ensures learns { IfOk result
+            (λ op. (m : _) → ⟦<SingleAgg as Operator>⟧.may_learn op m → ⊥) }
+    {
+        let mut given = Types::new(alloc);
+        append_key_types(&mut given, &types, &keys)?;
+        append_call_types(&mut given, &types, &calls)?;
+        SingleAgg::of_types(alloc, node, keys, calls, types, given.as_slice(), page)
+    }
+
     /// The groups by these columns of rows of some types, which gives rows of the types `given`.
-    pub fn of_types(
+    fn of_types(
         alloc: Global,
         node: u32,
         keys: Vec<u32>,

@@ -10,8 +10,8 @@ ghost use Rattle.aggregation.specs.Tables.{AreResults, GroupFailsBy, IsKeyAt, Is
 
 use crate::page_row::PageRow;
 use accumulators::Accumulator;
-use group_index::GroupIndex;
 use col_pages::Page;
+use group_index::GroupIndex;
 use sql_exprs::Cells;
 use sql_values::{Call, ColumnRows, EvalFault, Memory, Row, SqlType, Value};
 use std::alloc::Global;
@@ -160,8 +160,8 @@ impl GroupTable {
         ensures same { record self.new { partials = self.old.partials } ≡ self.old }
         ensures ok { OnOk result (self.new ≡ record self.old {
           partials = slice_set self.old.partials place
-            (merged self.old.calls (slice_index_or self.old.partials place [])
-            (partial_of self.old.calls (C.values cells.now ∷ [])));
+              (merged self.old.calls (slice_index_or self.old.partials place [])
+              (partial_of self.old.calls (C.values cells.now ∷ [])));
         }) }
     {
         let group = &mut self.groups[place];

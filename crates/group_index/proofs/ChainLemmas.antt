@@ -1,14 +1,14 @@
 -- Chains with one more link, and steps along one.
-use Rattle.std.proofs.Common.{◌≡◌, ◌≢◌, ℕ, ◌+◌, ◌-◌, ◌<◌, ◌≤◌, ◌^◌, zero, suc, List, [], ◌∷◌, ◌++◌, length, map, get_or, set, refl, ap, sym, ◌∙◌, arith, Bool, true, false, ◌⊎◌, inl, inr}
-use Rattle.std.specs.Prelude.{nat_eq, bit_and, slice_index_or, slice_set}
+use Rattle.std.proofs.Common.{◌≡◌, ◌≢◌, ℕ, ◌+◌, ◌<◌, ◌≤◌, ◌^◌, zero, suc, List, [], ◌∷◌, ◌++◌, length, set, refl, ap, sym, ◌∙◌, arith, true, false, ◌⊎◌, inl, inr}
+use Rattle.std.specs.Prelude.{nat_eq, bit_and, slice_index_or}
 use Rattle.std.proofs.lemmas.Bool.{cases_lt, eqb-true, eq-eqb, ne_eqb}
 use Rattle.std.proofs.lemmas.Bool.Decides.{eqb_tells}
 use Rattle.std.proofs.lemmas.List.{get_or-set_same, get_or-set_other, length-append, length-set, length-map, map-append}
 use Rattle.std.proofs.Math.ListN.{get_or-append}
 use Rattle.std.proofs.Math.Seq.{get_or-append_seam}
 use Rattle.group_index.specs.declared.chains.Link.{Link}
-use Rattle.group_index.specs.Places.{last_below, place_before}
-use Rattle.group_index.specs.Chains.{AreChains, AreHeads, AreLinked, IsOnChain, has_hash, hash_at, hashes_of, last_of_hash, link_at, sits}
+use Rattle.group_index.specs.Places.{last_below}
+use Rattle.group_index.specs.Chains.{AreChains, AreHeads, AreLinked, IsOnChain, has_hash, hash_at, hashes_of, link_at, sits}
 use Rattle.group_index.proofs.PlaceLemmas.{last_below-at, last_below-over, last_below-passes, last_below-same, last_below-skip, last_below-within}
 
 -- the hashes of links

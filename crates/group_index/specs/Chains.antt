@@ -1,5 +1,5 @@
 -- Hashes, each at a place, and the places of one bucket behind one another.
-use Rattle.std.specs.Prelude.{◌≡◌, ℕ, ◌+◌, ◌<◌, ◌≤◌, ◌^◌, List, length, map, slice_index_or, Bool, Option, nat_eq, bit_and}
+use Rattle.std.specs.Prelude.{◌≡◌, ℕ, ◌<◌, ◌≤◌, ◌^◌, List, length, map, slice_index_or, Bool, Option, nat_eq, bit_and}
 use Rattle.group_index.specs.declared.chains.Link.{Link}
 use Rattle.group_index.specs.Places.{last_below, place_before}
 

@@ -1,5 +1,5 @@
 -- Keys, each at a place, and where one stands.
-use Rattle.std.specs.Prelude.{◌≡◌, ℕ, ◌<◌, List, [], length, map, slice_index_or, Bool, Option, true}
+use Rattle.std.specs.Prelude.{◌≡◌, ℕ, List, [], length, map, slice_index_or, Bool, Option}
 use Rattle.sql_values.specs.declared.value.Value.{Value}
 use Rattle.relations.specs.Equality.{same_row}
 use Rattle.group_index.specs.Hashes.{hash_of}

@@ -1,5 +1,5 @@
 use Rattle.std.proofs.Common.{◌≡◌, ◌++◌, take, drop}
-use Rattle.accumulators.specs.Kept.{Kept, merged_each}
+use Rattle.accumulators.specs.Kept.{merged_each}
 use Rattle.accumulators.specs.Limits.{CanMergeEach}
 use Rattle.accumulators.proofs.call_states.merge_each.Given as goal
 

@@ -1,7 +1,5 @@
-use Rattle.std.proofs.Common.{◌≡◌, ℕ, ◌+◌, List, ◌++◌, take, ap, sym, ◌∙◌, arith, append_assoc}
+use Rattle.std.proofs.Common.{◌∙◌, arith}
 use Rattle.accumulators.proofs.GroupLemmas.{nulls-more}
-use Rattle.std.specs.Prelude.{replicate}
-use Rattle.sql_values.specs.declared.value.Value.TheVariants.{Null}
 use Rattle.accumulators.proofs.call_states.push_all_nulls.Goals as goal
 
 pub loop-state-preserved : goal.loop-state-preserved

@@ -1,4 +1,4 @@
-use Rattle.std.proofs.Common.{◌≡◌, ℕ, ◌+◌, ◌-◌, ◌<◌, ◌≤◌, suc, ap, sym, subst, ◌∙◌, arith}
+use Rattle.std.proofs.Common.{◌≡◌, ℕ, ◌-◌, suc, ap, sym, subst, ◌∙◌, arith}
 use Rattle.group_index.specs.Places.{last_below, place_before}
 use Rattle.group_index.specs.Chains.{IsOnChain, has_hash, hashes_of}
 use Rattle.group_index.proofs.ChainLemmas.{before-less, found-at, on-before, on-within, passed-over}

@@ -1,8 +1,6 @@
-use Rattle.std.proofs.Common.{◌≡◌, List, ◌<◌, length, get_or, map, ap, sym, ◌∙◌, arith}
+use Rattle.std.proofs.Common.{◌≡◌, ◌<◌, length, get_or, sym, ◌∙◌, arith}
 use Rattle.std.proofs.lemmas.List.{get_or-map, get_or_read, length-map}
-use Rattle.sql_values.specs.declared.value.Value.{Value}
 use Rattle.sql_values.specs.Cells.{cell, cut, lent_value}
-use Rattle.relations.specs.Equality.{same_value}
 use Rattle.group_index.proofs.KeyLemmas.{cells-differ, cells-same}
 use Rattle.group_index.proofs.index.is_key_of.Goals as goal
 

@@ -1,5 +1,5 @@
-use Rattle.std.proofs.Common.{◌≡◌, take, map}
-use Rattle.sql_values.specs.Cells.{cell, cut}
+use Rattle.std.proofs.Common.{◌≡◌, take}
+use Rattle.sql_values.specs.Cells.{cut}
 use Rattle.group_index.proofs.index.key_of.Given as goal
 
 abbrev pub invariant-loop-column : goal.invariant-loop-column

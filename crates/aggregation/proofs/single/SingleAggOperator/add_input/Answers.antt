@@ -1,7 +1,6 @@
-use Rattle.std.proofs.Common.{◌≡◌, ℕ, List, ◌++◌, sym, subst, ◌∙◌}
-use Rattle.sql_values.specs.declared.value.Value.{Value}
+use Rattle.std.proofs.Common.{List, ◌++◌, sym, subst}
 use Rattle.relations.specs.Verdicts.{Verdict}
-use Rattle.aggregation.specs.Giving.{GroupsFail, GroupsGive, SingleState, single_verdicts, verdicts_with}
+use Rattle.aggregation.specs.Giving.{GroupsFail, GroupsGive, SingleState, single_verdicts}
 use Rattle.aggregation.proofs.SingleLemmas.{verdicts-taken}
 use Rattle.aggregation.proofs.single.SingleAggOperator.add_input.Goals as goal
 
@@ -18,7 +17,7 @@ returns-clause-fails c =
     let rows = c.args.page.rows in
     λ u X node kind. (
       (λ f. subst (λ (t : SingleState). GroupsFail t.begun t.node (single_verdicts t (rows ++ X)) node kind) c.self.view_is
-      (subst (λ (V : List Verdict). GroupsFail s.has_begun s.node V node kind) (verdicts-taken s.table c.add_page.new.self rows X c.in_ok-add_page.ensures.same c.in_ok-add_page.ensures.ok) f)),
+          (subst (λ (V : List Verdict). GroupsFail s.has_begun s.node V node kind) (verdicts-taken s.table c.add_page.new.self rows X c.in_ok-add_page.ensures.same c.in_ok-add_page.ensures.ok) f)),
       (λ f. subst (λ (V : List Verdict). GroupsFail s.has_begun s.node V node kind) (sym (verdicts-taken s.table c.add_page.new.self rows X c.in_ok-add_page.ensures.same c.in_ok-add_page.ensures.ok))
-      (subst (λ (t : SingleState). GroupsFail t.begun t.node (single_verdicts t (rows ++ X)) node kind) (sym c.self.view_is) f)),
+          (subst (λ (t : SingleState). GroupsFail t.begun t.node (single_verdicts t (rows ++ X)) node kind) (sym c.self.view_is) f)),
     )

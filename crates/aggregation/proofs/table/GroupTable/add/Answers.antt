@@ -1,4 +1,4 @@
-use Rattle.std.proofs.Common.{◌≡◌, length, subst, ◌∙◌}
+use Rattle.std.proofs.Common.{length, subst}
 use Rattle.aggregation.specs.Held.{AreHeld}
 use Rattle.aggregation.specs.Tables.{TableState}
 use Rattle.aggregation.proofs.TableLemmas.{row-added}

@@ -1,5 +1,4 @@
-use Rattle.std.proofs.Common.{◌≡◌, ◌<◌, List, [], ◌∷◌, length, get_or, set, ap, sym, subst, ◌∙◌, arith}
-use Rattle.accumulators.specs.Groups.{Group}
+use Rattle.std.proofs.Common.{◌<◌, length, sym, subst}
 use Rattle.aggregation.specs.Tables.{IsGroupOf, TableState}
 use Rattle.aggregation.proofs.TableLemmas.{group-there, partials-set, table-set}
 use Rattle.aggregation.proofs.table.GroupTable.add_at.Goals as goal

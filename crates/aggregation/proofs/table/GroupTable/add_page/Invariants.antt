@@ -8,5 +8,5 @@ abbrev pub invariant-loop-position : goal.invariant-loop-position
 invariant-loop-position l = record {
   same : record l.self { keys = l.initial.self.keys; partials = l.initial.self.partials } ≡ l.initial.self;
   alike : TellAlike (length l.initial.self.columns) l.initial.self.calls (held_in l.self)
-  (held_in l.initial.self ++ part_rows l.initial.self.columns l.initial.self.calls (take l.position l.page.rows));
+      (held_in l.initial.self ++ part_rows l.initial.self.columns l.initial.self.calls (take l.position l.page.rows));
 }

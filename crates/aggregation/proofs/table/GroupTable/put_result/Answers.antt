@@ -1,4 +1,4 @@
-use Rattle.std.proofs.Common.{◌≡◌, ◌<◌, length, get_or, ap, sym, subst, ◌∙◌}
+use Rattle.std.proofs.Common.{◌<◌, length, sym, subst}
 use Rattle.aggregation.specs.Tables.{TableState}
 use Rattle.aggregation.proofs.ResultLemmas.{fails-there, put-there}
 use Rattle.aggregation.proofs.table.GroupTable.put_result.Goals as goal

@@ -1,4 +1,4 @@
-use Rattle.std.proofs.Common.{◌≡◌, ◌<◌, ◌≤◌, length, arith}
+use Rattle.std.proofs.Common.{◌<◌, ◌≤◌, length, arith}
 use Rattle.aggregation.proofs.ResultLemmas.{all-put, one-fails, put-more}
 use Rattle.aggregation.proofs.table.GroupTable.results.Goals as goal
 

@@ -1,5 +1,4 @@
-use Rattle.std.proofs.Common.{◌≡◌, [], map, take}
-use Rattle.relations.specs.Verdicts.{keeps}
+use Rattle.std.proofs.Common.{take}
 use Rattle.aggregation.specs.Tables.{AreResults, verdicts_of}
 use Rattle.aggregation.proofs.table.GroupTable.results.Given as goal
 

@@ -1,7 +1,6 @@
 use Rattle.std.proofs.Common.{◌≡◌, ◌++◌, ◌∷◌, [], List, ℕ, subst, sym, ap, ◌∙◌}
-use Rattle.sql_values.specs.declared.value.Value.{Value}
 use Rattle.sql_values.specs.Cells.{cut}
-use Rattle.accumulators.specs.Groups.{Group, empty_group}
+use Rattle.accumulators.specs.Groups.{empty_group}
 use Rattle.aggregation.specs.Tables.{IsTable}
 use Rattle.aggregation.proofs.TableLemmas.{table-one}
 use Rattle.aggregation.proofs.table.GroupTable.with_one_group.Goals as goal

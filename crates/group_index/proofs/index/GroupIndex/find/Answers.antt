@@ -1,7 +1,6 @@
-use Rattle.std.proofs.Common.{◌≡◌, [], false, ℕ, ◌<◌, List, length, map, refl, ap, sym, subst, ◌∙◌, arith}
+use Rattle.std.proofs.Common.{◌≡◌, [], false, ℕ, ◌<◌, length, map, refl, ap, sym, subst, ◌∙◌, arith}
 use Rattle.std.specs.Prelude.{Option, Some}
 use Rattle.std.proofs.lemmas.List.{get_or_read, length-map}
-use Rattle.sql_values.specs.declared.value.Value.{Value}
 use Rattle.relations.specs.Equality.{same_row}
 use Rattle.sql_values.specs.Cells.{cut}
 use Rattle.group_index.specs.Chains.{hash_at, last_of_hash}

@@ -6,3 +6,7 @@ pub mod ColumnLemmas
 pub mod KeptLemmas
 pub mod HeldLemmas
 pub mod HeldRules
+pub mod GroupLemmas
+pub mod StateLemmas
+pub mod StateRules
+pub mod NoneLemmas

@@ -2,3 +2,4 @@ pub mod Columns
 pub mod Kept
 pub mod Held
 pub mod Limits
+pub mod Groups

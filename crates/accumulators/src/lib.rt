@@ -14,9 +14,14 @@
 //! - `limits`: which cells and which columns a state can take, by `specs/Limits.antt`
 #![tactic(auto)]
 
+mod accumulator;
 mod call_state;
+mod call_states;
 mod firsts;
 mod limits;
 mod sums;
+#[cfg(test)]
+mod tests;
 
+pub use accumulator::Accumulator;
 pub use call_state::CallState;

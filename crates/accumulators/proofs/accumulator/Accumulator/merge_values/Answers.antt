@@ -1,0 +1,39 @@
+use Rattle.std.proofs.Common.{◌≡◌, ◌+◌, ◌≤◌, ap, ◌∙◌, arith}
+use Rattle.std.specs.Prelude.{nat_abs}
+use Rattle.sql_values.specs.Order.{number_in}
+use Rattle.relations.specs.Aggregates.{most_rows}
+use Rattle.relations.specs.Partials.{rows_in}
+use Rattle.accumulators.specs.Groups.{Group}
+use Rattle.accumulators.proofs.GroupLemmas.{can-merge, group-merged, merge-stays, view-merged}
+use Rattle.accumulators.proofs.accumulator.Accumulator.merge_values.Goals as goal
+
+pub merge_each-requires : goal.merge_each-requires
+merge_each-requires c =
+    let s = c.self.inside in
+    let more : c.row_count-more.result ≡ rows_in c.args.part.now = c.row_count-more.ensures.number ∙ ap (λ v. nat_abs (number_in v)) c.value_at.ensures in
+    let few : s.rows + rows_in c.args.part.now ≤ most_rows = omega (arith, more, c.saturating_add.ensures, c.min-self-inside.ensures, c.if-self-gt-MOST_ROWS.false) in
+    can-merge s.rows s.states.items s.states.items c.args.self.now c.self.view_is c.self.invariant c.args.part.now c.behind.result.now c.behind.ensures few c.requires
+
+pub invariant_of-self-2 : goal.invariant_of-self-2
+invariant_of-self-2 c =
+    let s = c.self.inside in
+    let more : c.row_count-more.result ≡ rows_in c.args.part.now = c.row_count-more.ensures.number ∙ ap (λ v. nat_abs (number_in v)) c.value_at.ensures in
+    let few : s.rows + rows_in c.args.part.now ≤ most_rows = omega (arith, more, c.saturating_add.ensures, c.min-self-inside.ensures, c.if-self-gt-MOST_ROWS.false) in
+    let rows : c.min-self-inside.result ≡ s.rows + rows_in c.args.part.now = omega (arith, more, c.saturating_add.ensures, c.min-self-inside.ensures, c.if-self-gt-MOST_ROWS.false) in
+    group-merged s.rows s.states.items c.merge_each.new.states.items c.args.self.now c.self.view_is c.self.invariant c.args.part.now c.behind.result.now
+    c.merge_each.result c.min-self-inside.result c.behind.ensures rows few c.requires c.merge_each.ensures.ok c.merge_each.ensures.err
+
+pub returns-clause-ok : goal.returns-clause-ok
+returns-clause-ok c =
+    let s = c.self.inside in
+    let more : c.row_count-more.result ≡ rows_in c.args.part.now = c.row_count-more.ensures.number ∙ ap (λ v. nat_abs (number_in v)) c.value_at.ensures in
+    let few : s.rows + rows_in c.args.part.now ≤ most_rows = omega (arith, more, c.saturating_add.ensures, c.min-self-inside.ensures, c.if-self-gt-MOST_ROWS.false) in
+    let rows : c.min-self-inside.result ≡ s.rows + rows_in c.args.part.now = omega (arith, more, c.saturating_add.ensures, c.min-self-inside.ensures, c.if-self-gt-MOST_ROWS.false) in
+    view-merged s.rows s.states.items c.merge_each.new.states.items c.args.self.now c.self.view_is c.self.invariant c.args.part.now c.behind.result.now
+    c.merge_each.result c.min-self-inside.result c.behind.ensures rows few c.merge_each.ensures.ok
+
+pub returns-clause-same : goal.returns-clause-same
+returns-clause-same c =
+    let s = c.self.inside in
+    let stays = merge-stays s.states.items c.merge_each.new.states.items c.behind.result.now c.merge_each.result c.merge_each.ensures.ok c.merge_each.ensures.err in
+    (stays.0 ∙ ap (λ (x : Group). x.calls) c.self.view_is, stays.1 ∙ ap (λ (x : Group). x.kinds) c.self.view_is)

@@ -1,0 +1,12 @@
+use Rattle.std.proofs.Common.{◌≡◌, ◌++◌, take, drop}
+use Rattle.accumulators.specs.Kept.{merged_each}
+use Rattle.accumulators.specs.Limits.{CanMergeEach}
+use Rattle.accumulators.proofs.call_states.merge_each.Given as goal
+
+-- the first have taken their columns, the others are as they were and can take those that are left
+abbrev pub invariant-loop-state : goal.invariant-loop-state
+invariant-loop-state l = record {
+  merged : merged_each l.initial.state-items l.columns ≡ take l.state-index l.state-items ++ merged_each (drop l.state-index l.initial.state-items) l.left;
+  others : drop l.state-index l.state-items ≡ drop l.state-index l.initial.state-items;
+  can : CanMergeEach (drop l.state-index l.initial.state-items) l.left;
+}

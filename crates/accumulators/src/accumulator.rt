@@ -1,0 +1,171 @@
+ghost use Rattle.std.specs.Prelude.{◌≡◌, ◌≤◌, ◌^◌, [], List, IfOk, IsTrue, OnOk, map, nat_abs};
+ghost use Rattle.sql_values.specs.declared.types.SqlType.{SqlType};
+ghost use Rattle.sql_values.specs.Cells.{lent_value};
+ghost use Rattle.sql_values.specs.Order.{number_in};
+ghost use Rattle.relations.specs.Partials.{partial_of, results_from};
+ghost use Rattle.accumulators.specs.Columns.{kind_in};
+ghost use Rattle.accumulators.specs.Groups.{Answers, empty_group, with_part, with_row};
+ghost use Rattle.accumulators.specs.Limits.{are_allowed, is_partial, is_row_count as is_row_count_value, takes_row};
+
+use crate::call_state::CallState;
+use crate::call_states::{
+    add_each, all_results, are_each_null, begin_each, behind, empty_states, merge_each,
+    push_all_columns, push_all_nulls, take_row,
+};
+use crate::limits::{MOST_ROWS, value_at};
+use sql_exprs::Cells;
+use sql_values::{Call, EvalFault, Memory, Row, SqlType, Value, ValueRef};
+use std::alloc::Global;
+use std::marker::Model;
+
+/// The state of one group. After an answer `Memory` of `add` or `merge` it is not used again.
+#[derive(Debug, Drop)]
+pub struct Accumulator {
+    alloc: Global,
+    rows: u64,
+    states: Vec<CallState>,
+}
+
+impl Model for Accumulator {
+    ghost use Rattle.accumulators.specs.Groups.{Group, IsGroup, group_kept};
+
+    ghost Value = { Group };
+
+    ghost view = { λ a. group_kept a.rows a.states.items };
+
+    ghost invariant = { λ a. IsGroup a.rows a.states.items };
+}
+
+impl Accumulator {
+    /// A group of no row, for calls over rows of these types.
+    pub fn new(alloc: Global, calls: &[Call], types: &[SqlType]) -> Result<Accumulator, Memory>
+        requires { IsTrue (are_allowed types.now calls.now) }
+        ensures { IfOk result (λ a. a ≡ empty_group types.now calls.now) }
+    {
+        Ok(Accumulator {
+            alloc,
+            rows: 0,
+            states: empty_states(alloc, types, calls)?,
+        })
+    }
+
+    /// Whether the group can take a row. It can take each whose values have the types.
+    pub fn takes<C: Cells>(&self, cells: &C) -> bool
+        ensures { result ≡ takes_row self.now.calls self.now.kinds (C.values cells.now) }
+    {
+        take_row(&self.states, cells)
+    }
+
+    /// Takes one more row.
+    pub fn add<C: Cells>(&mut self, cells: &C) -> Result<(), Memory>
+        requires { IsTrue (takes_row self.old.calls self.old.kinds (C.values cells.now)) }
+        ensures ok { OnOk result (self.new ≡ with_row self.old (C.values cells.now)) }
+        ensures same { (self.new.calls ≡ self.old.calls) × (self.new.kinds ≡ self.old.kinds) }
+    {
+        self.rows = (self.rows + 1).min(MOST_ROWS + 1);
+        if MOST_ROWS < self.rows {
+            return Ok(());
+        }
+        add_each(self.alloc, &mut self.states, cells)
+    }
+
+    /// Whether a row is a partial row that the group can take. It is asked of values that have the types
+    /// of such a row; `part` gives no others.
+    pub fn takes_part(&self, part: &[Value]) -> bool
+        ensures { result ≡ is_partial self.now.calls self.now.kinds part.now }
+    {
+        let count = value_at(part, 0);
+        if !is_row_count(count) {
+            return false;
+        }
+        let rows = row_count(count);
+        if rows <= MOST_ROWS {
+            return begin_each(&self.states, rows, behind(part, 1));
+        }
+        are_each_null(&self.states, behind(part, 1))
+    }
+
+    /// Takes the rows of another part of the group, by their partial row.
+    pub fn merge(&mut self, part: &Row) -> Result<(), Memory>
+        requires { IsTrue (is_partial self.old.calls self.old.kinds part.now) }
+        ensures ok { OnOk result (self.new ≡ with_part self.old part.now) }
+        ensures same { (self.new.calls ≡ self.old.calls) × (self.new.kinds ≡ self.old.kinds) }
+    {
+        self.merge_values(part.as_slice())
+    }
+
+    /// The same, for the values of a partial row.
+    pub fn merge_values(&mut self, part: &[Value]) -> Result<(), Memory>
+        requires { IsTrue (is_partial self.old.calls self.old.kinds part.now) }
+        ensures ok { OnOk result (self.new ≡ with_part self.old part.now) }
+        ensures same { (self.new.calls ≡ self.old.calls) × (self.new.kinds ≡ self.old.kinds) }
+    {
+        let more = row_count(value_at(part, 0));
+        self.rows = self.rows.saturating_add(more).min(MOST_ROWS + 1);
+        if MOST_ROWS < self.rows {
+            return Ok(());
+        }
+        merge_each(self.alloc, &mut self.states, behind(part, 1))
+    }
+
+    /// The group's partial row.
+    pub fn part(&self) -> Result<Row, Memory>
+        ensures { IfOk result (λ r. r ≡ self.now.partial) }
+    {
+        let mut values = Vec::new(self.alloc);
+        values.push(Value::Decimal(i128::from(self.rows)))?;
+        if MOST_ROWS < self.rows {
+            push_all_nulls(&self.states, &mut values)?;
+            return Ok(Row::of(values));
+        }
+        push_all_columns(self.alloc, &self.states, &mut values)?;
+        Ok(Row::of(values))
+    }
+
+    /// The law that another group of these calls can take the group's partial row.
+    pub fn part_fits(&self)
+        ensures { IsTrue (is_partial self.now.calls self.now.kinds self.now.partial) }
+    {
+        let _ = &self.alloc;
+    }
+
+    /// The law that the partial row of no row adds nothing.
+    pub fn none_adds_nothing(&self)
+        ensures { with_part self.now (partial_of self.now.calls []) ≡ self.now }
+    {
+        let _ = &self.alloc;
+    }
+
+    /// The results of the calls over the group's rows as a whole.
+    pub fn result(&self) -> Result<Row, EvalFault>
+        ensures { (types : List SqlType) → self.now.kinds ≡ map (kind_in types) self.now.calls →
+            Answers (results_from types self.now.calls self.now.partial) result }
+    {
+        match all_results(self.alloc, &self.states, self.rows) {
+            Ok(values) => Ok(Row::of(values)),
+            Err(fault) => Err(fault),
+        }
+    }
+}
+
+/// Whether a value is a number of rows, up to one more than a group may have.
+fn is_row_count(value: ValueRef<'_>) -> bool
+    ensures { result ≡ is_row_count_value (lent_value value.entry) }
+{
+    match value {
+        ValueRef::Decimal(rows) => { 0 <= rows && rows.unsigned_abs() <= 9_223_372_036_854_775_808 }
+        _ => false,
+    }
+}
+
+/// How many rows a partial row stands for.
+fn row_count(value: ValueRef<'_>) -> u64
+    requires { IsTrue (is_row_count_value (lent_value value)) }
+    ensures number { result ≡ nat_abs (number_in (lent_value value.entry)) }
+    ensures few { result ≤ 2 ^ 63 }
+{
+    match value {
+        ValueRef::Decimal(rows) => rows.unsigned_abs() as u64,
+        _ => 0,
+    }
+}

@@ -1,0 +1,182 @@
+ghost use Rattle.std.specs.Prelude.{◌≡◌, ◌≤◌, ◌++◌, All, IfOk, IsTrue, OnOk, OnErr, drop, flat_map, map, replicate, sum_by, take};
+ghost use Rattle.sql_values.specs.declared.value.Value.TheVariants as value_is;
+ghost use Rattle.std.specs.List.{list_all};
+ghost use Rattle.sql_functions.specs.Truth.{is_null as is_null_value};
+ghost use Rattle.relations.specs.Aggregates.{most_rows};
+ghost use Rattle.relations.specs.Partials.{call_width};
+ghost use Rattle.accumulators.specs.Kept.{IsBegun, added_row, all_columns, calls_of, kept_of_none, kinds_of, merged_each, outcome_in};
+ghost use Rattle.accumulators.specs.Limits.{CanAdd, CanMergeEach, IsKept, are_all_columns, are_allowed, are_null, takes_row};
+ghost use Rattle.accumulators.specs.Groups.{AllAnswer, all_outcomes};
+
+use crate::call_state::CallState;
+use sql_exprs::Cells;
+use sql_functions::is_null;
+use sql_values::{Call, EvalFault, Memory, SqlType, Value};
+use std::alloc::Global;
+
+/// What is kept of no row, for calls over rows of these types.
+pub fn empty_states(
+    alloc: Global,
+    types: &[SqlType],
+    calls: &[Call],
+) -> Result<Vec<CallState>, Memory>
+    requires { IsTrue (are_allowed types.now calls.now) }
+    ensures { IfOk result (λ v. v.items ≡ map (kept_of_none types.now) calls.now) }
+{
+    let mut states = Vec::with_capacity(alloc, calls.len())?;
+    for call in calls {
+        states.push(CallState::new(types, *call))?;
+    }
+    Ok(states)
+}
+
+/// Whether the calls can take a row.
+pub fn take_row<C: Cells>(states: &[CallState], cells: &C) -> bool
+    ensures { result ≡ takes_row (calls_of states.now) (kinds_of states.now) (C.values cells.now) }
+{
+    for state in states {
+        if !state.takes(cells.cell(state.column())) {
+            return false;
+        }
+    }
+    true
+}
+
+/// Takes one more row.
+pub fn add_each<C: Cells>(
+    alloc: Global,
+    states: &mut Vec<CallState>,
+    cells: &C,
+) -> Result<(), Memory>
+    requires { All (CanAdd (C.values cells.now)) states.old.items }
+    ensures ok { OnOk result (states.new.items ≡ map (added_row (C.values cells.now)) states.old.items) }
+    ensures err { OnErr result (IsBegun
+        (map (added_row (C.values cells.now)) states.old.items) states.old.items states.new.items) }
+{
+    for state in states.iter_mut() {
+        state.add(alloc, cells.cell(state.column()))?;
+    }
+    Ok(())
+}
+
+/// Merges columns in, which stand one behind the other.
+pub fn merge_each(
+    alloc: Global,
+    states: &mut Vec<CallState>,
+    columns: &[Value],
+) -> Result<(), Memory>
+    requires { CanMergeEach states.old.items columns.now }
+    ensures ok { OnOk result (states.new.items ≡ merged_each states.old.items columns.now) }
+    ensures err { OnErr result (IsBegun
+        (merged_each states.old.items columns.now) states.old.items states.new.items) }
+{
+    let mut left = columns;
+    for state in states.iter_mut() {
+        state.merge(alloc, left)?;
+        left = behind(left, state.width());
+    }
+    Ok(())
+}
+
+/// Whether values are the columns of the calls, of a group of so many rows.
+pub fn begin_each(states: &[CallState], rows: u64, columns: &[Value]) -> bool
+    ensures { result ≡ are_all_columns rows (calls_of states.now) (kinds_of states.now) columns.now }
+{
+    let mut rest = columns;
+    for state in states {
+        if !state.begins(rows, rest) {
+            return false;
+        }
+        rest = behind(rest, state.width());
+    }
+    true
+}
+
+/// Whether a NULL stands in place of each column.
+pub fn are_each_null(states: &[CallState], columns: &[Value]) -> bool
+    ensures { result ≡ are_null (calls_of states.now) columns.now }
+{
+    let mut rest = columns;
+    for state in states {
+        if !are_null_up_to(rest, state.width()) {
+            return false;
+        }
+        rest = behind(rest, state.width());
+    }
+    true
+}
+
+/// Whether the first values are NULL.
+#[tactic(auto, using(crate::proofs::StateRules::up_to))]
+fn are_null_up_to(values: &[Value], width: usize) -> bool
+    ensures { result ≡ list_all is_null_value (take width values.now) }
+{
+    are_null_values(&values[..width.min(values.len())])
+}
+
+fn are_null_values(values: &[Value]) -> bool
+    ensures { result ≡ list_all is_null_value values.now }
+{
+    for value in values {
+        if !is_null(value.as_ref()) {
+            return false;
+        }
+    }
+    true
+}
+
+/// The values behind the first ones.
+#[tactic(auto, using(crate::proofs::StateRules::behind))]
+pub fn behind(values: &[Value], width: usize) -> &[Value]
+    ensures { result.now ≡ drop width values.now }
+{
+    if width < values.len() {
+        return &values[width..];
+    }
+    &values[values.len()..]
+}
+
+/// Appends the columns of all.
+pub fn push_all_columns(
+    alloc: Global,
+    states: &[CallState],
+    values: &mut Vec<Value>,
+) -> Result<(), Memory>
+    ensures { OnOk result (values.new.items ≡ values.old.items ++ all_columns states.now) }
+{
+    for state in states {
+        state.push_columns(alloc, values)?;
+    }
+    Ok(())
+}
+
+/// Appends a NULL in place of each column.
+pub fn push_all_nulls(states: &[CallState], values: &mut Vec<Value>) -> Result<(), Memory>
+    ensures { OnOk result (values.new.items ≡ values.old.items ++ replicate (sum_by call_width (calls_of states.now)) value_is.Null) }
+{
+    for state in states {
+        push_nulls(values, state.width())?;
+    }
+    Ok(())
+}
+
+fn push_nulls(values: &mut Vec<Value>, count: usize) -> Result<(), Memory>
+    ensures { OnOk result (values.new.items ≡ values.old.items ++ replicate count value_is.Null) }
+{
+    for _place in 0..count {
+        values.push(Value::Null)?;
+    }
+    Ok(())
+}
+
+/// The results in a group of so many rows.
+pub fn all_results(alloc: Global, states: &[CallState], rows: u64) -> Result<Vec<Value>, EvalFault>
+    requires { rows ≤ most_rows → All (IsKept rows) states.now }
+    ensures { AllAnswer (all_outcomes rows states.now) result }
+{
+    let mut values = Vec::with_capacity(alloc, states.len())?;
+    for state in states {
+        values.push(state.outcome(alloc, rows)?)?;
+    }
+    Ok(values)
+}

@@ -1,0 +1,12 @@
+pub mod MergeLemmas
+pub mod AlikeLemmas
+pub mod PartLemmas
+pub mod HeldLemmas
+pub mod TableLemmas
+pub mod PageLemmas
+pub mod RowLemmas
+pub mod ResultLemmas
+pub mod LeftLemmas
+pub mod SingleLemmas
+pub mod OperatorLemmas
+pub mod MadeLemmas

@@ -1,0 +1,54 @@
+-- What an aggregate of whole groups gives, over its calls.
+use Rattle.std.proofs.Common.{◌≡◌, ℕ, zero, suc, ◌<◌, List, [], ◌∷◌, ◌++◌, Bool, true, false, length, map, refl, ap, sym, subst, ◌∙◌, arith, append_assoc}
+use Rattle.std.specs.Prelude.{Contains, flat_map, slice_index_or}
+use Rattle.std.proofs.lemmas.List.{map-append}
+use Rattle.sql_values.specs.declared.value.Value.{Value}
+use Rattle.sql_values.specs.declared.fail.Fail.{Fail}
+use Rattle.sql_values.specs.Bags.{SameBag}
+use Rattle.relations.specs.Verdicts.{Verdict, fails, keeps, kept}
+use Rattle.bag_laws.specs.Pieces.{finals_of}
+use Rattle.bag_laws.proofs.BagLemmas.{bag_from_same, same-refl}
+use Rattle.aggregation.specs.Alike.{TellAlike, part_row, part_rows}
+use Rattle.aggregation.specs.Giving.{GroupsFail, GroupsGive, IsBegun, to_give, verdicts_with}
+use Rattle.aggregation.specs.Tables.{TableState, held_in}
+use Rattle.aggregation.proofs.AlikeLemmas.{alike-append, alike-refl, finals-alike}
+
+-- rows that were taken in are as if they were still to come
+pub verdicts-taken : (old new : TableState) (rows X : List (List Value)) → ◌≡◌ {A = TableState} (record new { keys = old.keys; partials = old.partials }) old
+    → TellAlike (length old.columns) old.calls (held_in new) (held_in old ++ part_rows old.columns old.calls rows) → verdicts_with new X ≡ verdicts_with old (rows ++ X)
+verdicts-taken old new rows X same alike =
+    let w = length old.columns in
+    let P = part_rows old.columns old.calls in
+    let columns : new.columns ≡ old.columns = ap (λ (t : TableState). t.columns) same in
+    let calls : new.calls ≡ old.calls = ap (λ (t : TableState). t.calls) same in
+    let types : new.types ≡ old.types = ap (λ (t : TableState). t.types) same in
+    (λ i. finals_of (types i) (length (columns i)) (calls i) (held_in new ++ part_rows (columns i) (calls i) X))
+    ∙ finals-alike old.types w old.calls (alike-append w old.calls alike (alike-refl w old.calls (P X)))
+    ∙ ap (finals_of old.types w old.calls)
+    (append_assoc (held_in old) (P rows) (P X) ∙ ap (λ more. held_in old ++ more) (sym (map-append (part_row old.columns old.calls) rows X)))
+
+pub kept-keeps : (rows : List (List Value)) → flat_map kept (map keeps rows) ≡ rows
+kept-keeps [] = refl
+kept-keeps (row ∷ rows) = ap (λ rs. row ∷ rs) (kept-keeps rows)
+
+-- once the output has begun it gives what it could, and no group fails
+pub begun-gives : (begun : Bool) (V W : List Verdict) (old new B : List (List Value)) → IsBegun begun V old new → GroupsGive true new W B → GroupsGive begun old V B
+begun-gives true V W old new B is g = g ∙ is
+begun-gives false V W old new B is g =
+    subst (λ (rows : List (List Value)). SameBag (flat_map kept V) rows) (ap (flat_map kept) (sym is) ∙ kept-keeps new ∙ sym g)
+    (bag_from_same (flat_map kept V) (flat_map kept V) (same-refl (flat_map kept V)))
+
+none-fails : (rows : List (List Value)) (kind : Fail) (k : ℕ) → k < length (map keeps rows) → slice_index_or (map keeps rows) k (fails kind) ≡ fails kind → ⊥
+none-fails [] kind k lt e = absurd (omega (arith, lt))
+none-fails (row ∷ rows) kind zero lt e = cc
+none-fails (row ∷ rows) kind (suc k) lt e = none-fails rows kind k (omega (arith, lt)) e
+
+pub begun-calm : (begun : Bool) (own : ℕ) (V : List Verdict) (old new : List (List Value)) (node : ℕ) (kind : Fail) → IsBegun begun V old new → GroupsFail begun own V node kind → ⊥
+begun-calm true own V old new node kind is f = f
+begun-calm false own V old new node kind is f =
+    let there : Contains (map keeps new) (fails kind) = subst (λ (vs : List Verdict). Contains vs (fails kind)) (sym is) f.1 in
+    none-fails new kind there.0 there.1 there.2
+
+pub begun-rows : (begun : Bool) (V : List Verdict) (old new : List (List Value)) → IsBegun begun V old new → to_give begun old V ≡ new
+begun-rows true V old new is = sym is
+begun-rows false V old new is = ap (flat_map kept) (sym is) ∙ kept-keeps new

@@ -1,0 +1,105 @@
+-- What operators that keep groups may give, and on what they may fail.
+use Rattle.std.specs.Prelude.{◌≡◌, ℕ, ◌<◌, ◌≤◌, List, [], ◌∷◌, ◌++◌, length, map, flat_map, Bool, true, false, All, IsTrue, Contains, Option, Some, None}
+use Rattle.sql_values.specs.declared.types.SqlType.{SqlType}
+use Rattle.sql_values.specs.declared.value.Value.{Value}
+use Rattle.sql_values.specs.declared.fail.Fail.{Fail}
+use Rattle.sql_values.specs.Bags.{SameBag}
+use Rattle.sql_values.specs.ColumnRows.{TypedRows, fits_row}
+use Rattle.col_pages.specs.Pages.{TypedPage, most_rows}
+use Rattle.operator_core.specs.Samples.{has_row}
+use Rattle.relations.specs.Verdicts.{Verdict, fails, keeps, kept}
+use Rattle.bag_laws.specs.Pieces.{finals_of}
+use Rattle.aggregation.specs.Alike.{part_rows}
+use Rattle.aggregation.specs.Held.{first_keys, first_partials}
+use Rattle.aggregation.specs.Tables.{TableState, held_in}
+
+-- what is said of each group of the rows that came and of those still to come
+abbrev pub verdicts_with : TableState → List (List Value) → List Verdict
+verdicts_with table more =
+    finals_of table.types (length table.columns) table.calls (held_in table ++ part_rows table.columns table.calls more)
+
+-- once the output has begun it is what is left; before that the rows of the groups, in any order, where
+-- groups that fail are left out
+abbrev pub GroupsGive : Bool → List (List Value) → List Verdict → List (List Value) → Type 0
+GroupsGive true left verdicts B = B ≡ left
+GroupsGive false left verdicts B = SameBag (flat_map kept verdicts) B
+
+-- a group fails so, unless the output has begun
+abbrev pub GroupsFail : Bool → ℕ → List Verdict → ℕ → Fail → Type 0
+GroupsFail true own verdicts node kind = ⊥
+GroupsFail false own verdicts node kind = (node ≡ own) × Contains verdicts (fails kind)
+
+-- the rows that it may still give, where none comes any more
+abbrev pub to_give : Bool → List (List Value) → List Verdict → List (List Value)
+to_give true left verdicts = left
+to_give false left verdicts = flat_map kept verdicts
+
+abbrev pub has_verdict : List Verdict → Bool
+has_verdict [] = false
+has_verdict (v ∷ verdicts) = true
+
+-- it has rows left, or groups of which nothing was said
+abbrev pub has_more : Bool → List (List Value) → List Verdict → Bool
+has_more true left verdicts = has_row left
+has_more false left verdicts = has_verdict verdicts
+
+-- rows of some types that are still to be given, in pages of at most so many
+pub record RowsLeft : Type 0 where
+  pub types : List SqlType
+  pub page : ℕ
+  pub rows : List (List Value)
+
+pub record AreLeft (held : TypedRows) (given page : ℕ) : Type 0 where
+  pub whole : held.begun ≡ []
+  pub within : given ≤ length held.rows
+  pub size : 0 < page
+  pub most : page ≤ most_rows
+
+abbrev pub AllFit : List SqlType → List (List Value) → Type 0
+AllFit types rows = All (λ row. IsTrue (fits_row types row)) rows
+
+-- a page of these types, whose rows fit them
+abbrev pub FitsTypes : List SqlType → TypedPage → Type 0
+FitsTypes types page = (page.types ≡ types) × AllFit types page.rows
+
+-- a page of the first rows, and what is left
+pub record IsNextPage (old : RowsLeft) (p : TypedPage) (new : RowsLeft) : Type 0 where
+  pub rows : old.rows ≡ p.rows ++ new.rows
+  pub some : 0 < length p.rows
+  pub most : length p.rows ≤ old.page
+  pub of : FitsTypes old.types p
+
+-- an aggregate of whole groups: what it holds, and what it has left to give once its output has begun
+pub record SingleState : Type 0 where
+  pub table : TableState
+  pub node : ℕ
+  pub left : RowsLeft
+  pub begun : Bool
+  pub is_told : Bool
+
+abbrev pub single_verdicts : SingleState → List (List Value) → List Verdict
+single_verdicts s more = verdicts_with s.table more
+
+-- the output has begun: none of the groups fails, and their rows are left
+abbrev pub IsBegun : Bool → List Verdict → List (List Value) → List (List Value) → Type 0
+IsBegun true verdicts old new = new ≡ old
+IsBegun false verdicts old new = map keeps new ≡ verdicts
+
+-- it has a column to give, and gives only when it was told
+pub record IsSingle (types : List SqlType) (begun is_told : Bool) : Type 0 where
+  pub some : 0 < length types
+  pub late : begun ≡ true → is_told ≡ true
+
+-- as it was made
+abbrev pub single_made : SingleState → SingleState
+single_made s = record s {
+  table = record s.table { keys = first_keys (length s.table.columns); partials = first_partials (length s.table.columns) s.table.calls };
+  left = record s.left { rows = [] };
+  begun = false;
+  is_told = false;
+}
+
+-- the next page, or none where no row is left
+abbrev pub IsGiven : RowsLeft → Option TypedPage → RowsLeft → Type 0
+IsGiven old None new = (old.rows ≡ []) × (new ≡ old)
+IsGiven old (Some page) new = IsNextPage old page new

@@ -1,0 +1,81 @@
+-- Laws of operators that keep groups.
+use Rattle.std.specs.Prelude.{◌≡◌, ◌↔◌, ℕ, List, [], ◌∷◌, ◌++◌, Bool, true, false, not, ◌&&◌, flat_map, length, map, Contains, Result, Ok, Err, refl}
+use Rattle.std.proofs.Common.{sym, ◌∙◌, subst, arith}
+use Rattle.std.proofs.lemmas.Bool.{true≢false}
+use Rattle.std.proofs.lemmas.List.Elements.{Contains-append_left, Contains-push}
+use Rattle.sql_values.specs.declared.value.Value.{Value}
+use Rattle.sql_values.specs.declared.fail.Fail.{Fail}
+use Rattle.sql_values.specs.Bags.{SameBag}
+use Rattle.operator_core.specs.Samples.{has_row}
+use Rattle.relations.specs.Groups.{grouped_row}
+use Rattle.relations.specs.Verdicts.{Verdict, kept, fails}
+use Rattle.bag_laws.specs.Weights.{SameWeights}
+use Rattle.bag_laws.proofs.BagLemmas.{bag_from_same, same-nil, same-refl, same-sym, same_from_bag}
+use Rattle.relations.specs.Partials.{results_from}
+use Rattle.bag_laws.specs.Pieces.{all_merged, behind_key, front_keys}
+use Rattle.aggregation.specs.Alike.{part_rows}
+use Rattle.aggregation.specs.Tables.{held_in}
+use Rattle.aggregation.specs.Giving.{GroupsFail, GroupsGive, SingleState, has_more, single_verdicts, to_give}
+
+pub groups-some : (begun : Bool) (left : List (List Value)) (V : List Verdict) → (B : List (List Value)) × GroupsGive begun left V B
+groups-some true left V = (left, refl)
+groups-some false left V = (flat_map kept V, bag_from_same (flat_map kept V) (flat_map kept V) (same-refl (flat_map kept V)))
+
+-- two bags have rows or both have none
+not-none : (row : List Value) (rows : List (List Value)) → (row ∷ rows) ≡ [] → ⊥
+not-none row rows e = cc
+
+bag-none : (rows B : List (List Value)) → B ≡ [] → SameBag rows B → rows ≡ []
+bag-none rows B e same = same-nil (subst (λ (C : List (List Value)). SameWeights rows C) e (same_from_bag rows B same))
+
+none-alike : (rows B : List (List Value)) → SameBag rows B → (has_row rows ≡ false) ↔ (B ≡ [])
+none-alike [] B same = ((λ e. same-nil (same-sym (same_from_bag [] B same))), (λ e. refl))
+none-alike (row ∷ rows) B same = ((λ e. cc), (λ e. absurd (not-none row rows (bag-none (row ∷ rows) B e same))))
+
+equal-alike : (rows B : List (List Value)) → B ≡ rows → (has_row rows ≡ false) ↔ (B ≡ [])
+equal-alike [] B same = ((λ e. same), (λ e. refl))
+equal-alike (row ∷ rows) B same = ((λ e. cc), (λ e. absurd (not-none row rows (sym same ∙ e))))
+
+give-alike : (begun : Bool) (left : List (List Value)) (V : List Verdict) (B : List (List Value)) → GroupsGive begun left V B → (has_row (to_give begun left V) ≡ false) ↔ (B ≡ [])
+give-alike true left V B g = equal-alike left B g
+give-alike false left V B g = none-alike (flat_map kept V) B g
+
+-- what is left where no row comes is a list of the rows that it holds
+pub groups-rest : (begun told : Bool) (left : List (List Value)) (V : List Verdict) (B : List (List Value)) → told ≡ true → GroupsGive begun left V B
+    → ((told && has_row (to_give begun left V)) ≡ false) ↔ (B ≡ [])
+groups-rest begun true left V B t g = give-alike begun left V B g
+groups-rest begun false left V B t g = cc
+
+-- each group gives a row or fails
+said : (o : Result (List Value) Fail) (key : List Value) (rest : List Verdict) (own : ℕ) → has_row (flat_map kept (grouped_row key o ∷ rest)) ≡ false
+    → ((node : ℕ) (kind : Fail) → GroupsFail false own (grouped_row key o ∷ rest) node kind → ⊥) → ⊥
+said (Ok row) key rest own none calm = absurd (true≢false none)
+said (Err kind) key rest own none calm = calm own kind (refl, Contains-append_left (fails kind ∷ []) rest (fails kind) (Contains-push [] (fails kind)))
+
+none-in : (v : Verdict) → Contains [] v → ⊥
+none-in v c = absurd (omega (arith, c.1))
+
+-- it is done where it was told, has no row and no group fails
+done-begun : (told : Bool) (left : List (List Value)) → ((told && not (has_row left)) ≡ true)
+    ↔ ((told ≡ true) × ((told && has_row left) ≡ false) × ((node : ℕ) (kind : Fail) → ⊥ → ⊥))
+done-begun true [] = ((λ e. (refl, refl, λ node kind f. f)), (λ h. refl))
+done-begun true (row ∷ rows) = ((λ e. cc), (λ h. cc (h.1)))
+done-begun false left = ((λ e. cc), (λ h. cc (h.0)))
+
+pub groups-done : (begun told : Bool) (own : ℕ) (left keys : List (List Value)) (r : List Value → Result (List Value) Fail)
+    → ((told && not (has_more begun left (map (λ k. grouped_row k (r k)) keys))) ≡ true)
+    ↔ ((told ≡ true) × ((told && has_row (to_give begun left (map (λ k. grouped_row k (r k)) keys))) ≡ false)
+    × ((node : ℕ) (kind : Fail) → GroupsFail begun own (map (λ k. grouped_row k (r k)) keys) node kind → ⊥))
+groups-done true told own left keys r = done-begun told left
+groups-done false false own left keys r = ((λ e. cc), (λ h. cc (h.0)))
+groups-done false true own left [] r = ((λ e. (refl, refl, λ node kind f. none-in (fails kind) f.1)), (λ h. refl))
+groups-done false true own left (key ∷ keys) r = ((λ e. cc), (λ h. absurd (said (r key) key (map (λ k. grouped_row k (r k)) keys) own h.1 h.2)))
+
+pub single-done : (s : SingleState)
+    → ((s.is_told && not (has_more s.begun s.left.rows (single_verdicts s []))) ≡ true)
+    ↔ ((s.is_told ≡ true) × ((s.is_told && has_row (to_give s.begun s.left.rows (single_verdicts s []))) ≡ false)
+    × ((node : ℕ) (kind : Fail) → GroupsFail s.begun s.node (single_verdicts s []) node kind → ⊥))
+single-done s =
+    let rows = held_in s.table ++ part_rows s.table.columns s.table.calls [] in
+    groups-done s.begun s.is_told s.node s.left.rows (front_keys (length s.table.columns) rows)
+    (λ key. results_from s.table.types s.table.calls (all_merged s.table.calls (behind_key (length s.table.columns) rows key)))

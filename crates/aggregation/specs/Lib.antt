@@ -1,0 +1,5 @@
+pub mod Alike
+pub mod Held
+pub mod Tables
+pub mod Giving
+pub mod GivingLaws

@@ -1,0 +1,251 @@
+ghost use Rattle.std.specs.Prelude.{◌≡◌, ◌<◌, [], ◌∷◌, ◌++◌, length, IfOk, IsTrue, MatchResult, OnOk, None, slice_index_or, slice_set};
+ghost use Rattle.sql_values.specs.Cells.{cut};
+ghost use Rattle.relations.specs.Partials.{merged, partial_of};
+ghost use Rattle.group_index.specs.Keys.{place_of};
+ghost use Rattle.accumulators.specs.Limits.{are_allowed};
+ghost use Rattle.aggregation.specs.Alike.{TellAlike, part_row, part_rows};
+ghost use Rattle.aggregation.specs.Held.{first_keys, first_partials};
+ghost use Rattle.aggregation.specs.Giving.{has_verdict, verdicts_with};
+ghost use Rattle.aggregation.specs.Tables.{AreResults, GroupFailsBy, IsKeyAt, IsOpen, IsPut, OneFailsBy, held_in, verdict_at, verdicts_of};
+
+use crate::page_row::PageRow;
+use accumulators::Accumulator;
+use col_pages::Page;
+use group_index::GroupIndex;
+use sql_exprs::Cells;
+use sql_values::{Call, ColumnRows, EvalFault, Memory, Row, SqlType, Value};
+use std::alloc::Global;
+use std::marker::Model;
+
+/// The groups of the rows that came: a key and an accumulator each.
+#[derive(Debug, Drop)]
+pub struct GroupTable {
+    alloc: Global,
+    columns: Vec<u32>,
+    calls: Vec<Call>,
+    types: Vec<SqlType>,
+    index: GroupIndex,
+    groups: Vec<Accumulator>,
+}
+
+impl Model for GroupTable {
+    ghost use Rattle.aggregation.specs.Tables.{TableState, IsTable, partials_of_groups};
+
+    ghost Value = { TableState };
+
+    ghost view = { λ t. record {
+      columns = t.columns.items;
+      calls = t.calls.items;
+      types = t.types.items;
+      keys = t.index;
+      partials = partials_of_groups t.groups.items;
+    } };
+
+    ghost invariant = { λ t.
+        IsTable t.columns.items t.calls.items t.types.items t.index t.groups.items };
+}
+
+impl GroupTable {
+    /// No row yet, of groups by these columns, for calls over rows of these types.
+    pub fn new(
+        alloc: Global,
+        columns: Vec<u32>,
+        calls: Vec<Call>,
+        types: Vec<SqlType>,
+    ) -> Result<GroupTable, Memory>
+        requires { IsTrue (are_allowed types.items calls.items) }
+        ensures { IfOk result (λ t. t ≡ record {
+          columns = columns.items;
+          calls = calls.items;
+          types = types.items;
+          keys = first_keys (length columns.items);
+          partials = first_partials (length columns.items) calls.items;
+        }) }
+    {
+        if columns.is_empty() {
+            return GroupTable::with_one_group(alloc, columns, calls, types);
+        }
+        Ok(GroupTable {
+            alloc,
+            columns,
+            calls,
+            types,
+            index: GroupIndex::new(alloc)?,
+            groups: Vec::new(alloc),
+        })
+    }
+
+    /// The same without columns: one group, also where no row comes.
+    fn with_one_group(
+        alloc: Global,
+        columns: Vec<u32>,
+        calls: Vec<Call>,
+        types: Vec<SqlType>,
+    ) -> Result<GroupTable, Memory>
+        requires allowed { IsTrue (are_allowed types.items calls.items) }
+        requires none { columns.items ≡ [] }
+        ensures { IfOk result (λ t. t ≡ record {
+          columns = [];
+          calls = calls.items;
+          types = types.items;
+          keys = first_keys 0;
+          partials = first_partials 0 calls.items;
+        }) }
+    {
+        let mut index = GroupIndex::new(alloc)?;
+        index.push(&columns, &Row::of(Vec::new(alloc)))?;
+        let mut groups = Vec::new(alloc);
+        groups.push(Accumulator::new(alloc, &calls, &types)?)?;
+        Ok(GroupTable {
+            alloc,
+            columns,
+            calls,
+            types,
+            index,
+            groups,
+        })
+    }
+
+    /// How many groups there are.
+    pub fn len(&self) -> usize
+        ensures { result ≡ length self.now.keys }
+    {
+        self.index.len()
+    }
+
+    /// Takes a row. A number of more digits than its type has is refused as `Memory`.
+    pub fn add<C: Cells>(&mut self, cells: &C) -> Result<(), Memory>
+        ensures same { record self.new { keys = self.old.keys; partials = self.old.partials } ≡ self.old }
+        ensures ok { OnOk result (TellAlike (length self.old.columns) self.old.calls (held_in self.new)
+            (held_in self.old ++ part_row self.old.columns self.old.calls (C.values cells.now) ∷ [])) }
+    {
+        let _ = &self.alloc;
+        let place = self.open(cells)?;
+        self.add_at(place, cells)
+    }
+
+    /// The place of the group of a row, which is made where there is none.
+    fn open<C: Cells>(&mut self, cells: &C) -> Result<usize, Memory>
+        ensures same { record self.new { keys = self.old.keys; partials = self.old.partials } ≡ self.old }
+        ensures ok { OnOk result (IsOpen self.old (cut self.old.columns (C.values cells.now)) self.new) }
+        ensures place { IfOk result (λ place. IsKeyAt self.new.keys place (cut self.old.columns (C.values cells.now))) }
+    {
+        match self.index.find(&self.columns, cells) {
+            Some(place) => Ok(place),
+            None => self.push(cells),
+        }
+    }
+
+    /// Makes a group of no row for the key of a row that has none.
+    fn push<C: Cells>(&mut self, cells: &C) -> Result<usize, Memory>
+        requires { None ≡ place_of self.old.keys (cut self.old.columns (C.values cells.now)) }
+        ensures same { record self.new { keys = self.old.keys; partials = self.old.partials } ≡ self.old }
+        ensures ok { OnOk result (self.new ≡ record self.old {
+          keys = self.old.keys ++ cut self.old.columns (C.values cells.now) ∷ [];
+          partials = self.old.partials ++ partial_of self.old.calls [] ∷ [];
+        }) }
+        ensures place { IfOk result (λ place. IsKeyAt self.new.keys place (cut self.old.columns (C.values cells.now))) }
+    {
+        let place = self.groups.len();
+        let group = Accumulator::new(self.alloc, &self.calls, &self.types)?;
+        self.groups.reserve(1)?;
+        self.index.push(&self.columns, cells)?;
+        self.groups.push_reserved(group);
+        Ok(place)
+    }
+
+    /// Takes a row into the group at a place.
+    fn add_at<C: Cells>(&mut self, place: usize, cells: &C) -> Result<(), Memory>
+        requires { place < length self.old.keys }
+        ensures same { record self.new { partials = self.old.partials } ≡ self.old }
+        ensures ok { OnOk result (self.new ≡ record self.old {
+          partials = slice_set self.old.partials place
+              (merged self.old.calls (slice_index_or self.old.partials place [])
+              (partial_of self.old.calls (C.values cells.now ∷ [])));
+        }) }
+    {
+        let group = &mut self.groups[place];
+        if !group.takes(cells) {
+            return Err(Memory);
+        }
+        let added = group.add(cells);
+        group.none_adds_nothing();
+        added
+    }
+
+    /// Takes the rows of a page.
+    pub fn add_page(&mut self, page: &Page) -> Result<(), Memory>
+        ensures same { record self.new { keys = self.old.keys; partials = self.old.partials } ≡ self.old }
+        ensures ok { OnOk result (TellAlike (length self.old.columns) self.old.calls (held_in self.new)
+            (held_in self.old ++ part_rows self.old.columns self.old.calls page.now.rows)) }
+    {
+        for position in 0..page.len() {
+            self.add(&PageRow { page, position })?;
+        }
+        Ok(())
+    }
+
+    /// The law that what is said of the groups is what their partial rows tell.
+    pub fn groups_are_told(&self)
+        ensures { verdicts_with self.now [] ≡ verdicts_of self.now }
+    {
+        let _ = &self.alloc;
+    }
+
+    /// Whether there is a group.
+    pub fn has_group(&self) -> bool
+        ensures { result ≡ has_verdict (verdicts_with self.now []) }
+    {
+        self.index.len() > 0
+    }
+
+    /// The row of each group, its key and the results, as columns of these types.
+    pub fn results(&self, kinds: &[SqlType]) -> Result<ColumnRows, EvalFault>
+        requires { 0 < length kinds.now }
+        ensures { MatchResult result
+            (AreResults kinds.now (verdicts_of self.now)) (OneFailsBy (verdicts_of self.now)) }
+    {
+        let mut rows = ColumnRows::new(self.alloc, kinds)?;
+        for place in 0..self.groups.len() {
+            match self.put_result(place, &mut rows) {
+                Ok(()) => {}
+                Err(fault) => return Err(fault),
+            }
+        }
+        Ok(rows)
+    }
+
+    /// Appends the row of a group.
+    fn put_result(&self, place: usize, rows: &mut ColumnRows) -> Result<(), EvalFault>
+        requires within { place < length self.now.keys }
+        requires whole { rows.old.begun ≡ [] }
+        ensures { MatchResult result
+            (λ _. IsPut rows.old rows.new (verdict_at self.now place)) (GroupFailsBy (verdict_at self.now place)) }
+    {
+        match self.groups[place].result() {
+            Ok(results) => Ok(put_group(rows, self.index.key(place), &results)?),
+            Err(fault) => Err(fault),
+        }
+    }
+}
+
+/// Appends a row: the values of a key, and then the results.
+fn put_group(rows: &mut ColumnRows, key: &Row, results: &Row) -> Result<(), Memory>
+    requires { rows.old.begun ≡ [] }
+    ensures { OnOk result (rows.new ≡ record rows.old { rows = rows.old.rows ++ (key.now ++ results.now) ∷ [] }) }
+{
+    put_all(rows, key.as_slice())?;
+    put_all(rows, results.as_slice())?;
+    if rows.end_row() { Ok(()) } else { Err(Memory) }
+}
+
+fn put_all(rows: &mut ColumnRows, values: &[Value]) -> Result<(), Memory>
+    ensures { OnOk result (rows.new ≡ record rows.old { begun = rows.old.begun ++ values.now }) }
+{
+    for value in values {
+        if !rows.put(value.as_ref())? {
+            return Err(Memory);
+        }
+    }
+    Ok(())
+}

@@ -1,0 +1,141 @@
+-- Where a key stands, by the places of its hash.
+use Rattle.std.proofs.Common.{◌≡◌, ◌≢◌, ℕ, ◌+◌, ◌<◌, ◌≤◌, zero, suc, List, [], ◌∷◌, Bool, ◌&&◌, length, get_or, drop, refl, ap, sym, subst, ◌∙◌, arith, true, false, ◌⊎◌, inl, inr}
+use Rattle.std.specs.Prelude.{All, Option, Some, None, IfSome}
+use Rattle.std.proofs.lemmas.Bool.{cases_lt, eq-eqb, eqb-true}
+use Rattle.std.proofs.lemmas.List.{get_or-map, length-map}
+use Rattle.std.proofs.lemmas.List.Elements.{All-from_get_or}
+use Rattle.sql_values.specs.declared.value.Value.{Value}
+use Rattle.relations.specs.Equality.{same_row, same_value}
+use Rattle.relations.proofs.EqualityLemmas.{same_row_decides}
+use Rattle.group_index.specs.Places.{last_below, place_before}
+use Rattle.group_index.specs.Chains.{has_hash, hash_at, last_of_hash}
+use Rattle.group_index.specs.Hashes.{hash_of}
+use Rattle.group_index.specs.Keys.{AreHashed, has_key, key_at, place_of}
+use Rattle.group_index.proofs.PlaceLemmas.{last_below-at, last_below-over, last_below-passes, last_below-skip, last_below-within}
+
+-- one more than a place, 0 for none
+abbrev pub number_of : Option ℕ → ℕ
+number_of None = 0
+number_of (Some place) = suc place
+
+number-before : (n : ℕ) → number_of (place_before n) ≡ n
+number-before zero = refl
+number-before (suc n) = refl
+
+-- the place is one, and has this hash
+abbrev pub IsPlaceOf : List ℕ → ℕ → ℕ → Type 0
+IsPlaceOf hashes hash place = (place < length hashes) × (hash_at hashes place ≡ hash)
+
+-- keys further up are passed over
+pub record IsAt (keys : List (List Value)) (hashes : List ℕ) (key : List Value) (found : Option ℕ) : Type 0 where
+  pub same : last_below (has_key keys key) (length keys) ≡ last_below (has_key keys key) (number_of found)
+  pub at : IfSome found (IsPlaceOf hashes (hash_of key))
+
+-- going on ends
+pub goes-down : (hashes : List ℕ) (hash place : ℕ) (found before : Option ℕ) → before ≡ last_of_hash hashes hash place → found ≡ Some place → number_of before < number_of found
+goes-down hashes hash place found before e f =
+    omega (arith, ap number_of e, number-before (last_below (has_hash hashes hash) place), last_below-within (has_hash hashes hash) place, ap number_of f)
+
+module _ (keys : List (List Value)) (hashes : List ℕ) (key : List Value) (hashed : AreHashed keys hashes) where
+  long : length hashes ≡ length keys
+  long = ap length hashed ∙ length-map keys hash_of
+
+  hash-key : (place : ℕ) → place < length keys → hash_at hashes place ≡ hash_of (key_at keys place)
+  hash-key place lt = ap (λ hs. hash_at hs place) hashed ∙ get_or-map hash_of keys place [] 0 lt
+
+  -- a key's hash stands where it stands
+  pub skipped : (n : ℕ) → n ≤ length keys → last_below (has_key keys key) n ≡ last_below (has_key keys key) (number_of (last_of_hash hashes (hash_of key) n))
+  skipped n le =
+      last_below-skip (has_hash hashes (hash_of key)) (has_key keys key) n
+      (λ k lt is. eq-eqb (hash_at hashes k) (hash_of key) (hash-key k (omega (arith, lt, le)) ∙ ap hash_of ((same_row_decides (key_at keys k) key).0 is)))
+      ∙ ap (last_below (has_key keys key)) (sym (number-before (last_below (has_hash hashes (hash_of key)) n)))
+
+  place-at : (n m : ℕ) → m ≡ last_below (has_hash hashes (hash_of key)) n → n ≤ length keys → IfSome (place_before m) (IsPlaceOf hashes (hash_of key))
+  place-at n zero e le = tt
+  place-at n (suc place) e le = (
+    omega (arith, e, le, long, last_below-within (has_hash hashes (hash_of key)) n),
+    eqb-true (hash_at hashes place) (hash_of key) (last_below-passes (has_hash hashes (hash_of key)) n place (sym e)),
+  )
+
+  pub is-at : (n : ℕ) → n ≤ length keys → last_below (has_key keys key) (length keys) ≡ last_below (has_key keys key) n → IsAt keys hashes key (last_of_hash hashes (hash_of key) n)
+  is-at n le same = record {
+    same = same ∙ skipped n le;
+    at = place-at n (last_below (has_hash hashes (hash_of key)) n) refl le;
+  }
+
+  pub begins-at : IsAt keys hashes key (last_of_hash hashes (hash_of key) (length hashes))
+  begins-at = ap-at (sym long)
+    where
+      ap-at : length keys ≡ length hashes → IsAt keys hashes key (last_of_hash hashes (hash_of key) (length hashes))
+      ap-at e = subst (λ (n : ℕ). IsAt keys hashes key (last_of_hash hashes (hash_of key) n)) e (is-at (length keys) (omega arith) refl)
+
+  pub goes-on : (place : ℕ) → IsAt keys hashes key (Some place) → same_row (key_at keys place) key ≡ false
+      → IsAt keys hashes key (last_of_hash hashes (hash_at hashes place) place)
+  goes-on place at other =
+      let within : place ≤ length keys = omega (arith, at.at.0, long) in
+      subst (λ (h : ℕ). IsAt keys hashes key (last_of_hash hashes h place)) (sym at.at.1)
+      (is-at place within (at.same ∙ last_below-over (has_key keys key) place other))
+
+  pub stands-at : (place : ℕ) → IsAt keys hashes key (Some place) → same_row (key_at keys place) key ≡ true → Some place ≡ place_of keys key
+  stands-at place at is = sym (ap place_before (at.same ∙ last_below-at (has_key keys key) place is))
+
+  pub stands-nowhere : IsAt keys hashes key None → None ≡ place_of keys key
+  stands-nowhere at = sym (ap place_before at.same)
+
+-- keys compared cell by cell
+pub cells-same : (key other : List Value) (i : ℕ) (v w d : Value) → i < length key → length key ≡ length other → v ≡ get_or key i v → w ≡ get_or other i d → same_value v w ≡ true
+    → same_row (drop i key) (drop i other) ≡ same_row (drop (i + 1) key) (drop (i + 1) other)
+cells-same [] other i v w d lt level e f is = absurd (omega (arith, lt))
+cells-same (x ∷ key) [] i v w d lt level e f is = absurd (omega (arith, level))
+cells-same (x ∷ key) (y ∷ other) zero v w d lt level e f is = ap (λ b. b && same_row key other) ((λ i. same_value (sym e i) (sym f i)) ∙ is)
+cells-same (x ∷ key) (y ∷ other) (suc i) v w d lt level e f is =
+    let more : suc i + 1 ≡ suc (i + 1) = omega arith in
+    cells-same key other i v w d (omega (arith, lt)) (omega (arith, level)) e f is
+    ∙ ap (λ n. same_row (drop n (x ∷ key)) (drop n (y ∷ other))) (sym more)
+
+pub cells-differ : (key other : List Value) (i : ℕ) (v w d : Value) → i < length key → length key ≡ length other → v ≡ get_or key i v → w ≡ get_or other i d → same_value v w ≡ false
+    → same_row (drop i key) (drop i other) ≡ false
+cells-differ [] other i v w d lt level e f is = absurd (omega (arith, lt))
+cells-differ (x ∷ key) [] i v w d lt level e f is = absurd (omega (arith, level))
+cells-differ (x ∷ key) (y ∷ other) zero v w d lt level e f is = ap (λ b. b && same_row key other) ((λ i. same_value (sym e i) (sym f i)) ∙ is)
+cells-differ (x ∷ key) (y ∷ other) (suc i) v w d lt level e f is = cells-differ key other i v w d (omega (arith, lt)) (omega (arith, level)) e f is
+
+pub lengths-differ : (key other : List Value) → length key ≢ length other → same_row key other ≡ false
+lengths-differ [] [] ne = absurd (ne refl)
+lengths-differ [] (y ∷ other) ne = refl
+lengths-differ (x ∷ key) [] ne = refl
+lengths-differ (x ∷ key) (y ∷ other) ne = and_right (same_value x y) (same_row key other) (lengths-differ key other (λ e. ne (omega (arith, e))))
+  where
+    and_right : (a b : Bool) → b ≡ false → (a && b) ≡ false
+    and_right true b e = e
+    and_right false b e = refl
+
+-- a key that stands nowhere, and one that stands at a place
+none-at : (test : ℕ → Bool) (n k : ℕ) (b : Bool) → test n ≡ b → last_below test (suc n) ≡ 0 → (last_below test n ≡ 0 → k < n → test k ≡ false) → k < suc n → (k < n) ⊎ (n ≤ k) → test k ≡ false
+none-at test n k true e none below lt h = absurd (omega (arith, none, last_below-at test n e))
+none-at test n k false e none below lt (inl less) = below (sym (last_below-over test n e) ∙ none) less
+none-at test n k false e none below lt (inr more) = let same : k ≡ n = omega (arith, lt, more) in ap test same ∙ e
+
+none-below : (test : ℕ → Bool) (n k : ℕ) → last_below test n ≡ 0 → k < n → test k ≡ false
+none-below test zero k none lt = absurd (omega (arith, lt))
+none-below test (suc n) k none lt = none-at test n k (test n) refl none (none-below test n k) lt (cases_lt k n)
+
+number-of_none : (n : ℕ) → None ≡ place_before n → n ≡ 0
+number-of_none zero e = refl
+number-of_none (suc n) e = cc
+
+number-of_some : (n place : ℕ) → Some place ≡ place_before n → n ≡ suc place
+number-of_some zero place e = cc
+number-of_some (suc n) place e = ap number_of (sym e)
+
+pub none-stands : (keys : List (List Value)) (key : List Value) → None ≡ place_of keys key → All (λ other. same_row other key ≡ false) keys
+none-stands keys key none =
+    All-from_get_or (λ other. same_row other key ≡ false) keys []
+    (λ k lt. none-below (has_key keys key) (length keys) k (number-of_none (last_below (has_key keys key) (length keys)) none) lt)
+
+pub stands-there : (keys : List (List Value)) (key : List Value) (place : ℕ) → Some place ≡ place_of keys key → (place < length keys) × (key_at keys place ≡ key)
+stands-there keys key place is =
+    let e : last_below (has_key keys key) (length keys) ≡ suc place = number-of_some (last_below (has_key keys key) (length keys)) place is in (
+      omega (arith, e, last_below-within (has_key keys key) (length keys)),
+      (same_row_decides (key_at keys place) key).0 (last_below-passes (has_key keys key) (length keys) place e),
+    )

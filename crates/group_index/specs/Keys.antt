@@ -1,0 +1,21 @@
+-- Keys, each at a place, and where one stands.
+use Rattle.std.specs.Prelude.{◌≡◌, ℕ, List, [], length, map, slice_index_or, Bool, Option}
+use Rattle.sql_values.specs.declared.value.Value.{Value}
+use Rattle.relations.specs.Equality.{same_row}
+use Rattle.group_index.specs.Hashes.{hash_of}
+use Rattle.group_index.specs.Places.{last_below, place_before}
+
+abbrev pub key_at : List (List Value) → ℕ → List Value
+key_at keys place = slice_index_or keys place []
+
+-- the key stands at the place
+abbrev pub has_key : List (List Value) → List Value → ℕ → Bool
+has_key keys key place = same_row (key_at keys place) key
+
+-- the last place of a key, if it has one
+abbrev pub place_of : List (List Value) → List Value → Option ℕ
+place_of keys key = place_before (last_below (has_key keys key) (length keys))
+
+-- each key has its hash at its place
+abbrev pub AreHashed : List (List Value) → List ℕ → Type 0
+AreHashed keys hashes = hashes ≡ map hash_of keys

@@ -4,3 +4,4 @@ pub mod StoppedLemmas
 pub mod SnocLemmas
 pub mod OperatorLemmas
 pub mod ProbeLemmas
+pub mod LookupLemmas

@@ -16,7 +16,8 @@
 //!   node may fail so
 //! - `operators_go_on`, `operators_make`, `operators_fail`: the same premises in terms of any operators that are the
 //!   stages, as a driver knows of them
-//! - `probes_look_up`: an operator that gives the join with what its note knows is the stage of that join
+//! - `probes_look_up`: an operator that gives the join with what its note knows is the stage of that join, and
+//!   `probe_ops_probe`: `ProbeOp` is such an operator (`specs/Lookups.antt`)
 #![tactic(auto)]
 
 mod laws;

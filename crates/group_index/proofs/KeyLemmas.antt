@@ -9,7 +9,7 @@ use Rattle.relations.specs.Equality.{same_row, same_value}
 use Rattle.relations.proofs.EqualityLemmas.{same_row_decides}
 use Rattle.group_index.specs.Places.{last_below, place_before}
 use Rattle.group_index.specs.Chains.{has_hash, hash_at, last_of_hash}
-use Rattle.group_index.specs.Hashes.{hash_of}
+use Rattle.cell_hashes.specs.Hashes.{hash_of}
 use Rattle.group_index.specs.Keys.{AreHashed, has_key, key_at, place_of}
 use Rattle.group_index.proofs.PlaceLemmas.{last_below-at, last_below-over, last_below-passes, last_below-skip, last_below-within}
 

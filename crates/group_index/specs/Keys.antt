@@ -2,7 +2,7 @@
 use Rattle.std.specs.Prelude.{◌≡◌, ℕ, List, [], length, map, slice_index_or, Bool, Option}
 use Rattle.sql_values.specs.declared.value.Value.{Value}
 use Rattle.relations.specs.Equality.{same_row}
-use Rattle.group_index.specs.Hashes.{hash_of}
+use Rattle.cell_hashes.specs.Hashes.{hash_of}
 use Rattle.group_index.specs.Places.{last_below, place_before}
 
 abbrev pub key_at : List (List Value) → ℕ → List Value

@@ -1,4 +1,3 @@
 pub mod Places
 pub mod Chains
-pub mod Hashes
 pub mod Keys

@@ -4,7 +4,7 @@ use Rattle.std.proofs.lemmas.List.{get_or_read, length-map}
 use Rattle.relations.specs.Equality.{same_row}
 use Rattle.sql_values.specs.Cells.{cut}
 use Rattle.group_index.specs.Chains.{hash_at, last_of_hash}
-use Rattle.group_index.specs.Hashes.{hash_of}
+use Rattle.cell_hashes.specs.Hashes.{hash_of}
 use Rattle.group_index.specs.Keys.{key_at}
 use Rattle.group_index.proofs.KeyLemmas.{IsAt, begins-at, goes-down, goes-on}
 use Rattle.group_index.proofs.index.GroupIndex.find.Goals as goal

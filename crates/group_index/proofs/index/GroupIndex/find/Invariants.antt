@@ -1,6 +1,6 @@
 use Rattle.std.proofs.Common.{map}
 use Rattle.sql_values.specs.Cells.{cut}
-use Rattle.group_index.specs.Hashes.{hash_of}
+use Rattle.cell_hashes.specs.Hashes.{hash_of}
 use Rattle.group_index.proofs.KeyLemmas.{IsAt, number_of}
 use Rattle.group_index.proofs.index.GroupIndex.find.Given as goal
 

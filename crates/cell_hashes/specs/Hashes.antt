@@ -26,5 +26,9 @@ abbrev pub hash_values : ℕ → List Value → ℕ
 hash_values hash [] = hash
 hash_values hash (v ∷ vs) = hash_values (hash_value hash v) vs
 
+-- the hash of no value
+abbrev pub no_value : ℕ
+no_value = 14695981039346656037
+
 abbrev pub hash_of : List Value → ℕ
-hash_of values = hash_values 14695981039346656037 values
+hash_of values = hash_values no_value values

@@ -63,6 +63,8 @@ fn is_built(op: OpWord) -> bool
             | OpWord::Values
             | OpWord::Filter
             | OpWord::Project
+            | OpWord::Join
+            | OpWord::Aggregate
             | OpWord::Sort
             | OpWord::TopN
             | OpWord::Limit

@@ -320,8 +320,16 @@ ROOT | {'id':2,'op':'topn','step':'SINGLE','count':1,'keys':[{'column':0,'order'
 ROOT | {'id':2,'op':'topn','step':'PARTIAL','count':1,'keys':[{'column':0,'order':'DESC'}],'input':SCAN} | 10 /fragments/0/root/step\n\
 ROOT | {'id':2,'op':'topn','step':'FINAL','input':{'id':3,'op':'remote','fragment':9}} | 10 /fragments/0/root/step\n\
 ROOT | {'id':2,'op':'values','types':['bigint','date'],'rows':[['1',null],[null,'2000-01-01']]} | 0\n\
-ROOT | {'id':2,'op':'aggregate','step':'SINGLE','keys':[0],'calls':[],'input':SCAN} | 10 /fragments/0/root/op\n\
-ROOT | {'id':2,'op':'join','kind':'INNER','on':[[0,0]],'left':SCAN,'right':{'id':3,'op':'scan','table':'t','columns':['a']}} | 10 /fragments/0/root/op\n\
+ROOT | {'id':2,'op':'aggregate','step':'SINGLE','keys':[0],'calls':[],'input':SCAN} | 0\n\
+ROOT | {'id':2,'op':'aggregate','step':'SINGLE','keys':[],'calls':[{'name':'count_all'},{'name':'sum','column':0}],'input':SCAN} | 0\n\
+ROOT | {'id':2,'op':'aggregate','step':'SINGLE','keys':[],'calls':[],'input':SCAN} | 3 /fragments/0/root/calls\n\
+ROOT | {'id':2,'op':'aggregate','step':'PARTIAL','keys':[0],'calls':[],'input':SCAN} | 10 /fragments/0/root/step\n\
+ROOT | {'id':2,'op':'aggregate','step':'FINAL','input':{'id':3,'op':'remote','fragment':9}} | 10 /fragments/0/root/step\n\
+ROOT | {'id':2,'op':'join','kind':'INNER','on':[[0,0]],'left':SCAN,'right':{'id':3,'op':'scan','table':'t','columns':['a']}} | 0\n\
+ROOT | {'id':2,'op':'join','kind':'LEFT','on':[[0,0]],'left':SCAN,'right':{'id':3,'op':'scan','table':'t','columns':['a']},'filters':[]} | 0\n\
+ROOT | {'id':2,'op':'join','kind':'INNER','on':[[0,0]],'left':SCAN,'right':{'id':3,'op':'scan','table':'t','columns':['a']},'filters':[{'id':0,'key':0,'scan':1,'column':0,'wait':false}]} | 10 /fragments/0/root/filters\n\
+ROOT | {'id':2,'op':'join','kind':'INNER','on':[[0,0]],'left':SCAN,'right':{'id':3,'op':'remote','fragment':9},'filters':[{'id':0,'key':0,'scan':1,'column':0,'wait':false}]} | 10 /fragments/0/root/right/op\n\
+ROOT | {'id':2,'op':'join','kind':'INNER','on':[[0,0]],'left':{'id':3,'op':'union','left':SCAN,'right':{'id':4,'op':'scan','table':'t','columns':['a']}},'right':{'id':5,'op':'remote','fragment':9}} | 10 /fragments/0/root/left/op\n\
 ROOT | {'id':2,'op':'union','left':SCAN,'right':{'id':3,'op':'scan','table':'t','columns':['a']}} | 10 /fragments/0/root/op\n\
 ROOT | {'id':2,'op':'filter','predicate':{'col':0},'input':{'id':3,'op':'remote','fragment':9}} | 10 /fragments/0/root/input/op\n\
 ROOT | {'id':2,'op':'scan','table':'z','columns':['a']} | 4 /fragments/0/root/table\n\

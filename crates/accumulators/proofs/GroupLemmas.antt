@@ -1,9 +1,9 @@
 -- A group with the rows of a part, what its partial row tells, and that it is one.
 use Rattle.std.proofs.Common.{◌≡◌, ℕ, ◌+◌, ◌^◌, ◌<◌, ◌≤◌, zero, suc, List, [], ◌∷◌, ◌++◌, length, get_or, drop, take, map, refl, ap, sym, subst, ◌∙◌, arith, drop_at, ◌⊎◌, inl, inr}
-use Rattle.std.specs.Prelude.{All, Bool, IsTrue, flat_map, replicate, sum_by, Result, Ok, Err, OnOk, OnErr, nat_le, int_le, pos, ◌&&◌, true, if◌then◌else◌}
+use Rattle.std.specs.Prelude.{All, Bool, IsTrue, flat_map, replicate, sum_by, Result, Ok, Err, OnOk, OnErr, nat_abs, nat_le, int_le, pos, ◌&&◌, true, if◌then◌else◌}
 use Rattle.std.specs.List.{list_all}
 use Rattle.std.proofs.lemmas.Bool.{and_from, and_parts, cases_lt, le-leb, lt-leb}
-use Rattle.std.proofs.lemmas.List.{append_assoc, drop-map, drop-replicate, map-append, replicate-append-replicate, take-append-drop, take-map, take-replicate, take_more}
+use Rattle.std.proofs.lemmas.List.{append_assoc, drop-map, drop-replicate, length-map, map-append, replicate-append-replicate, take-append-drop, take-map, take-replicate, take_more}
 use Rattle.std.proofs.lemmas.List.Sums.{sum_by-append, sum_by-cons}
 use Rattle.std.proofs.lemmas.List.Elements.{All-cons, All-head, All-nil, All-tail}
 use Rattle.sql_values.specs.declared.types.SqlType.{SqlType}
@@ -13,6 +13,7 @@ use Rattle.sql_values.specs.declared.fail.Fail.TheVariants.{OutOfRange}
 use Rattle.sql_values.specs.declared.relational.Call.{Call}
 use Rattle.sql_values.specs.declared.relational.Call.TheVariants.{CountAll, Count, Sum, Min, Max, Avg}
 use Rattle.sql_values.specs.Cells.{cell}
+use Rattle.sql_values.specs.Order.{number_in}
 use Rattle.sql_functions.specs.Outcomes.{Outcome}
 use Rattle.sql_functions.specs.Truth.{is_null}
 use Rattle.relations.specs.Aggregates.{all_values, most_rows, within_rows}
@@ -23,6 +24,7 @@ use Rattle.accumulators.specs.Kept.{IsBegun, Kept, added_row, kept_of_none, all_
 use Rattle.accumulators.specs.Limits.{CanAdd, CanMergeEach, IsKept, takes_row, are_all_columns, are_columns, are_null, is_partial, is_row_count}
 use Rattle.accumulators.specs.Groups.{Group, IsGroup, all_outcomes, empty_group, group_kept, with_part, with_row}
 use Rattle.accumulators.proofs.ColumnLemmas.{calls-merged, columns-merged, columns_of_row, first, first_two, kinds-merged, rows-merged, width-columns}
+use Rattle.accumulators.proofs.CellLemmas.{behind_first, first_cell}
 use Rattle.accumulators.proofs.KeptLemmas.{all-more, begun-kept, columns-can_merge, columns-kept, row-can_add, row-kept}
 
 -- how many rows a group's partial row tells
@@ -181,9 +183,10 @@ none-kept types (call ∷ calls) =
     All-cons (IsKept 0) (kept_of_none types call) (map (kept_of_none types) calls)
     (record { width = width-columns call []; within = none-fits types call }) (none-kept types calls)
 
-pub none-group : (types : List SqlType) (calls : List Call) (ks : List Kept) → ks ≡ map (kept_of_none types) calls → IsGroup 0 ks
-none-group types calls ks e = record {
+pub none-group : (types : List SqlType) (calls : List Call) (ks : List Kept) → ks ≡ map (kept_of_none types) calls → length calls ≤ 2 ^ 20 → IsGroup 0 ks
+none-group types calls ks e few_calls = record {
   few = omega arith;
+  few_calls = omega (arith, ap length e, length-map calls (kept_of_none types), few_calls);
   all_kept = λ few. subst (λ (xs : List Kept). All (IsKept 0) xs) (sym e) (none-kept types calls);
 }
 
@@ -225,6 +228,32 @@ columns-of calls kinds part few h =
     let parts = and_parts (is_row_count (cell part 0)) (if nat_le (rows_in part) most_rows then are_all_columns (rows_in part) calls kinds (drop 1 part) else are_null calls (drop 1 part)) h in
     ap (λ (b : Bool). if b then are_all_columns (rows_in part) calls kinds (drop 1 part) else are_null calls (drop 1 part)) (sym (le-leb (rows_in part) most_rows few)) ∙ parts.1
 
+-- what a row has from a column on, by its first cell
+module _ (calls : List Call) (kinds : List SqlType) (row : List Value) (first rows : ℕ) (v : Value) (told : Bool) (is : v ≡ cell row first) (count : IsTrue (is_row_count v)) (number : rows ≡ nat_abs (number_in v)) where
+  rows-here : rows ≡ rows_in (drop first row)
+  rows-here = number ∙ ap (λ (x : Value). nat_abs (number_in x)) (is ∙ first_cell row first)
+
+  part-here : (columns : Bool) → told ≡ columns → columns ≡ (if nat_le (rows_in (drop first row)) most_rows then are_all_columns (rows_in (drop first row)) calls kinds (drop 1 (drop first row)) else are_null calls (drop 1 (drop first row)))
+      → told ≡ is_partial calls kinds (drop first row)
+  part-here columns e f =
+      let part = drop first row in
+      e ∙ f ∙ ap (λ (b : Bool). b && (if nat_le (rows_in part) most_rows then are_all_columns (rows_in part) calls kinds (drop 1 part) else are_null calls (drop 1 part)))
+      (sym (ap is_row_count (sym (is ∙ first_cell row first)) ∙ count))
+
+  pub few-told : rows ≤ most_rows → told ≡ are_all_columns rows calls kinds (drop (first + 1) row) → told ≡ is_partial calls kinds (drop first row)
+  few-told few e =
+      let part = drop first row in
+      part-here (are_all_columns rows calls kinds (drop (first + 1) row)) e
+      ((λ i. are_all_columns (rows-here i) calls kinds (behind_first row first i))
+      ∙ ap (λ (b : Bool). if b then are_all_columns (rows_in part) calls kinds (drop 1 part) else are_null calls (drop 1 part)) (sym (le-leb (rows_in part) most_rows (omega (arith, few, rows-here)))))
+
+  pub many-told : most_rows < rows → told ≡ are_null calls (drop (first + 1) row) → told ≡ is_partial calls kinds (drop first row)
+  many-told many e =
+      let part = drop first row in
+      part-here (are_null calls (drop (first + 1) row)) e
+      (ap (are_null calls) (behind_first row first)
+      ∙ ap (λ (b : Bool). if b then are_all_columns (rows_in part) calls kinds (drop 1 part) else are_null calls (drop 1 part)) (sym (lt-leb (rows_in part) most_rows (omega (arith, many, rows-here)))))
+
 -- whatever was merged in, the calls and what they add are the same
 begun-stays : {X : Type 0} (f : Kept → X) (aimed before now : List Kept) → map f aimed ≡ map f before → IsBegun aimed before now → map f now ≡ map f before
 begun-stays f aimed before now same (n, e) =
@@ -251,6 +280,9 @@ add-stays ks now row r ok err =
     merge-stays ks now (columns_of_row row ks) r
     (subst (λ (xs : List Kept). OnOk r (now ≡ xs)) e ok) (subst (λ (xs : List Kept). OnErr r (IsBegun xs ks now)) e err)
 
+same-few : (ks now : List Kept) → calls_of now ≡ calls_of ks → length ks ≤ 2 ^ 20 → length now ≤ 2 ^ 20
+same-few ks now same few = omega (arith, few, ap length same, length-map ks (λ (k : Kept). k.call), length-map now (λ (k : Kept). k.call))
+
 module _ (a : ℕ) (ks now : List Kept) (g : Group) (view : group_kept a ks ≡ g) (is : IsGroup a ks) where
   takes-view : (row : List Value) → IsTrue (takes_row g.calls g.kinds row) → IsTrue (takes_row (calls_of ks) (kinds_of ks) row)
   takes-view row h = ap (λ (x : Group). takes_row x.calls x.kinds row) view ∙ h
@@ -273,6 +305,7 @@ module _ (a : ℕ) (ks now : List Kept) (g : Group) (view : group_kept a ks ≡ 
       → OnOk r (now ≡ map (added_row row) ks) → OnErr r (IsBegun (map (added_row row) ks) ks now) → IsGroup rows now
   group-added row r rows e few h ok err = record {
     few = omega (arith, e, few);
+    few_calls = same-few ks now (add-stays ks now row r ok err).0 is.few_calls;
     all_kept = λ less. subst (λ (n : ℕ). All (IsKept n) now) (sym e) (after-adding row r few h ok err);
   }
 
@@ -302,6 +335,7 @@ module _ (a : ℕ) (ks now : List Kept) (g : Group) (view : group_kept a ks ≡ 
       → OnOk r (now ≡ merged_each ks columns) → OnErr r (IsBegun (merged_each ks columns) ks now) → IsGroup rows now
   group-merged part columns r rows c e few h ok err = record {
     few = omega (arith, e, few);
+    few_calls = same-few ks now (merge-stays ks now columns r ok err).0 is.few_calls;
     all_kept = λ less. subst (λ (n : ℕ). All (IsKept n) now) (sym e)
         (after-merging part r few h
         (subst (λ (cs : List Value). OnOk r (now ≡ merged_each ks cs)) c ok)

@@ -1,11 +1,13 @@
 -- That there is room in memory for what is added to what is kept of a call.
 use Rattle.std.proofs.Common.{◌≡◌, ℕ, ◌+◌, ◌*◌, ◌^◌, ◌≤◌, ◌<◌, List, [], ◌∷◌, length, ap, sym, subst, ◌∙◌, arith}
 use Rattle.std.specs.Prelude.{Option, ℤ, pos, filter, IsTrue}
+use Rattle.std.proofs.lemmas.Bool.{and_parts}
 use Rattle.sql_values.specs.declared.types.SqlType.{SqlType}
 use Rattle.sql_values.specs.declared.value.Value.{Value}
 use Rattle.sql_values.specs.declared.value.Value.TheVariants.{Bigint}
 use Rattle.sql_values.specs.declared.relational.Call.TheVariants as call_is
 use Rattle.sql_values.specs.Cells.{cell}
+use Rattle.sql_functions.specs.CallTypes.{is_decimal}
 use Rattle.relations.specs.Aggregates.{count_of, most_rows}
 use Rattle.relations.specs.Equality.{is_present}
 use Rattle.relations.specs.Partials.{partial_sum}
@@ -31,6 +33,10 @@ rows_at_held held is k rows view e m = subst (λ (x : Kept). IsKept rows x) (sym
 
 pub short_at_held : (held is : Held) → held ≡ is → IsTrue (can_add (kept held).kind (kept held).call) → IsTrue (can_add (kept is).kind (kept is).call)
 short_at_held held is e h = subst (λ (x : Held). IsTrue (can_add (kept x).kind (kept x).call)) e h
+
+pub short_average : (held : Held) (column : ℕ) (kind : SqlType) (sum : Option ℤ) (count : ℕ) → held ≡ Avg column kind sum count → IsTrue (can_add (kept held).kind (kept held).call)
+    → IsTrue (is_short kind)
+short_average held column kind sum count e h = (and_parts (is_decimal kind) (is_short kind) (short_at_held held (Avg column kind sum count) e h)).1
 
 two_sums : (kind : SqlType) (own others : ℕ) (sum : Option ℤ) (v : Value) → IsTrue (is_short kind) → own + others ≤ most_rows
     → IsTrue (is_sum (own * greatest kind) (sum_cell sum)) → IsTrue (is_sum (others * greatest kind) v) → magnitude sum + magnitude (summand v) < 2 ^ 127

@@ -1,6 +1,6 @@
 -- A group as its accumulator keeps it.
 use Rattle.std.specs.Global.{Vec}
-use Rattle.std.specs.Prelude.{◌≡◌, ℕ, ◌^◌, ◌≤◌, List, [], ◌∷◌, map, All, Result, Ok, Err, MatchResult}
+use Rattle.std.specs.Prelude.{◌≡◌, ℕ, ◌^◌, ◌≤◌, List, [], ◌∷◌, length, map, All, Result, Ok, Err, MatchResult}
 use Rattle.sql_values.specs.declared.types.SqlType.{SqlType}
 use Rattle.sql_values.specs.declared.value.Value.{Value}
 use Rattle.sql_values.specs.declared.fail.Fail.{Fail}
@@ -41,6 +41,7 @@ group_kept rows kept = record {
 
 pub record IsGroup (rows : ℕ) (kept : List Kept) : Type 0 where
   pub few : rows ≤ 2 ^ 63
+  pub few_calls : length kept ≤ 2 ^ 20
   pub all_kept : rows ≤ most_rows → All (IsKept rows) kept
 
 -- the fault tells this failure, or memory was wanting

@@ -9,7 +9,7 @@ use Rattle.sql_values.specs.declared.relational.Call.{Call}
 use Rattle.sql_values.specs.declared.relational.Call.TheVariants.{CountAll, Count, Sum, Min, Max, Avg}
 use Rattle.sql_values.specs.Cells.{cell}
 use Rattle.sql_values.specs.Order.{number_in}
-use Rattle.sql_functions.specs.CallTypes.{is_bigint, type_at}
+use Rattle.sql_functions.specs.CallTypes.{is_bigint, is_decimal, type_at}
 use Rattle.sql_functions.specs.Truth.{is_null}
 use Rattle.relations.specs.Aggregates.{most_rows}
 use Rattle.relations.specs.Partials.{call_width, rows_in}
@@ -26,10 +26,10 @@ abbrev pub is_short : SqlType → Bool
 is_short (type.Decimal p s) = nat_le p 18
 is_short kind = is_bigint kind
 
--- whether a call can be made over numbers of the type
+-- whether a call can be made over numbers of the type: an average over decimals alone
 abbrev pub can_add : SqlType → Call → Bool
 can_add kind (Sum column) = is_short kind
-can_add kind (Avg column) = is_short kind
+can_add kind (Avg column) = is_decimal kind && is_short kind
 can_add kind call = true
 
 -- whether the calls can be made over rows of these types

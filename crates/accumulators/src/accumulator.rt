@@ -1,4 +1,4 @@
-ghost use Rattle.std.specs.Prelude.{◌≡◌, ◌≤◌, ◌^◌, [], List, IfOk, IsTrue, OnOk, map, nat_abs};
+ghost use Rattle.std.specs.Prelude.{◌≡◌, ◌≤◌, ◌^◌, [], List, IfOk, IsTrue, OnOk, map, nat_abs, drop};
 ghost use Rattle.sql_values.specs.declared.types.SqlType.{SqlType};
 ghost use Rattle.sql_values.specs.Cells.{lent_value};
 ghost use Rattle.sql_values.specs.Order.{number_in};
@@ -9,14 +9,17 @@ ghost use Rattle.accumulators.specs.Limits.{are_allowed, is_partial, is_row_coun
 
 use crate::call_state::CallState;
 use crate::call_states::{
-    add_each, all_results, are_each_null, begin_each, behind, empty_states, merge_each,
-    push_all_columns, push_all_nulls, take_row,
+    add_each, all_results, are_each_null, begin_each, empty_states, merge_each, push_all_columns,
+    push_all_nulls, take_row,
 };
-use crate::limits::{MOST_ROWS, value_at};
+use crate::limits::MOST_ROWS;
 use sql_exprs::Cells;
 use sql_values::{Call, EvalFault, Memory, Row, SqlType, Value, ValueRef};
 use std::alloc::Global;
 use std::marker::Model;
+
+/// The most calls of a group, so that 32 bits count the columns of a partial row.
+const MOST_CALLS: usize = 1_048_576;
 
 /// The state of one group. After an answer `Memory` of `add` or `merge` it is not used again.
 #[derive(Debug, Drop)]
@@ -37,11 +40,15 @@ impl Model for Accumulator {
 }
 
 impl Accumulator {
-    /// A group of no row, for calls over rows of these types.
+    /// A group of no row, for calls over rows of these types. More than 2^20 calls are answered with want of
+    /// memory.
     pub fn new(alloc: Global, calls: &[Call], types: &[SqlType]) -> Result<Accumulator, Memory>
         requires { IsTrue (are_allowed types.now calls.now) }
         ensures { IfOk result (λ a. a ≡ empty_group types.now calls.now) }
     {
+        if MOST_CALLS < calls.len() {
+            return Err(Memory);
+        }
         Ok(Accumulator {
             alloc,
             rows: 0,
@@ -69,20 +76,21 @@ impl Accumulator {
         add_each(self.alloc, &mut self.states, cells)
     }
 
-    /// Whether a row is a partial row that the group can take. It is asked of values that have the types
-    /// of such a row; `part` gives no others.
-    pub fn takes_part(&self, part: &[Value]) -> bool
-        ensures { result ≡ is_partial self.now.calls self.now.kinds part.now }
+    /// Whether what a row has from a column on is a partial row that the group can take. It is asked of cells
+    /// that have the types of such a row; `part` gives no others.
+    pub fn takes_part<C: Cells>(&self, cells: &C, first: u32) -> bool
+        requires { first ≤ 2 ^ 31 }
+        ensures { result ≡ is_partial self.now.calls self.now.kinds (drop first (C.values cells.now)) }
     {
-        let count = value_at(part, 0);
+        let count = cells.cell(first);
         if !is_row_count(count) {
             return false;
         }
         let rows = row_count(count);
         if rows <= MOST_ROWS {
-            return begin_each(&self.states, rows, behind(part, 1));
+            return begin_each(&self.states, rows, cells, first + 1);
         }
-        are_each_null(&self.states, behind(part, 1))
+        are_each_null(&self.states, cells, first + 1)
     }
 
     /// Takes the rows of another part of the group, by their partial row.
@@ -91,21 +99,22 @@ impl Accumulator {
         ensures ok { OnOk result (self.new ≡ with_part self.old part.now) }
         ensures same { (self.new.calls ≡ self.old.calls) × (self.new.kinds ≡ self.old.kinds) }
     {
-        self.merge_values(part.as_slice())
+        self.merge_cells(part, 0)
     }
 
-    /// The same, for the values of a partial row.
-    pub fn merge_values(&mut self, part: &[Value]) -> Result<(), Memory>
-        requires { IsTrue (is_partial self.old.calls self.old.kinds part.now) }
-        ensures ok { OnOk result (self.new ≡ with_part self.old part.now) }
+    /// The same, for what a row has from a column on.
+    pub fn merge_cells<C: Cells>(&mut self, cells: &C, first: u32) -> Result<(), Memory>
+        requires near { first ≤ 2 ^ 31 }
+        requires takes { IsTrue (is_partial self.old.calls self.old.kinds (drop first (C.values cells.now))) }
+        ensures ok { OnOk result (self.new ≡ with_part self.old (drop first (C.values cells.now))) }
         ensures same { (self.new.calls ≡ self.old.calls) × (self.new.kinds ≡ self.old.kinds) }
     {
-        let more = row_count(value_at(part, 0));
+        let more = row_count(cells.cell(first));
         self.rows = self.rows.saturating_add(more).min(MOST_ROWS + 1);
         if MOST_ROWS < self.rows {
             return Ok(());
         }
-        merge_each(self.alloc, &mut self.states, behind(part, 1))
+        merge_each(self.alloc, &mut self.states, cells, first + 1)
     }
 
     /// The group's partial row.

@@ -1,4 +1,4 @@
-ghost use Rattle.std.specs.Prelude.{◌≡◌, ◌++◌, ◌∷◌, [], ◌≤◌, IsTrue, OnOk, OnErr, MatchResult};
+ghost use Rattle.std.specs.Prelude.{◌≡◌, ◌++◌, ◌∷◌, [], ◌≤◌, IsTrue, OnOk, OnErr, MatchResult, drop, ◌<◌, ◌-◌, ◌^◌};
 ghost use Rattle.sql_values.specs.Cells.{lent_value};
 ghost use Rattle.sql_functions.specs.CallTypes.{type_at as type_of};
 ghost use Rattle.sql_functions.specs.Outcomes.{FailsBy};
@@ -9,12 +9,11 @@ ghost use Rattle.accumulators.specs.Kept.{added_cell, kept_of_none, merged_kept,
 ghost use Rattle.accumulators.specs.Limits.{CanMerge, IsKept, are_columns, can_add, takes_cell};
 
 use crate::firsts::keep_first;
-use crate::limits::{
-    MOST_ROWS, are_sum_and_count, greatest, is_count, is_number_of, is_sum, value_at,
-};
+use crate::limits::{MOST_ROWS, are_sum_and_count, greatest, is_count, is_number_of, is_sum};
 use crate::sums::{
     add_cell, add_count, add_sum, average_result, count_cell, sum_result, sum_value,
 };
+use sql_exprs::Cells;
 use sql_values::{Call, EvalFault, Fail, Memory, Order, SqlType, Value, ValueRef};
 use std::alloc::Global;
 use std::marker::Model;
@@ -116,7 +115,7 @@ impl CallState {
     }
 
     /// How many columns the call has in a partial row.
-    pub fn width(&self) -> usize
+    pub fn width(&self) -> u32
         ensures { result ≡ call_width self.now.call }
     {
         match &self.held {
@@ -143,11 +142,13 @@ impl CallState {
         }
     }
 
-    /// Whether values begin with columns of the call, of a group of so many rows.
-    pub fn begins(&self, rows: u64, columns: &[Value]) -> bool
-        ensures { result ≡ are_columns rows self.now.kind self.now.call columns.now }
+    /// Whether a row has columns of the call from a place on, of a group of so many rows.
+    #[tactic(auto, using(crate::proofs::CellRules::from_place))]
+    pub fn begins<C: Cells>(&self, rows: u64, cells: &C, place: u32) -> bool
+        requires { place < 2 ^ 32 - 1 }
+        ensures { result ≡ are_columns rows self.now.kind self.now.call (drop place (C.values cells.now)) }
     {
-        let first = value_at(columns, 0);
+        let first = cells.cell(place);
         match &self.held {
             Held::CountAll => true,
             Held::Count { .. } => is_count(rows, first),
@@ -155,7 +156,7 @@ impl CallState {
             Held::Min { .. } => true,
             Held::Max { .. } => true,
             Held::Avg { kind, .. } => {
-                are_sum_and_count(rows, greatest(*kind), first, value_at(columns, 1))
+                are_sum_and_count(rows, greatest(*kind), first, cells.cell(place + 1))
             }
         }
     }
@@ -187,13 +188,15 @@ impl CallState {
         }
     }
 
-    /// Merges the columns in that some values begin with.
-    pub fn merge(&mut self, alloc: Global, columns: &[Value]) -> Result<(), Memory>
-        requires { CanMerge self.old columns.now }
-        ensures ok { OnOk result (self.new ≡ merged_kept self.old columns.now) }
+    /// Merges the columns in that a row has from a place on.
+    #[tactic(auto, using(crate::proofs::CellRules::from_place))]
+    pub fn merge<C: Cells>(&mut self, alloc: Global, cells: &C, place: u32) -> Result<(), Memory>
+        requires place { place < 2 ^ 32 - 1 }
+        requires can { CanMerge self.old (drop place (C.values cells.now)) }
+        ensures ok { OnOk result (self.new ≡ merged_kept self.old (drop place (C.values cells.now))) }
         ensures err { OnErr result (self.new ≡ self.old) }
     {
-        let first = value_at(columns, 0);
+        let first = cells.cell(place);
         match &mut self.held {
             Held::CountAll => Ok(()),
             Held::Count { count, .. } => {
@@ -208,7 +211,7 @@ impl CallState {
             Held::Max { most, .. } => keep_first(alloc, Order::Descending, most, first),
             Held::Avg { sum, count, .. } => {
                 add_sum(sum, first);
-                add_count(count, value_at(columns, 1));
+                add_count(count, cells.cell(place + 1));
                 Ok(())
             }
         }

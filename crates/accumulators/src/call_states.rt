@@ -1,4 +1,4 @@
-ghost use Rattle.std.specs.Prelude.{◌≡◌, ◌≤◌, ◌++◌, All, IfOk, IsTrue, OnOk, OnErr, drop, flat_map, map, replicate, sum_by, take};
+ghost use Rattle.std.specs.Prelude.{◌≡◌, ◌≤◌, ◌++◌, All, IfOk, IsTrue, OnOk, OnErr, drop, flat_map, map, replicate, sum_by, take, length, ◌^◌, ◌+◌, ◌<◌};
 ghost use Rattle.sql_values.specs.declared.value.Value.TheVariants as value_is;
 ghost use Rattle.std.specs.List.{list_all};
 ghost use Rattle.sql_functions.specs.Truth.{is_null as is_null_value};
@@ -59,81 +59,71 @@ pub fn add_each<C: Cells>(
     Ok(())
 }
 
-/// Merges columns in, which stand one behind the other.
-pub fn merge_each(
+/// Merges columns in, which stand one behind the other in a row, from a place on.
+pub fn merge_each<C: Cells>(
     alloc: Global,
     states: &mut Vec<CallState>,
-    columns: &[Value],
+    cells: &C,
+    first: u32,
 ) -> Result<(), Memory>
-    requires { CanMergeEach states.old.items columns.now }
-    ensures ok { OnOk result (states.new.items ≡ merged_each states.old.items columns.now) }
-    ensures err { OnErr result (IsBegun
-        (merged_each states.old.items columns.now) states.old.items states.new.items) }
+    requires few { length states.old.items ≤ 2 ^ 20 }
+    requires near { first ≤ 2 ^ 31 + 1 }
+    requires can { CanMergeEach states.old.items (drop first (C.values cells.now)) }
+    ensures ok { OnOk result (states.new.items ≡ merged_each states.old.items (drop first (C.values cells.now))) }
+    ensures err { OnErr result (IsBegun (merged_each states.old.items (drop first (C.values cells.now)))
+        states.old.items states.new.items) }
 {
-    let mut left = columns;
+    let mut place = first;
     for state in states.iter_mut() {
-        state.merge(alloc, left)?;
-        left = behind(left, state.width());
+        state.merge(alloc, cells, place)?;
+        place += state.width();
     }
     Ok(())
 }
 
-/// Whether values are the columns of the calls, of a group of so many rows.
-pub fn begin_each(states: &[CallState], rows: u64, columns: &[Value]) -> bool
-    ensures { result ≡ are_all_columns rows (calls_of states.now) (kinds_of states.now) columns.now }
+/// Whether a row has the columns of the calls from a place on, of a group of so many rows.
+pub fn begin_each<C: Cells>(states: &[CallState], rows: u64, cells: &C, first: u32) -> bool
+    requires few { length states.now ≤ 2 ^ 20 }
+    requires near { first ≤ 2 ^ 31 + 1 }
+    ensures { result ≡ are_all_columns rows (calls_of states.now) (kinds_of states.now) (drop first (C.values cells.now)) }
 {
-    let mut rest = columns;
+    let mut place = first;
     for state in states {
-        if !state.begins(rows, rest) {
+        if !state.begins(rows, cells, place) {
             return false;
         }
-        rest = behind(rest, state.width());
+        place += state.width();
     }
     true
 }
 
-/// Whether a NULL stands in place of each column.
-pub fn are_each_null(states: &[CallState], columns: &[Value]) -> bool
-    ensures { result ≡ are_null (calls_of states.now) columns.now }
+/// Whether NULL stands in place of each column.
+pub fn are_each_null<C: Cells>(states: &[CallState], cells: &C, first: u32) -> bool
+    requires few { length states.now ≤ 2 ^ 20 }
+    requires near { first ≤ 2 ^ 31 + 1 }
+    ensures { result ≡ are_null (calls_of states.now) (drop first (C.values cells.now)) }
 {
-    let mut rest = columns;
+    let mut place = first;
     for state in states {
-        if !are_null_up_to(rest, state.width()) {
+        if !are_null_cells(cells, place, state.width()) {
             return false;
         }
-        rest = behind(rest, state.width());
+        place += state.width();
     }
     true
 }
 
-/// Whether the first values are NULL.
-#[tactic(auto, using(crate::proofs::StateRules::up_to))]
-fn are_null_up_to(values: &[Value], width: usize) -> bool
-    ensures { result ≡ list_all is_null_value (take width values.now) }
+/// Whether some cells from a place on are NULL.
+fn are_null_cells<C: Cells>(cells: &C, first: u32, width: u32) -> bool
+    requires { first + width < 2 ^ 32 }
+    ensures { result ≡ list_all is_null_value (take width (drop first (C.values cells.now))) }
 {
-    are_null_values(&values[..width.min(values.len())])
-}
-
-fn are_null_values(values: &[Value]) -> bool
-    ensures { result ≡ list_all is_null_value values.now }
-{
-    for value in values {
-        if !is_null(value.as_ref()) {
+    for place in first..first + width {
+        if !is_null(cells.cell(place)) {
             return false;
         }
     }
     true
-}
-
-/// The values behind the first ones.
-#[tactic(auto, using(crate::proofs::StateRules::behind))]
-pub fn behind(values: &[Value], width: usize) -> &[Value]
-    ensures { result.now ≡ drop width values.now }
-{
-    if width < values.len() {
-        return &values[width..];
-    }
-    &values[values.len()..]
 }
 
 /// Appends the columns of all.
@@ -155,7 +145,7 @@ pub fn push_all_nulls(states: &[CallState], values: &mut Vec<Value>) -> Result<(
     ensures { OnOk result (values.new.items ≡ values.old.items ++ replicate (sum_by call_width (calls_of states.now)) value_is.Null) }
 {
     for state in states {
-        push_nulls(values, state.width())?;
+        push_nulls(values, state.width() as usize)?;
     }
     Ok(())
 }

@@ -1,9 +1,9 @@
 ghost use Rattle.std.specs.Prelude.{◌≡◌, ◌≤◌, ◌^◌, IsTrue};
-ghost use Rattle.sql_values.specs.Cells.{cell, lent_value};
+ghost use Rattle.sql_values.specs.Cells.{lent_value};
 ghost use Rattle.accumulators.specs.Limits.{are_sum_and_count as are_sum_and_count_of, counts_sum as counts_sum_of, greatest as greatest_of, is_count as is_count_of, is_number_of as is_number_of_type, is_short, is_sum as is_sum_of};
 
 use crate::sums::{count_in, summand};
-use sql_values::{SqlType, Value, ValueRef};
+use sql_values::{SqlType, ValueRef};
 
 /// The most rows that a group may have.
 pub const MOST_ROWS: u64 = 9_223_372_036_854_775_807;
@@ -72,14 +72,4 @@ pub fn are_sum_and_count(rows: u64, most: u128, sum: ValueRef<'_>, count: ValueR
     is_count(rows, count)
         && is_sum(u128::from(rows) * most, sum)
         && counts_sum(most, summand(sum), count_in(count))
-}
-
-/// The value at a place: NULL past the last one.
-pub fn value_at(values: &[Value], place: usize) -> ValueRef<'_>
-    ensures { lent_value result ≡ cell values.now place }
-{
-    match values.get(place) {
-        Some(value) => value.as_ref(),
-        None => ValueRef::Null,
-    }
 }

@@ -138,13 +138,13 @@ fn parts_are_merged(rt: HostRuntime) -> Result<(), EvalFault> {
     let alloc = rt.alloc();
     let calls = [Call::CountAll, Call::Count(0), Call::Sum(0), Call::Max(0)];
     let part = group(alloc, WHOLE, &calls, whole(alloc, &[5, 7])?)?.part()?;
-    let mut all = group(alloc, WHOLE, &calls, whole(alloc, &[6])?)?;
+    let mut all = group(alloc, WHOLE, &calls, Vec::new(alloc))?;
     for _time in 0..2 {
-        if all.takes_part(part.as_slice()) {
+        if all.takes_part(&part, 0) {
             all.merge(&part)?;
         }
     }
-    assert_eq!(rt; told(alloc, &all)?.as_str(), "8d 5 30d 7 8 5 30 7 ");
+    assert_eq!(rt; told(alloc, &all)?.as_str(), "6d 4 24d 7 6 4 24 7 ");
     Ok(())
 }
 
@@ -157,6 +157,6 @@ fn what_no_group_can_take_is_told(rt: HostRuntime) -> Result<(), EvalFault> {
     let mut values = Vec::new(alloc);
     values.push(Value::Decimal(1))?;
     values.push(Value::Decimal(1000))?;
-    assert_eq!(rt; long.takes_part(values.as_slice()), false);
+    assert_eq!(rt; long.takes_part(&Row::of(values), 0), false);
     Ok(())
 }

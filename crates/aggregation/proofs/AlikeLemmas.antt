@@ -8,12 +8,14 @@ use Rattle.sql_values.specs.declared.value.Value.{Value}
 use Rattle.sql_values.specs.declared.relational.Call.{Call}
 use Rattle.relations.specs.Equality.{same_row}
 use Rattle.relations.specs.Groups.{distinct, grouped_row}
-use Rattle.relations.specs.Partials.{merged, results_from}
+use Rattle.relations.specs.Partials.{merged, partial_of, results_from}
 use Rattle.relations.proofs.EqualityLemmas.{same_row_decides}
 use Rattle.bag_laws.specs.Pieces.{all_merged, behind_key, finals_of, front_keys}
 use Rattle.bag_laws.proofs.DistinctLemmas.{distinct-append, distinct-filter}
+use Rattle.relations.specs.Verdicts.{keeps}
 use Rattle.aggregation.specs.Alike.{TellAlike, merged_rows}
-use Rattle.aggregation.proofs.MergeLemmas.{merged-append, merged-first}
+use Rattle.aggregation.specs.Giving.{part_verdicts}
+use Rattle.aggregation.proofs.MergeLemmas.{merged-append, merged-first, merged-none}
 
 module _ (width : ℕ) (calls : List Call) where
   pub alike-refl : (A : List (List Value)) → TellAlike width calls A A
@@ -96,6 +98,22 @@ module _ (width : ℕ) (calls : List Call) where
         merged = λ k. told-first k key p q R wide (same_row k key) refl;
       }
 
+  -- the partial row of no row adds nothing before another
+  told-none : (k key q : List Value) → length key ≡ width → (b : Bool) → same_row k key ≡ b
+      → all_merged calls (behind_key width ((key ++ partial_of calls []) ∷ (key ++ q) ∷ []) k) ≡ all_merged calls (behind_key width ((key ++ q) ∷ []) k)
+  told-none k key q wide true e =
+      let X = behind_key width ((key ++ q) ∷ []) k in
+      ap (all_merged calls) (behind-here k key (partial_of calls []) ((key ++ q) ∷ []) wide e) ∙ merged-none calls X
+  told-none k key q wide false e = ap (all_merged calls) (behind-other k key (partial_of calls []) ((key ++ q) ∷ []) wide e)
+
+  pub alike-none : (key q : List Value) → length key ≡ width → TellAlike width calls ((key ++ partial_of calls []) ∷ (key ++ q) ∷ []) ((key ++ q) ∷ [])
+  alike-none key q wide = record {
+    keys = (λ i. distinct same_row (take_at key (partial_of calls []) width wide i ∷ take_at key q width wide i ∷ []))
+        ∙ twice key []
+        ∙ ap (λ k. distinct same_row (k ∷ [])) (sym (take_at key q width wide));
+    merged = λ k. told-none k key q wide (same_row k key) refl;
+  }
+
   pub alike-cons : (r : List Value) {A B : List (List Value)} → TellAlike width calls A B → TellAlike width calls (r ∷ A) (r ∷ B)
   alike-cons r s = alike-append (alike-refl (r ∷ [])) s
 
@@ -110,3 +128,6 @@ finals-alike types width calls {A} {B} s =
 
 pub merged_rows-alike : (width : ℕ) (calls : List Call) {A B : List (List Value)} → TellAlike width calls A B → merged_rows width calls A ≡ merged_rows width calls B
 merged_rows-alike width calls {A} {B} s = λ i. map (λ key. key ++ s.merged key i) (front_at A B width s.keys i)
+
+pub parts-alike : (width : ℕ) (calls : List Call) {A B : List (List Value)} → TellAlike width calls A B → part_verdicts width calls A ≡ part_verdicts width calls B
+parts-alike width calls {A} {B} s = λ i. map (λ key. keeps (key ++ s.merged key i)) (front_at A B width s.keys i)

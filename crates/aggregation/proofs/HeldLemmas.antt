@@ -13,6 +13,8 @@ use Rattle.relations.specs.Partials.{merged, results_from}
 use Rattle.relations.proofs.EqualityLemmas.{same_row_decides}
 use Rattle.bag_laws.specs.Pieces.{all_merged, behind_key, finals_of, front_keys}
 use Rattle.aggregation.specs.Alike.{AreApart, TellAlike, merged_rows}
+use Rattle.relations.specs.Verdicts.{keeps}
+use Rattle.aggregation.specs.Giving.{part_verdicts}
 use Rattle.aggregation.specs.Held.{AreHeld, HasFirst, IsTold, group_verdicts, held_rows, of_each}
 use Rattle.aggregation.proofs.AlikeLemmas.{alike-cons, alike-first, behind-append, behind-here, behind-other}
 
@@ -131,3 +133,6 @@ module _ (width : ℕ) (calls : List Call) (keys partials : List (List Value)) (
 
   pub merged_rows-held : merged_rows width calls (held_rows keys partials) ≡ held_rows keys partials
   merged_rows-held = each-held (λ key partial. key ++ partial)
+
+  pub parts-held : part_verdicts width calls (held_rows keys partials) ≡ of_each (λ key partial. keeps (key ++ partial)) keys partials
+  parts-held = each-held (λ key partial. keeps (key ++ partial))

@@ -10,3 +10,6 @@ pub mod LeftLemmas
 pub mod SingleLemmas
 pub mod OperatorLemmas
 pub mod MadeLemmas
+pub mod FitLemmas
+pub mod FinalLemmas
+pub mod PartFitLemmas

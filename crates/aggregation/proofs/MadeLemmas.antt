@@ -1,52 +1,74 @@
--- `SingleAgg` as it was made.
-use Rattle.std.proofs.Common.{◌≡◌, ℕ, List, Bool, false, length, ap, sym, subst, ◌∙◌}
-use Rattle.std.specs.Prelude.{◌↔◌, Contains, IfOk, Result, Ok, Err, flat_map}
+-- Operators as they were made.
+use Rattle.std.proofs.Common.{◌≡◌, ℕ, List, [], ◌∷◌, ◌++◌, Bool, true, false, length, map, refl, ap, sym, subst, ◌∙◌}
+use Rattle.std.specs.Prelude.{◌↔◌, Contains, flat_map}
 use Rattle.sql_values.specs.declared.types.SqlType.{SqlType}
 use Rattle.sql_values.specs.declared.value.Value.{Value}
 use Rattle.sql_values.specs.declared.fail.Fail.{Fail}
 use Rattle.sql_values.specs.declared.relational.Call.{Call}
 use Rattle.sql_values.specs.Bags.{SameBag}
 use Rattle.col_pages.specs.Pages.{TypedPage}
-use Rattle.relations.specs.Groups.{groups_of}
-use Rattle.relations.specs.Verdicts.{Verdict, fails, kept}
-use Rattle.aggregation.specs.Giving.{FitsTypes, GroupsFail, GroupsGive, RowsLeft, SingleState, single_verdicts}
-use Rattle.aggregation.specs.Held.{first_keys, first_partials}
-use Rattle.aggregation.proofs.PartLemmas.{made_verdicts}
+use Rattle.relations.specs.Groups.{grouped_row, groups_of}
+use Rattle.relations.specs.Partials.{results_from}
+use Rattle.relations.specs.Verdicts.{Verdict, fails, keeps, kept}
+use Rattle.bag_laws.specs.Pieces.{all_merged, behind_key, finals_of, front_keys, partials_of}
+use Rattle.aggregation.specs.Alike.{part_rows}
+use Rattle.aggregation.specs.Giving.{FitsTypes, GroupsFail, GroupsGive, GroupsState, has_more, has_verdict, merged_with, no_groups, parts_with, verdicts_with}
+use Rattle.aggregation.specs.Held.{first_rows}
+use Rattle.aggregation.specs.Tables.{held_in}
+use Rattle.aggregation.proofs.PartLemmas.{finals-first, made_verdicts, merged_rows-first, partials-are}
 
-pub if_ok-weaker : {A E : Type 0} {P Q : A → Type 0} (r : Result A E) → ((a : A) → P a → Q a) → IfOk r P → IfOk r Q
-if_ok-weaker (Ok a) weaker p = weaker a p
-if_ok-weaker (Err e) weaker p = tt
+each-kept : (said : List Value → List Value) (keys : List (List Value)) → flat_map kept (map (λ key. keeps (said key)) keys) ≡ map said keys
+each-kept said [] = refl
+each-kept said (key ∷ keys) = ap (λ rows. said key ∷ rows) (each-kept said keys)
 
-module _ (columns : List ℕ) (calls : List Call) (types : List SqlType) (node : ℕ) (left : RowsLeft) (op : SingleState)
-    (made : op ≡ record {
-      table = record { columns = columns; calls = calls; types = types; keys = first_keys (length columns); partials = first_partials (length columns) calls };
-      node = node;
-      left = left;
-      begun = false;
-      is_told = false;
-    }) where
-  said : (X : List (List Value)) → single_verdicts op X ≡ groups_of types columns calls X
-  said X = ap (λ (s : SingleState). single_verdicts s X) made ∙ made_verdicts types columns calls X
+-- there is a row for each group, whatever is said of it
+some-said : (f h : List Value → Verdict) (keys : List (List Value)) → has_verdict (map f keys) ≡ has_verdict (map h keys)
+some-said f h [] = refl
+some-said f h (key ∷ keys) = refl
 
-  unbegun : op.begun ≡ false
-  unbegun = ap (λ (s : SingleState). s.begun) made
+more-at : (g : GroupsState) (begun more : Bool) → begun ≡ false → more ≡ has_verdict (verdicts_with g.table []) → more ≡ has_more begun g.left.rows (parts_with g.table [])
+more-at g true more e is = cc
+more-at g false more e is =
+    let w = length g.table.columns in
+    let rows = held_in g.table ++ part_rows g.table.columns g.table.calls [] in
+    is ∙ some-said (λ key. grouped_row key (results_from g.table.types g.table.calls (all_merged g.table.calls (behind_key w rows key))))
+    (λ key. keeps (key ++ all_merged g.table.calls (behind_key w rows key))) (front_keys w rows)
 
-  pub made-gives : (X B : List (List Value)) → GroupsGive op.begun op.left.rows (single_verdicts op X) B ↔ SameBag (flat_map kept (groups_of types columns calls X)) B
-  made-gives X B = (
-    (λ g. subst (λ (V : List Verdict). SameBag (flat_map kept V) B) (said X) (subst (λ (b : Bool). GroupsGive b op.left.rows (single_verdicts op X) B) unbegun g)),
-    (λ g. subst (λ (b : Bool). GroupsGive b op.left.rows (single_verdicts op X) B) (sym unbegun) (subst (λ (V : List Verdict). SameBag (flat_map kept V) B) (sym (said X)) g)),
+pub more-parts : (g : GroupsState) (more : Bool) → g.begun ≡ false → more ≡ has_verdict (verdicts_with g.table []) → more ≡ has_more g.begun g.left.rows (parts_with g.table [])
+more-parts g more e is = more-at g g.begun more e is
+
+-- groups of no row of which is said what is said of all that comes
+module _ (columns : List ℕ) (calls : List Call) (types given : List SqlType) (page : ℕ) (g : GroupsState) (made : g ≡ no_groups columns calls types given page) where
+  unbegun : g.begun ≡ false
+  unbegun = ap (λ (s : GroupsState). s.begun) made
+
+  pub none-gives : (V W : List Verdict) (rows : List (List Value)) (B : List (List Value)) → V ≡ W → flat_map kept W ≡ rows → GroupsGive g.begun g.left.rows V B ↔ SameBag rows B
+  none-gives V W rows B said is = (
+    (λ h. subst (λ (R : List (List Value)). SameBag R B) (ap (flat_map kept) said ∙ is) (subst (λ (b : Bool). GroupsGive b g.left.rows V B) unbegun h)),
+    (λ h. subst (λ (b : Bool). GroupsGive b g.left.rows V B) (sym unbegun) (subst (λ (R : List (List Value)). SameBag R B) (sym (ap (flat_map kept) said ∙ is)) h)),
   )
 
-  pub made-fails : (X : List (List Value)) (n : ℕ) (kind : Fail) → GroupsFail op.begun op.node (single_verdicts op X) n kind ↔ ((n ≡ node) × Contains (groups_of types columns calls X) (fails kind))
-  made-fails X n kind =
-      let own : op.node ≡ node = ap (λ (s : SingleState). s.node) made in (
-        (λ f. subst (λ (V : List Verdict). GroupsFail false node V n kind) (said X) (subst (λ (b : Bool). GroupsFail b node (single_verdicts op X) n kind) unbegun
-            (subst (λ (m : ℕ). GroupsFail op.begun m (single_verdicts op X) n kind) own f))),
-        (λ f. subst (λ (m : ℕ). GroupsFail op.begun m (single_verdicts op X) n kind) (sym own)
-            (subst (λ (b : Bool). GroupsFail b node (single_verdicts op X) n kind) (sym unbegun) (subst (λ (V : List Verdict). GroupsFail false node V n kind) (sym (said X)) f))),
-      )
+  pub none-fails : (own : ℕ) (V W : List Verdict) (node : ℕ) (kind : Fail) → V ≡ W → GroupsFail g.begun own V node kind ↔ ((node ≡ own) × Contains W (fails kind))
+  none-fails own V W node kind said = (
+    (λ f. subst (λ (v : List Verdict). GroupsFail false own v node kind) said (subst (λ (b : Bool). GroupsFail b own V node kind) unbegun f)),
+    (λ f. subst (λ (b : Bool). GroupsFail b own V node kind) (sym unbegun) (subst (λ (v : List Verdict). GroupsFail false own v node kind) (sym said) f)),
+  )
 
-  pub made-pages : (given : List SqlType) → left.types ≡ given → (page : TypedPage) → FitsTypes op.left.types page ↔ FitsTypes given page
-  made-pages given is page =
-      let same : op.left.types ≡ given = ap (λ (s : SingleState). s.left.types) made ∙ is in
-      ((λ f. subst (λ (ts : List SqlType). FitsTypes ts page) same f), (λ f. subst (λ (ts : List SqlType). FitsTypes ts page) (sym same) f))
+  pub none-said : (X : List (List Value)) → verdicts_with g.table X ≡ groups_of types columns calls X
+  none-said X = ap (λ (s : GroupsState). verdicts_with s.table X) made ∙ made_verdicts types columns calls X
+
+  pub none-pages : (kinds : List SqlType) → given ≡ kinds → (p : TypedPage) → FitsTypes g.left.types p ↔ FitsTypes kinds p
+  none-pages kinds is p =
+      let same : g.left.types ≡ kinds = ap (λ (s : GroupsState). s.left.types) made ∙ is in
+      ((λ f. subst (λ (ts : List SqlType). FitsTypes ts p) same f), (λ f. subst (λ (ts : List SqlType). FitsTypes ts p) (sym same) f))
+
+  pub none-parts : (X : List (List Value)) → flat_map kept (parts_with g.table X) ≡ partials_of columns calls X
+  none-parts X =
+      let w = length columns in
+      let rows = first_rows w calls ++ part_rows columns calls X in
+      ap (λ (s : GroupsState). flat_map kept (parts_with s.table X)) made
+      ∙ each-kept (λ key. key ++ all_merged calls (behind_key w rows key)) (front_keys w rows)
+      ∙ merged_rows-first w calls (part_rows columns calls X) ∙ partials-are columns calls X
+
+  pub none-merged : (X : List (List Value)) → merged_with g.table X ≡ finals_of types (length columns) calls X
+  none-merged X = ap (λ (s : GroupsState). merged_with s.table X) made ∙ finals-first types (length columns) calls X

@@ -1,15 +1,16 @@
--- The clauses of `SingleAgg` as an operator.
+-- What operators that keep groups answer.
 use Rattle.std.proofs.Common.{◌≡◌, ℕ, List, [], ◌++◌, Bool, true, false, refl, ap, sym, subst, ◌∙◌}
 use Rattle.std.specs.Prelude.{◌↔◌, Contains, Option, Some, None, Result, Ok, Err}
 use Rattle.sql_values.specs.declared.value.Value.{Value}
 use Rattle.sql_values.specs.declared.fail.Fail.{Fail}
 use Rattle.col_pages.specs.Pages.{TypedPage}
 use Rattle.operator_core.specs.declared.fault.OpFault.{OpFault}
-use Rattle.operator_core.specs.declared.fault.OpFault.TheVariants.{Expr, Memory}
+use Rattle.operator_core.specs.declared.fault.OpFault.TheVariants.{Expr}
 use Rattle.operator_core.specs.Rows.{Coming}
-use Rattle.operator_core.specs.Answers.{NotMemory, gave}
+use Rattle.operator_core.specs.Answers.{gave}
 use Rattle.relations.specs.Verdicts.{Verdict, fails}
-use Rattle.aggregation.specs.Giving.{GroupsFail, GroupsGive, IsBegun, IsGiven, RowsLeft, SingleState, single_verdicts}
+use Rattle.aggregation.specs.Giving.{GroupsFail, GroupsGive, GroupsState, IsBegun, IsGiven, RowsLeft}
+use Rattle.aggregation.specs.Tables.{TableState}
 use Rattle.aggregation.proofs.SingleLemmas.{begun-calm, begun-gives}
 
 none-comes : (told : Bool) (X : List (List Value)) → told ≡ true → Coming told X → X ≡ []
@@ -20,38 +21,48 @@ given-left : (old new : RowsLeft) (o : Option TypedPage) → IsGiven old o new �
 given-left old new None g = ap (λ (l : RowsLeft). l.rows) g.1
 given-left old new (Some page) g = sym g.rows
 
-module _ (old mid new : SingleState) (told : old.is_told ≡ true)
+-- groups whose output has begun, where `said` is what is said of them with rows still to come
+module _ (said : TableState → List (List Value) → List Verdict) (old mid new : GroupsState) (told : old.is_told ≡ true)
     (middle : mid ≡ record old { begun = true; left = record old.left { rows = mid.left.rows } })
-    (begun : IsBegun old.begun (single_verdicts old []) old.left.rows mid.left.rows)
+    (begun : IsBegun old.begun (said old.table []) old.left.rows mid.left.rows)
     (later : new ≡ record mid { left = record mid.left { rows = new.left.rows } }) where
   has-begun : new.begun ≡ true
-  has-begun = ap (λ (s : SingleState). s.begun) later ∙ ap (λ (s : SingleState). s.begun) middle
+  has-begun = ap (λ (s : GroupsState). s.begun) later ∙ ap (λ (s : GroupsState). s.begun) middle
 
-  pub got-gives : (o : Option TypedPage) (X B : List (List Value)) → IsGiven mid.left o new.left → Coming old.is_told X → GroupsGive new.begun new.left.rows (single_verdicts new X) B
-      → GroupsGive old.begun old.left.rows (single_verdicts old X) (gave (Ok o) ++ B)
+  pub got-gives : (o : Option TypedPage) (X B : List (List Value)) → IsGiven mid.left o new.left → Coming old.is_told X → GroupsGive new.begun new.left.rows (said new.table X) B
+      → GroupsGive old.begun old.left.rows (said old.table X) (gave (Ok o) ++ B)
   got-gives o X B given come g =
       let empty : X ≡ [] = none-comes old.is_told X told come in
-      let left : B ≡ new.left.rows = subst (λ (b : Bool). GroupsGive b new.left.rows (single_verdicts new X) B) has-begun g in
+      let left : B ≡ new.left.rows = subst (λ (b : Bool). GroupsGive b new.left.rows (said new.table X) B) has-begun g in
       let whole : gave (Ok o) ++ B ≡ mid.left.rows = ap (λ rows. gave (Ok o) ++ rows) left ∙ given-left mid.left new.left o given in
-      subst (λ (Y : List (List Value)). GroupsGive old.begun old.left.rows (single_verdicts old Y) (gave (Ok o) ++ B)) (sym empty)
-      (begun-gives old.begun (single_verdicts old []) [] old.left.rows mid.left.rows (gave (Ok o) ++ B) begun whole)
+      subst (λ (Y : List (List Value)). GroupsGive old.begun old.left.rows (said old.table Y) (gave (Ok o) ++ B)) (sym empty)
+      (begun-gives old.begun (said old.table []) [] old.left.rows mid.left.rows (gave (Ok o) ++ B) begun whole)
 
-  pub got-fails : (X : List (List Value)) (node : ℕ) (kind : Fail) → Coming old.is_told X
-      → GroupsFail new.begun new.node (single_verdicts new X) node kind ↔ GroupsFail old.begun old.node (single_verdicts old X) node kind
-  got-fails X node kind come = (
-    (λ f. absurd (subst (λ (b : Bool). GroupsFail b new.node (single_verdicts new X) node kind) has-begun f)),
-    (λ f. absurd (begun-calm old.begun old.node (single_verdicts old []) old.left.rows mid.left.rows node kind begun
-        (subst (λ (Y : List (List Value)). GroupsFail old.begun old.node (single_verdicts old Y) node kind) (none-comes old.is_told X told come) f))),
+  pub got-fails : (own : ℕ) (X : List (List Value)) (node : ℕ) (kind : Fail) → Coming old.is_told X
+      → GroupsFail new.begun own (said new.table X) node kind ↔ GroupsFail old.begun own (said old.table X) node kind
+  got-fails own X node kind come = (
+    (λ f. absurd (subst (λ (b : Bool). GroupsFail b own (said new.table X) node kind) has-begun f)),
+    (λ f. absurd (begun-calm old.begun own (said old.table []) old.left.rows mid.left.rows node kind begun
+        (subst (λ (Y : List (List Value)). GroupsFail old.begun own (said old.table Y) node kind) (none-comes old.is_told X told come) f))),
+  )
+
+-- groups that took rows, of which is said what was said of them with these rows still to come
+module _ (old new : GroupsState) (V W : List Verdict) (begun : new.begun ≡ old.begun) (left : new.left ≡ old.left) (said : V ≡ W) where
+  pub took-gives : (B : List (List Value)) → GroupsGive new.begun new.left.rows V B → GroupsGive old.begun old.left.rows W B
+  took-gives B g =
+      subst (λ (b : Bool). GroupsGive b old.left.rows W B) begun
+      (subst (λ (l : RowsLeft). GroupsGive new.begun l.rows W B) left (subst (λ (v : List Verdict). GroupsGive new.begun new.left.rows v B) said g))
+
+  pub took-fails : (own node : ℕ) (kind : Fail) → GroupsFail new.begun own V node kind ↔ GroupsFail old.begun own W node kind
+  took-fails own node kind = (
+    (λ f. subst (λ (b : Bool). GroupsFail b own W node kind) begun (subst (λ (v : List Verdict). GroupsFail new.begun own v node kind) said f)),
+    (λ f. subst (λ (v : List Verdict). GroupsFail new.begun own v node kind) (sym said) (subst (λ (b : Bool). GroupsFail b own W node kind) (sym begun) f)),
   )
 
 -- where a group failed, something fails
-pub failed-none : (own : ℕ) (begun told : Bool) (V : List Verdict) (fault : OpFault) {H : Type 0} → told ≡ true
-    → ((node : ℕ) (kind : Fail) → fault ≡ Expr node kind → (begun ≡ false) × (node ≡ own) × Contains V (fails kind))
-    → NotMemory {A = Option TypedPage} (Err fault)
-    → (◌≡◌ {A = Result (Option TypedPage) OpFault} (Err fault) (Ok None)) ↔ (H × (told ≡ true → (node : ℕ) (kind : Fail) → GroupsFail begun own V node kind → ⊥))
-failed-none own begun told V Memory t fails_so n = absurd n
-failed-none own begun told V (Expr node kind) t fails_so n =
-    let f = fails_so node kind refl in (
-      (λ e. cc),
-      (λ h. absurd (h.1 t node kind (subst (λ (b : Bool). GroupsFail b own V node kind) (sym f.0) (f.1, f.2)))),
-    )
+pub failed-none : (at own : ℕ) (begun told : Bool) (V : List Verdict) (kind : Fail) {H : Type 0} → at ≡ own → told ≡ true → (begun ≡ false) × Contains V (fails kind)
+    → (◌≡◌ {A = Result (Option TypedPage) OpFault} (Err (Expr at kind)) (Ok None)) ↔ (H × (told ≡ true → (node : ℕ) (kind : Fail) → GroupsFail begun own V node kind → ⊥))
+failed-none at own begun told V kind same t f = (
+  (λ e. cc),
+  (λ h. absurd (h.1 t own kind (subst (λ (b : Bool). GroupsFail b own V own kind) (sym f.0) (refl, f.1)))),
+)

@@ -17,11 +17,25 @@ use Rattle.accumulators.specs.Columns.{kind_in}
 use Rattle.accumulators.specs.Groups.{Group, RowFailsBy}
 use Rattle.aggregation.specs.Tables.{AreResults, GroupFailsBy, IsPut, IsTable, OneFailsBy, TableState, held_in, partials_of_groups, verdict_at, verdicts_of}
 use Rattle.bag_laws.specs.Pieces.{finals_of}
-use Rattle.aggregation.specs.Giving.{has_verdict, verdicts_with}
-use Rattle.aggregation.specs.Held.{AreHeld}
-use Rattle.aggregation.proofs.HeldLemmas.{finals-held}
+use Rattle.aggregation.specs.Giving.{has_verdict, part_verdicts, parts_with, verdicts_with}
+use Rattle.aggregation.specs.Held.{AreHeld, of_each}
+use Rattle.aggregation.proofs.HeldLemmas.{finals-held, parts-held}
 use Rattle.aggregation.proofs.RowLemmas.{each-at, each-long}
 use Rattle.aggregation.proofs.TableLemmas.{group-there}
+
+-- the row of the next verdict
+put-at : (vs : List Verdict) (kinds : List SqlType) (place : ℕ) (old new : TypedRows) (v : Verdict) → get_or vs place v ≡ v → place < length vs
+    → AreResults kinds (take place vs) old → IsPut old new v → AreResults kinds (take (place + 1) vs) new
+put-at vs kinds place old new (keeps row) at lt so_far put = record {
+  of = ap (λ (r : TypedRows). r.types) put ∙ so_far.of;
+  whole = ap (λ (r : TypedRows). r.begun) put ∙ so_far.whole;
+  said = ap (λ (r : TypedRows). map keeps r.rows) put
+      ∙ map-append keeps old.rows (row ∷ [])
+      ∙ (λ i. so_far.said i ++ sym at i ∷ [])
+      ∙ sym (take_more vs place (keeps row) lt);
+}
+put-at vs kinds place old new drops at lt so_far put = absurd put
+put-at vs kinds place old new (fails kind) at lt so_far put = absurd put
 
 module _ (columns : List ℕ) (calls : List Call) (types : List SqlType) (keys : List (List Value)) (groups : List Group) (t : IsTable columns calls types keys groups)
     (state : TableState) (view : ◌≡◌ {A = TableState} (record { columns = columns; calls = calls; types = types; keys = keys; partials = partials_of_groups groups }) state) where
@@ -75,23 +89,10 @@ module _ (columns : List ℕ) (calls : List Call) (types : List SqlType) (keys :
   inside : (place : ℕ) → place < length groups → place < length keys
   inside place lt = omega (arith, lt, t.held.level, length-map groups (λ (x : Group). x.partial))
 
-  put-at : (kinds : List SqlType) (place : ℕ) (old new : TypedRows) (v : Verdict) → get_or (verdicts_of state) place v ≡ v → place < length (verdicts_of state)
-      → AreResults kinds (take place (verdicts_of state)) old → IsPut old new v → AreResults kinds (take (place + 1) (verdicts_of state)) new
-  put-at kinds place old new (keeps row) at lt so_far put = record {
-    of = ap (λ (r : TypedRows). r.types) put ∙ so_far.of;
-    whole = ap (λ (r : TypedRows). r.begun) put ∙ so_far.whole;
-    said = ap (λ (r : TypedRows). map keeps r.rows) put
-        ∙ map-append keeps old.rows (row ∷ [])
-        ∙ (λ i. so_far.said i ++ sym at i ∷ [])
-        ∙ sym (take_more (verdicts_of state) place (keeps row) lt);
-  }
-  put-at kinds place old new drops at lt so_far put = absurd put
-  put-at kinds place old new (fails kind) at lt so_far put = absurd put
-
   pub put-more : (kinds : List SqlType) (place : ℕ) (old new : TypedRows) → place < length groups
       → AreResults kinds (take place (verdicts_of state)) old → IsPut old new (verdict_at state place) → AreResults kinds (take (place + 1) (verdicts_of state)) new
   put-more kinds place old new lt so_far put =
-      put-at kinds place old new (verdict_at state place) (verdict-there place (verdict_at state place) (inside place lt)) (omega (arith, lt, long)) so_far put
+      put-at (verdicts_of state) kinds place old new (verdict_at state place) (verdict-there place (verdict_at state place) (inside place lt)) (omega (arith, lt, long)) so_far put
 
   pub all-put : (kinds : List SqlType) (place : ℕ) (rows : TypedRows) → length groups ≤ place → AreResults kinds (take place (verdicts_of state)) rows → AreResults kinds (verdicts_of state) rows
   all-put kinds place rows le so_far =
@@ -116,3 +117,33 @@ module _ (columns : List ℕ) (calls : List Call) (types : List SqlType) (keys :
   some-told n e =
       some-verdict n (verdicts_of state) (long ∙ omega (arith, e, t.held.level, length-map groups (λ (x : Group). x.partial)))
       ∙ ap has_verdict (sym told-of)
+
+  -- the rows of keys and partial rows
+  parts-told : parts_with state [] ≡ of_each (λ key partial. keeps (key ++ partial)) state.keys state.partials
+  parts-told =
+      ap (part_verdicts (length state.columns) state.calls) (append-nil (held_in state))
+      ∙ parts-held (length state.columns) state.calls state.keys state.partials (subst (λ (x : TableState). AreHeld (length x.columns) x.calls x.keys x.partials) view t.held)
+
+  parts-long : length (parts_with state []) ≡ length groups
+  parts-long =
+      ap length parts-told ∙ each-long (λ key partial. keeps (key ++ partial)) state.keys state.partials level
+      ∙ sym level ∙ ap (λ (x : TableState). length x.partials) (sym view) ∙ length-map groups (λ (x : Group). x.partial)
+
+  part-there : (place : ℕ) (g : Group) (key part : List Value) → place < length groups → g ≡ get_or groups place g → key ≡ get_or keys place [] → part ≡ g.partial
+      → get_or (parts_with state []) place (keeps (key ++ part)) ≡ keeps (key ++ part)
+  part-there place g key part lt is at e =
+      let here : get_or state.keys place [] ≡ key = ap (λ (x : TableState). get_or x.keys place []) (sym view) ∙ sym at in
+      let told : get_or state.partials place [] ≡ part
+      = ap (λ (x : TableState). get_or x.partials place []) (sym view) ∙ get_or-map (λ (x : Group). x.partial) groups place g [] lt ∙ ap (λ (x : Group). x.partial) (sym is) ∙ sym e in
+      ap (λ vs. get_or vs place (keeps (key ++ part))) parts-told
+      ∙ each-at (λ k p. keeps (k ++ p)) state.keys state.partials place (keeps (key ++ part)) (omega (arith, inside place lt, ap (λ (x : TableState). length x.keys) view)) level
+      ∙ (λ i. keeps (here i ++ told i))
+
+  pub part-more : (kinds : List SqlType) (place : ℕ) (g : Group) (key part : List Value) (old new : TypedRows) → place < length groups → g ≡ get_or groups place g → key ≡ get_or keys place [] → part ≡ g.partial
+      → AreResults kinds (take place (parts_with state [])) old → new ≡ record old { rows = old.rows ++ (key ++ part) ∷ [] } → AreResults kinds (take (place + 1) (parts_with state [])) new
+  part-more kinds place g key part old new lt is at e so_far put =
+      put-at (parts_with state []) kinds place old new (keeps (key ++ part)) (part-there place g key part lt is at e) (omega (arith, lt, parts-long)) so_far put
+
+  pub all-parts : (kinds : List SqlType) (place : ℕ) (rows : TypedRows) → length groups ≤ place → AreResults kinds (take place (parts_with state [])) rows → AreResults kinds (parts_with state []) rows
+  all-parts kinds place rows le so_far =
+      subst (λ (vs : List Verdict). AreResults kinds vs rows) (take_all place (parts_with state []) (omega (arith, le, parts-long))) so_far

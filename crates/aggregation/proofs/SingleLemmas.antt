@@ -9,23 +9,45 @@ use Rattle.relations.specs.Verdicts.{Verdict, fails, keeps, kept}
 use Rattle.bag_laws.specs.Pieces.{finals_of}
 use Rattle.bag_laws.proofs.BagLemmas.{bag_from_same, same-refl}
 use Rattle.aggregation.specs.Alike.{TellAlike, part_row, part_rows}
-use Rattle.aggregation.specs.Giving.{GroupsFail, GroupsGive, IsBegun, to_give, verdicts_with}
+use Rattle.aggregation.specs.Giving.{GroupsFail, GroupsGive, IsBegun, merged_with, part_verdicts, parts_with, to_give, verdicts_with}
 use Rattle.aggregation.specs.Tables.{TableState, held_in}
-use Rattle.aggregation.proofs.AlikeLemmas.{alike-append, alike-refl, finals-alike}
+use Rattle.aggregation.proofs.AlikeLemmas.{alike-append, alike-from_equal, alike-refl, alike-trans, finals-alike, parts-alike}
 
 -- rows that were taken in are as if they were still to come
-pub verdicts-taken : (old new : TableState) (rows X : List (List Value)) → ◌≡◌ {A = TableState} (record new { keys = old.keys; partials = old.partials }) old
-    → TellAlike (length old.columns) old.calls (held_in new) (held_in old ++ part_rows old.columns old.calls rows) → verdicts_with new X ≡ verdicts_with old (rows ++ X)
-verdicts-taken old new rows X same alike =
-    let w = length old.columns in
-    let P = part_rows old.columns old.calls in
-    let columns : new.columns ≡ old.columns = ap (λ (t : TableState). t.columns) same in
-    let calls : new.calls ≡ old.calls = ap (λ (t : TableState). t.calls) same in
-    let types : new.types ≡ old.types = ap (λ (t : TableState). t.types) same in
-    (λ i. finals_of (types i) (length (columns i)) (calls i) (held_in new ++ part_rows (columns i) (calls i) X))
-    ∙ finals-alike old.types w old.calls (alike-append w old.calls alike (alike-refl w old.calls (P X)))
-    ∙ ap (finals_of old.types w old.calls)
-    (append_assoc (held_in old) (P rows) (P X) ∙ ap (λ more. held_in old ++ more) (sym (map-append (part_row old.columns old.calls) rows X)))
+module _ (old new : TableState) (same : ◌≡◌ {A = TableState} (record new { keys = old.keys; partials = old.partials }) old) where
+  columns : new.columns ≡ old.columns
+  columns = ap (λ (t : TableState). t.columns) same
+
+  calls : new.calls ≡ old.calls
+  calls = ap (λ (t : TableState). t.calls) same
+
+  types : new.types ≡ old.types
+  types = ap (λ (t : TableState). t.types) same
+
+  part-behind : (rows X : List (List Value)) → TellAlike (length old.columns) old.calls (held_in new) (held_in old ++ part_rows old.columns old.calls rows)
+      → TellAlike (length old.columns) old.calls (held_in new ++ part_rows old.columns old.calls X) (held_in old ++ part_rows old.columns old.calls (rows ++ X))
+  part-behind rows X alike =
+      let w = length old.columns in
+      let P = part_rows old.columns old.calls in
+      alike-trans w old.calls (alike-append w old.calls alike (alike-refl w old.calls (P X)))
+      (alike-from_equal w old.calls (append_assoc (held_in old) (P rows) (P X) ∙ ap (λ more. held_in old ++ more) (sym (map-append (part_row old.columns old.calls) rows X))))
+
+  pub verdicts-taken : (rows X : List (List Value)) → TellAlike (length old.columns) old.calls (held_in new) (held_in old ++ part_rows old.columns old.calls rows) → verdicts_with new X ≡ verdicts_with old (rows ++ X)
+  verdicts-taken rows X alike =
+      (λ i. finals_of (types i) (length (columns i)) (calls i) (held_in new ++ part_rows (columns i) (calls i) X))
+      ∙ finals-alike old.types (length old.columns) old.calls (part-behind rows X alike)
+
+  pub parts-taken : (rows X : List (List Value)) → TellAlike (length old.columns) old.calls (held_in new) (held_in old ++ part_rows old.columns old.calls rows) → parts_with new X ≡ parts_with old (rows ++ X)
+  parts-taken rows X alike =
+      (λ i. part_verdicts (length (columns i)) (calls i) (held_in new ++ part_rows (columns i) (calls i) X))
+      ∙ parts-alike (length old.columns) old.calls (part-behind rows X alike)
+
+  pub merged-taken : (rows X : List (List Value)) → TellAlike (length old.columns) old.calls (held_in new) (held_in old ++ rows) → merged_with new X ≡ merged_with old (rows ++ X)
+  merged-taken rows X alike =
+      let w = length old.columns in
+      (λ i. finals_of (types i) (length (columns i)) (calls i) (held_in new ++ X))
+      ∙ finals-alike old.types w old.calls
+      (alike-trans w old.calls (alike-append w old.calls alike (alike-refl w old.calls X)) (alike-from_equal w old.calls (append_assoc (held_in old) rows X)))
 
 pub kept-keeps : (rows : List (List Value)) → flat_map kept (map keeps rows) ≡ rows
 kept-keeps [] = refl

@@ -11,14 +11,14 @@ use Rattle.sql_values.specs.Cells.{cell, cut}
 use Rattle.relations.specs.Equality.{same_row}
 use Rattle.relations.specs.Partials.{merged, partial_of}
 use Rattle.relations.proofs.PartialLemmas.{partial_of-append}
-use Rattle.accumulators.specs.Groups.{Group, empty_group, with_part, with_row}
+use Rattle.accumulators.specs.Groups.{Group, empty_group, with_part}
 use Rattle.accumulators.specs.Limits.{are_allowed}
 use Rattle.group_index.specs.Keys.{place_of}
 use Rattle.group_index.proofs.KeyLemmas.{none-stands}
-use Rattle.aggregation.specs.Alike.{TellAlike, part_row}
+use Rattle.aggregation.specs.Alike.{TellAlike}
 use Rattle.aggregation.specs.Held.{AreHeld, HasFirst, IsTold, held_rows}
 use Rattle.aggregation.specs.Tables.{IsGroupOf, IsKeyAt, IsOpen, IsTable, TableState, held_in, partials_of_groups}
-use Rattle.aggregation.proofs.AlikeLemmas.{alike-append, alike-first, alike-from_equal, alike-refl, alike-sym, alike-trans}
+use Rattle.aggregation.proofs.AlikeLemmas.{alike-append, alike-from_equal, alike-none, alike-refl, alike-trans}
 use Rattle.aggregation.proofs.HeldLemmas.{apart-more, held-more, merged-at}
 
 -- the partial row of no row adds nothing to itself
@@ -102,45 +102,41 @@ module _ (columns : List ℕ) (calls : List Call) (types : List SqlType) (keys :
       let within : place < length groups = omega (arith, lt, t.held.level, length-map groups (λ (x : Group). x.partial)) in
       subst (λ (x : Group). IsGroupOf types calls x) (sym is) (All-get_or (IsGroupOf types calls) groups place g within t.each)
 
-  partial-set : (place : ℕ) (before g : Group) (row : List Value) → place < length keys → before ≡ get_or groups place before → g ≡ with_row before row
-      → set (partials_of_groups groups) place g.partial ≡ set (partials_of_groups groups) place (merged calls (get_or (partials_of_groups groups) place []) (partial_of calls (row ∷ [])))
-  partial-set place before g row lt at e =
+  partial-set : (place : ℕ) (before g : Group) (q : List Call → List Value) → place < length keys → before ≡ get_or groups place before → g ≡ with_part before (q before.calls)
+      → set (partials_of_groups groups) place g.partial ≡ set (partials_of_groups groups) place (merged calls (get_or (partials_of_groups groups) place []) (q calls))
+  partial-set place before g q lt at e =
       let within : place < length groups = omega (arith, lt, t.held.level, length-map groups (λ (x : Group). x.partial)) in
       let of : before.calls ≡ calls = (group-there place before lt at).of_calls in
       let there : get_or (partials_of_groups groups) place [] ≡ before.partial
       = get_or-map (λ (x : Group). x.partial) groups place before [] within ∙ ap (λ (x : Group). x.partial) (sym at) in
       ap (set (partials_of_groups groups) place)
-      (ap (λ (x : Group). x.partial) e ∙ (λ i. merged (of i) (sym there i) (partial_of (of i) (row ∷ []))))
+      (ap (λ (x : Group). x.partial) e ∙ (λ i. merged (of i) (sym there i) (q (of i))))
 
-  pub partials-set : {E : Type 0} (place : ℕ) (before g : Group) (row : List Value) (r : Result (Unit {0}) E) (old : TableState) → place < length keys
+  -- a group that merged in a partial row, which may be made of its calls
+  pub partials-set : {E : Type 0} (place : ℕ) (before g : Group) (q : List Call → List Value) (r : Result (Unit {0}) E) (old : TableState) → place < length keys
       → ◌≡◌ {A = TableState} (record { columns = columns; calls = calls; types = types; keys = keys; partials = partials_of_groups groups }) old
-      → before ≡ get_or groups place before → OnOk r (g ≡ with_row before row)
+      → before ≡ get_or groups place before → OnOk r (g ≡ with_part before (q before.calls))
       → OnOk r (◌≡◌ {A = TableState} (record { columns = columns; calls = calls; types = types; keys = keys; partials = partials_of_groups (set groups place g) })
-      (record old { partials = set old.partials place (merged old.calls (get_or old.partials place []) (partial_of old.calls (row ∷ []))) }))
-  partials-set place before g row (Ok u) old lt view at e =
+      (record old { partials = set old.partials place (merged old.calls (get_or old.partials place []) (q old.calls)) }))
+  partials-set place before g q (Ok u) old lt view at e =
       ap (λ (ps : List (List Value)). record { columns = columns; calls = calls; types = types; keys = keys; partials = ps })
-      (map-set (λ (x : Group). x.partial) groups place g ∙ partial-set place before g row lt at e)
-      ∙ ap (λ (x : TableState). record x { partials = set x.partials place (merged x.calls (get_or x.partials place []) (partial_of x.calls (row ∷ []))) }) view
-  partials-set place before g row (Err x) old lt view at e = tt
+      (map-set (λ (x : Group). x.partial) groups place g ∙ partial-set place before g q lt at e)
+      ∙ ap (λ (x : TableState). record x { partials = set x.partials place (merged x.calls (get_or x.partials place []) (q x.calls)) }) view
+  partials-set place before g q (Err x) old lt view at e = tt
 
--- a group of no row, and then the row
-opened-at : (old table : TableState) (row : List Value) → IsOpen old (cut old.columns row) table → AreHeld (length old.columns) old.calls old.keys old.partials
-    → TellAlike (length old.columns) old.calls (held_rows table.keys table.partials ++ part_row old.columns old.calls row ∷ []) (held_in old ++ part_row old.columns old.calls row ∷ [])
-opened-at old table row (inl same) h = alike-from_equal (length old.columns) old.calls (ap (λ (t : TableState). held_rows t.keys t.partials ++ part_row old.columns old.calls row ∷ []) same)
-opened-at old table row (inr more) h =
+-- a group of no row, and then the partial row
+opened-at : (old table : TableState) (key q : List Value) → IsOpen old key table → length key ≡ length old.columns → AreHeld (length old.columns) old.calls old.keys old.partials
+    → TellAlike (length old.columns) old.calls (held_rows table.keys table.partials ++ (key ++ q) ∷ []) (held_in old ++ (key ++ q) ∷ [])
+opened-at old table key q (inl same) wide h = alike-from_equal (length old.columns) old.calls (ap (λ (t : TableState). held_rows t.keys t.partials ++ (key ++ q) ∷ []) same)
+opened-at old table key q (inr more) wide h =
     let w = length old.columns in
     let calls = old.calls in
-    let key = cut old.columns row in
     let e = partial_of calls [] in
-    let q = partial_of calls (row ∷ []) in
     let whole : held_rows table.keys table.partials ≡ held_in old ++ (key ++ e) ∷ []
     = ap (λ (t : TableState). held_rows t.keys t.partials) more ∙ held-more old.keys old.partials key e h.level in
-    let first : merged calls e q ≡ q = sym (partial_of-append calls [] (row ∷ [])) in
     alike-trans w calls
     (alike-from_equal w calls (ap (λ rows. rows ++ (key ++ q) ∷ []) whole ∙ append_assoc (held_in old) ((key ++ e) ∷ []) ((key ++ q) ∷ [])))
-    (alike-append w calls (alike-refl w calls (held_in old))
-    (alike-trans w calls (alike-sym w calls (alike-first w calls key e q [] (length-map old.columns (cell row))))
-    (alike-from_equal w calls (ap (λ p. (key ++ p) ∷ []) first))))
+    (alike-append w calls (alike-refl w calls (held_in old)) (alike-none w calls key q wide))
 
 -- a group for each key, and keys of one width, as before
 opened-level : (old table : TableState) (key : List Value) → IsOpen old key table → length old.partials ≡ length old.keys → length table.partials ≡ length table.keys
@@ -161,39 +157,37 @@ opened-wide old table key width (inr more) wide h =
     subst (λ (t : TableState). All (λ k. length k ≡ width) t.keys) (sym more)
     (All-append (λ k. length k ≡ width) old.keys (key ∷ []) h (All-cons (λ k. length k ≡ width) key [] wide (All-nil (λ k. length k ≡ width))))
 
--- the row was merged in at the place of its key
-row-at : (old table : TableState) (row : List Value) (place : ℕ) (partials : List (List Value)) → IsOpen old (cut old.columns row) table → IsKeyAt table.keys place (cut old.columns row)
+-- the partial row was merged in at the place of its key
+row-at : (old table : TableState) (key q : List Value) (place : ℕ) (partials : List (List Value)) → IsOpen old key table → IsKeyAt table.keys place key → length key ≡ length old.columns
     → AreHeld (length old.columns) old.calls old.keys old.partials
-    → partials ≡ set table.partials place (merged old.calls (get_or table.partials place []) (partial_of old.calls (row ∷ [])))
-    → TellAlike (length old.columns) old.calls (held_rows table.keys partials) (held_in old ++ part_row old.columns old.calls row ∷ [])
-row-at old table row place partials opened at before e =
+    → partials ≡ set table.partials place (merged old.calls (get_or table.partials place []) q)
+    → TellAlike (length old.columns) old.calls (held_rows table.keys partials) (held_in old ++ (key ++ q) ∷ [])
+row-at old table key q place partials opened at long before e =
     let w = length old.columns in
     let calls = old.calls in
-    let key = cut old.columns row in
-    let q = partial_of calls (row ∷ []) in
     let level = opened-level old table key opened before.level in
-    let wide = opened-wide old table key w opened (length-map old.columns (cell row)) before.wide in
+    let wide = opened-wide old table key w opened long before.wide in
     let there = merged-at w calls table.keys table.partials place q at.0 level wide in
     let here : held_rows table.keys table.partials ++ (get_or table.keys place [] ++ q) ∷ [] ≡ held_rows table.keys table.partials ++ (key ++ q) ∷ []
     = ap (λ k. held_rows table.keys table.partials ++ (k ++ q) ∷ []) at.1 in
     alike-trans w calls (alike-from_equal w calls (ap (held_rows table.keys) e))
     (alike-trans w calls there
-    (alike-trans w calls (alike-from_equal w calls here) (opened-at old table row opened before)))
+    (alike-trans w calls (alike-from_equal w calls here) (opened-at old table key q opened long before)))
 
-pub row-added : {E : Type 0} (old table new : TableState) (row : List Value) (place : ℕ) (r : Result (Unit {0}) E)
+pub part-added : {E : Type 0} (old table new : TableState) (key : List Value) (q : TableState → List Value) (place : ℕ) (r : Result (Unit {0}) E)
     → ◌≡◌ {A = TableState} (record table { keys = old.keys; partials = old.partials }) old
-    → IsOpen old (cut old.columns row) table → IsKeyAt table.keys place (cut old.columns row)
-    → AreHeld (length old.columns) old.calls old.keys old.partials
-    → OnOk r (new ≡ record table { partials = set table.partials place (merged table.calls (get_or table.partials place []) (partial_of table.calls (row ∷ []))) })
-    → OnOk r (TellAlike (length old.columns) old.calls (held_in new) (held_in old ++ part_row old.columns old.calls row ∷ []))
-row-added old table new row place (Ok u) same opened at before e =
+    → IsOpen old key table → IsKeyAt table.keys place key → length key ≡ length old.columns
+    → AreHeld (length old.columns) old.calls old.keys old.partials → q table ≡ q old
+    → OnOk r (new ≡ record table { partials = set table.partials place (merged table.calls (get_or table.partials place []) (q table)) })
+    → OnOk r (TellAlike (length old.columns) old.calls (held_in new) (held_in old ++ (key ++ q old) ∷ []))
+part-added old table new key q place (Ok u) same opened at long before part e =
     let calls : table.calls ≡ old.calls = ap (λ (t : TableState). t.calls) same in
-    let partials : new.partials ≡ set table.partials place (merged old.calls (get_or table.partials place []) (partial_of old.calls (row ∷ [])))
-    = ap (λ (t : TableState). t.partials) e ∙ ap (λ cs. set table.partials place (merged cs (get_or table.partials place []) (partial_of cs (row ∷ [])))) calls in
+    let partials : new.partials ≡ set table.partials place (merged old.calls (get_or table.partials place []) (q old))
+    = ap (λ (t : TableState). t.partials) e ∙ (λ i. set table.partials place (merged (calls i) (get_or table.partials place []) (part i))) in
     let keys : new.keys ≡ table.keys = ap (λ (t : TableState). t.keys) e in
-    subst (λ (ks : List (List Value)). TellAlike (length old.columns) old.calls (held_rows ks new.partials) (held_in old ++ part_row old.columns old.calls row ∷ [])) (sym keys)
-    (row-at old table row place new.partials opened at before partials)
-row-added old table new row place (Err x) same opened at before e = tt
+    subst (λ (ks : List (List Value)). TellAlike (length old.columns) old.calls (held_rows ks new.partials) (held_in old ++ (key ++ q old) ∷ [])) (sym keys)
+    (row-at old table key (q old) place new.partials opened at long before partials)
+part-added old table new key q place (Err x) same opened at long before part e = tt
 
 -- no row yet
 pub table-none : (column : ℕ) (columns : List ℕ) (calls : List Call) (types : List SqlType) (keys : List (List Value)) (groups : List Group) → IsTrue (are_allowed types calls) → keys ≡ [] → groups ≡ []

@@ -1,5 +1,5 @@
 -- Partial rows behind their keys, and when some tell the same groups as others.
-use Rattle.std.specs.Prelude.{◌≡◌, ℕ, List, [], ◌∷◌, ◌++◌, map, take, All, false}
+use Rattle.std.specs.Prelude.{◌≡◌, ℕ, List, [], ◌∷◌, ◌++◌, drop, length, map, take, All, false}
 use Rattle.sql_values.specs.declared.value.Value.{Value}
 use Rattle.sql_values.specs.declared.relational.Call.{Call}
 use Rattle.sql_values.specs.Cells.{cut}
@@ -15,6 +15,10 @@ part_row columns calls row = cut columns row ++ partial_of calls (row ∷ [])
 -- and of each row
 abbrev pub part_rows : List ℕ → List Call → List (List Value) → List (List Value)
 part_rows columns calls rows = map (part_row columns calls) rows
+
+-- the key of a row that has a partial row behind as many columns, and then that
+abbrev pub held_row : List ℕ → List Value → List Value
+held_row columns row = cut columns row ++ drop (length columns) row
 
 -- for each key of so many columns in front of rows: the key, and the partial rows behind it as one
 abbrev pub merged_rows : ℕ → List Call → List (List Value) → List (List Value)

@@ -8,7 +8,8 @@ use Rattle.sql_values.specs.ColumnRows.{TypedRows, fits_row}
 use Rattle.col_pages.specs.Pages.{TypedPage, most_rows}
 use Rattle.operator_core.specs.Samples.{has_row}
 use Rattle.relations.specs.Verdicts.{Verdict, fails, keeps, kept}
-use Rattle.bag_laws.specs.Pieces.{finals_of}
+use Rattle.sql_values.specs.declared.relational.Call.{Call}
+use Rattle.bag_laws.specs.Pieces.{all_merged, behind_key, finals_of, front_keys}
 use Rattle.aggregation.specs.Alike.{part_rows}
 use Rattle.aggregation.specs.Held.{first_keys, first_partials}
 use Rattle.aggregation.specs.Tables.{TableState, held_in}
@@ -17,6 +18,18 @@ use Rattle.aggregation.specs.Tables.{TableState, held_in}
 abbrev pub verdicts_with : TableState → List (List Value) → List Verdict
 verdicts_with table more =
     finals_of table.types (length table.columns) table.calls (held_in table ++ part_rows table.columns table.calls more)
+
+-- the same where the rows that come are keys with partial rows behind them
+abbrev pub merged_with : TableState → List (List Value) → List Verdict
+merged_with table more = finals_of table.types (length table.columns) table.calls (held_in table ++ more)
+
+-- the row of each key of so many columns in front of rows: the key, and the partial rows behind it as one
+abbrev pub part_verdicts : ℕ → List Call → List (List Value) → List Verdict
+part_verdicts width calls rows = map (λ key. keeps (key ++ all_merged calls (behind_key width rows key))) (front_keys width rows)
+
+-- the partial row of each group of the rows that came and of those still to come
+abbrev pub parts_with : TableState → List (List Value) → List Verdict
+parts_with table more = part_verdicts (length table.columns) table.calls (held_in table ++ part_rows table.columns table.calls more)
 
 -- once the output has begun it is what is left; before that the rows of the groups, in any order, where
 -- groups that fail are left out
@@ -69,32 +82,37 @@ pub record IsNextPage (old : RowsLeft) (p : TypedPage) (new : RowsLeft) : Type 0
   pub most : length p.rows ≤ old.page
   pub of : FitsTypes old.types p
 
--- an aggregate of whole groups: what it holds, and what it has left to give once its output has begun
-pub record SingleState : Type 0 where
+-- groups, and the rows that are left to give once their output has begun
+pub record GroupsState : Type 0 where
   pub table : TableState
-  pub node : ℕ
   pub left : RowsLeft
   pub begun : Bool
   pub is_told : Bool
-
-abbrev pub single_verdicts : SingleState → List (List Value) → List Verdict
-single_verdicts s more = verdicts_with s.table more
 
 -- the output has begun: none of the groups fails, and their rows are left
 abbrev pub IsBegun : Bool → List Verdict → List (List Value) → List (List Value) → Type 0
 IsBegun true verdicts old new = new ≡ old
 IsBegun false verdicts old new = map keeps new ≡ verdicts
 
--- it has a column to give, and gives only when it was told
-pub record IsSingle (types : List SqlType) (begun is_told : Bool) : Type 0 where
+-- of no row, with pages of rows of these types
+abbrev pub no_groups : List ℕ → List Call → List SqlType → List SqlType → ℕ → GroupsState
+no_groups columns calls types given page = record {
+  table = record { columns = columns; calls = calls; types = types; keys = first_keys (length columns); partials = first_partials (length columns) calls };
+  left = record { types = given; page = page; rows = [] };
+  begun = false;
+  is_told = false;
+}
+
+-- there is a column to give, and the output begins only where they were told that no row comes any more
+pub record AreGiven (types : List SqlType) (begun is_told : Bool) : Type 0 where
   pub some : 0 < length types
   pub late : begun ≡ true → is_told ≡ true
 
--- as it was made
-abbrev pub single_made : SingleState → SingleState
-single_made s = record s {
-  table = record s.table { keys = first_keys (length s.table.columns); partials = first_partials (length s.table.columns) s.table.calls };
-  left = record s.left { rows = [] };
+-- as they were made
+abbrev pub groups_made : GroupsState → GroupsState
+groups_made g = record g {
+  table = record g.table { keys = first_keys (length g.table.columns); partials = first_partials (length g.table.columns) g.table.calls };
+  left = record g.left { rows = [] };
   begun = false;
   is_told = false;
 }

@@ -1,5 +1,5 @@
 -- Laws of operators that keep groups.
-use Rattle.std.specs.Prelude.{◌≡◌, ◌↔◌, ℕ, List, [], ◌∷◌, ◌++◌, Bool, true, false, not, ◌&&◌, flat_map, length, map, Contains, Result, Ok, Err, refl}
+use Rattle.std.specs.Prelude.{◌≡◌, ◌↔◌, ℕ, zero, suc, List, [], ◌∷◌, ◌++◌, Bool, true, false, not, ◌&&◌, flat_map, length, map, Contains, Result, Ok, Err, refl}
 use Rattle.std.proofs.Common.{sym, ◌∙◌, subst, arith}
 use Rattle.std.proofs.lemmas.Bool.{true≢false}
 use Rattle.std.proofs.lemmas.List.Elements.{Contains-append_left, Contains-push}
@@ -8,14 +8,14 @@ use Rattle.sql_values.specs.declared.fail.Fail.{Fail}
 use Rattle.sql_values.specs.Bags.{SameBag}
 use Rattle.operator_core.specs.Samples.{has_row}
 use Rattle.relations.specs.Groups.{grouped_row}
-use Rattle.relations.specs.Verdicts.{Verdict, kept, fails}
+use Rattle.relations.specs.Verdicts.{Verdict, fails, keeps, kept}
 use Rattle.bag_laws.specs.Weights.{SameWeights}
 use Rattle.bag_laws.proofs.BagLemmas.{bag_from_same, same-nil, same-refl, same-sym, same_from_bag}
 use Rattle.relations.specs.Partials.{results_from}
 use Rattle.bag_laws.specs.Pieces.{all_merged, behind_key, front_keys}
 use Rattle.aggregation.specs.Alike.{part_rows}
 use Rattle.aggregation.specs.Tables.{held_in}
-use Rattle.aggregation.specs.Giving.{GroupsFail, GroupsGive, SingleState, has_more, single_verdicts, to_give}
+use Rattle.aggregation.specs.Giving.{GroupsFail, GroupsGive, GroupsState, has_more, merged_with, parts_with, to_give, verdicts_with}
 
 pub groups-some : (begun : Bool) (left : List (List Value)) (V : List Verdict) → (B : List (List Value)) × GroupsGive begun left V B
 groups-some true left V = (left, refl)
@@ -71,11 +71,40 @@ groups-done false false own left keys r = ((λ e. cc), (λ h. cc (h.0)))
 groups-done false true own left [] r = ((λ e. (refl, refl, λ node kind f. none-in (fails kind) f.1)), (λ h. refl))
 groups-done false true own left (key ∷ keys) r = ((λ e. cc), (λ h. absurd (said (r key) key (map (λ k. grouped_row k (r k)) keys) own h.1 h.2)))
 
-pub single-done : (s : SingleState)
-    → ((s.is_told && not (has_more s.begun s.left.rows (single_verdicts s []))) ≡ true)
-    ↔ ((s.is_told ≡ true) × ((s.is_told && has_row (to_give s.begun s.left.rows (single_verdicts s []))) ≡ false)
-    × ((node : ℕ) (kind : Fail) → GroupsFail s.begun s.node (single_verdicts s []) node kind → ⊥))
-single-done s =
-    let rows = held_in s.table ++ part_rows s.table.columns s.table.calls [] in
-    groups-done s.begun s.is_told s.node s.left.rows (front_keys (length s.table.columns) rows)
-    (λ key. results_from s.table.types s.table.calls (all_merged s.table.calls (behind_key (length s.table.columns) rows key)))
+pub single-done : (g : GroupsState) (own : ℕ)
+    → ((g.is_told && not (has_more g.begun g.left.rows (verdicts_with g.table []))) ≡ true)
+    ↔ ((g.is_told ≡ true) × ((g.is_told && has_row (to_give g.begun g.left.rows (verdicts_with g.table []))) ≡ false)
+    × ((node : ℕ) (kind : Fail) → GroupsFail g.begun own (verdicts_with g.table []) node kind → ⊥))
+single-done g own =
+    let rows = held_in g.table ++ part_rows g.table.columns g.table.calls [] in
+    groups-done g.begun g.is_told own g.left.rows (front_keys (length g.table.columns) rows)
+    (λ key. results_from g.table.types g.table.calls (all_merged g.table.calls (behind_key (length g.table.columns) rows key)))
+
+pub final-done : (g : GroupsState) (own : ℕ)
+    → ((g.is_told && not (has_more g.begun g.left.rows (merged_with g.table []))) ≡ true)
+    ↔ ((g.is_told ≡ true) × ((g.is_told && has_row (to_give g.begun g.left.rows (merged_with g.table []))) ≡ false)
+    × ((node : ℕ) (kind : Fail) → GroupsFail g.begun own (merged_with g.table []) node kind → ⊥))
+final-done g own = single-done g own
+
+-- groups whose partial rows are given never fail
+none-fails : (said : List Value → List Value) (keys : List (List Value)) (kind : Fail) → Contains (map (λ key. keeps (said key)) keys) (fails kind) → ⊥
+none-fails said [] kind c = none-in (fails kind) c
+none-fails said (key ∷ keys) kind (zero, lt, is) = cc
+none-fails said (key ∷ keys) kind (suc i, lt, is) = none-fails said keys kind (i, omega (arith, lt), is)
+
+part-calm : (begun : Bool) (own : ℕ) (said : List Value → List Value) (keys : List (List Value)) (node : ℕ) (kind : Fail) → GroupsFail begun own (map (λ key. keeps (said key)) keys) node kind → ⊥
+part-calm true own said keys node kind f = f
+part-calm false own said keys node kind f = none-fails said keys kind f.1
+
+pub partial-done : (g : GroupsState)
+    → ((g.is_told && not (has_more g.begun g.left.rows (parts_with g.table []))) ≡ true)
+    ↔ ((g.is_told ≡ true) × ((g.is_told && has_row (to_give g.begun g.left.rows (parts_with g.table []))) ≡ false)
+    × ((node : ℕ) (kind : Fail) → ⊥ → ⊥))
+partial-done g =
+    let rows = held_in g.table ++ part_rows g.table.columns g.table.calls [] in
+    let keys = front_keys (length g.table.columns) rows in
+    let partial = λ (key : List Value). all_merged g.table.calls (behind_key (length g.table.columns) rows key) in
+    let done = groups-done g.begun g.is_told 0 g.left.rows keys (λ key. Ok (partial key)) in (
+      (λ e. let d = done.0 e in (d.0, d.1, λ node kind f. f)),
+      (λ h. done.1 (h.0, h.1, λ node kind f. part-calm g.begun 0 (λ key. key ++ partial key) keys node kind f)),
+    )

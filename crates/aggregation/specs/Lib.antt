@@ -3,3 +3,5 @@ pub mod Held
 pub mod Tables
 pub mod Giving
 pub mod GivingLaws
+pub mod Layouts
+pub mod Finals

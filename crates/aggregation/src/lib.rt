@@ -5,15 +5,30 @@
 //! come it is what they tell together, and that is what grouping all rows gives.
 //!
 //! - `single`: `SingleAgg` takes rows and gives the results of their groups
+//! - `partial`, `final_agg`: the two halves. `PartialAgg` takes rows and gives the keys and partial rows of their
+//!   groups; `FinalAgg` takes such rows, of any pieces of the groups, and gives the results. `specs/Layouts.antt`
+//!   has the layout of the rows between them
+//! - `group_rows`: `GroupRows`, what the operators share: groups, and the rows left of them once the output has
+//!   begun
 //! - `table`: `GroupTable`, the groups, found by their keys
 //! - `left`: `LeftRows`, rows that are still to be given, in pages
+//! - `layouts`: the types of partial rows
 #![tactic(auto)]
 
+mod final_agg;
+mod group_rows;
+mod layouts;
 mod left;
 mod page_row;
+mod partial;
 mod single;
 mod table;
+#[cfg(test)]
+mod tests;
 
+pub use final_agg::FinalAgg;
+pub use group_rows::GroupRows;
 pub use left::LeftRows;
+pub use partial::PartialAgg;
 pub use single::SingleAgg;
 pub use table::GroupTable;

@@ -10,18 +10,15 @@ ghost use Rattle.plan_trees.specs.TreeTypes.{call_kind};
 ghost use Rattle.operator_core.specs.Rows.{Row};
 ghost use Rattle.operator_core.specs.Calls.{IsFresh};
 ghost use Rattle.accumulators.specs.Limits.{are_allowed};
-ghost use Rattle.aggregation.specs.Giving.{FitsTypes, IsBegun, IsGiven, single_verdicts};
-ghost use Rattle.aggregation.specs.Held.{first_keys, first_partials};
+ghost use Rattle.aggregation.specs.Giving.{FitsTypes};
 
-use crate::left::LeftRows;
-use crate::table::GroupTable;
+use crate::group_rows::GroupRows;
 use blocked::{Bells, BlockedOn};
 use col_pages::Page;
 use operator_core::{OpFault, Operator};
 use plan_trees::{append_call_types, append_key_types};
-use sql_values::{Call, ColumnRows, EvalFault, Memory, SqlType, Types};
+use sql_values::{Call, EvalFault, Memory, SqlType, Types};
 use std::alloc::Global;
-use std::marker::Model;
 use std::sync::Wait;
 use std::thread::Threads;
 
@@ -29,27 +26,8 @@ use std::thread::Threads;
 /// told that no page comes any more.
 #[derive(Debug, Drop)]
 pub struct SingleAgg {
-    table: GroupTable,
     node: u32,
-    left: LeftRows,
-    has_begun: bool,
-    is_told: bool,
-}
-
-impl Model for SingleAgg {
-    ghost use Rattle.aggregation.specs.Giving.{SingleState, IsSingle};
-
-    ghost Value = { SingleState };
-
-    ghost view = { λ s. record {
-      table = s.table;
-      node = s.node;
-      left = s.left;
-      begun = s.has_begun;
-      is_told = s.is_told;
-    } };
-
-    ghost invariant = { λ s. IsSingle s.left.types s.has_begun s.is_told };
+    groups: GroupRows,
 }
 
 impl SingleAgg {
@@ -87,88 +65,15 @@ impl SingleAgg {
         let mut given = Types::new(alloc);
         append_key_types(&mut given, &types, &keys)?;
         append_call_types(&mut given, &types, &calls)?;
-        SingleAgg::of_types(alloc, node, keys, calls, types, given.as_slice(), page)
+        let groups = GroupRows::new(alloc, keys, calls, types, given.as_slice(), page)?;
+        Ok(SingleAgg { node, groups })
     }
 
-    /// The groups by these columns of rows of some types, which gives rows of the types `given`.
-    fn of_types(
-        alloc: Global,
-        node: u32,
-        keys: Vec<u32>,
-        calls: Vec<Call>,
-        types: Vec<SqlType>,
-        given: &[SqlType],
-        page: u32,
-    ) -> Result<SingleAgg, Memory>
-        requires allowed { IsTrue (are_allowed types.items calls.items) }
-        requires some { 0 < length given.now }
-        requires page { (0 < page) × (page ≤ most_rows) }
-        ensures { IfOk result (λ op. op ≡ record {
-          table = record {
-            columns = keys.items;
-            calls = calls.items;
-            types = types.items;
-            keys = first_keys (length keys.items);
-            partials = first_partials (length keys.items) calls.items;
-          };
-          node = node;
-          left = record { types = given.now; page = page; rows = [] };
-          begun = false;
-          is_told = false;
-        }) }
+    /// The types of the rows that it takes.
+    pub fn types(&self) -> &[SqlType]
+        ensures { result.now ≡ self.now.groups.table.types }
     {
-        let table = GroupTable::new(alloc, keys, calls, types)?;
-        let left = LeftRows::new(alloc, ColumnRows::new(alloc, given)?, page);
-        Ok(SingleAgg {
-            table,
-            node,
-            left,
-            has_begun: false,
-            is_told: false,
-        })
-    }
-
-    /// Makes the rows of the groups, unless that was done before.
-    fn begin(&mut self) -> Result<(), OpFault>
-        requires { self.old.is_told ≡ true }
-        ensures same { OnOk result (self.new ≡ record self.old {
-          begun = true;
-          left = record self.old.left { rows = self.new.left.rows };
-        }) }
-        ensures begun { OnOk result (IsBegun self.old.begun (single_verdicts self.old []) self.old.left.rows self.new.left.rows) }
-        ensures err { OnErr result (self.new ≡ self.old) }
-        ensures fault { (node : ℕ) (kind : Kind) → result ≡ Err (OpFault.Expr node kind)
-            → (self.old.begun ≡ false) × (node ≡ self.old.node) × Contains (single_verdicts self.old []) (fails kind) }
-    {
-        if self.has_begun {
-            return Ok(());
-        }
-        self.table.groups_are_told();
-        match self.table.results(self.left.types()) {
-            Ok(rows) => {
-                self.left.fill(rows);
-                self.has_begun = true;
-                Ok(())
-            }
-            Err(EvalFault::Fail(kind)) => Err(OpFault::Expr {
-                node: self.node,
-                kind,
-            }),
-            Err(EvalFault::Memory) => Err(OpFault::Memory),
-        }
-    }
-
-    /// Gives the next page of the rows that are left, if there is one.
-    fn give(&mut self) -> Result<Option<Page>, Memory>
-        requires { self.old.begun ≡ true }
-        ensures same { self.new ≡ record self.old { left = record self.old.left { rows = self.new.left.rows } } }
-        ensures page { IfOk result (λ o. IsGiven self.old.left o self.new.left) }
-        ensures err { OnErr result (self.new ≡ self.old) }
-    {
-        if !self.left.holds_row() {
-            return Ok(None);
-        }
-        Ok(Some(self.left.next_page()?))
+        self.groups.types()
     }
 }
 
@@ -176,30 +81,32 @@ impl Operator for SingleAgg {
     ghost use Rattle.std.specs.Prelude.{◌≡◌, [], true, false, not, ◌&&◌, refl, length};
     ghost use Rattle.operator_core.specs.Samples.{has_row};
     ghost use Rattle.operator_core.specs.NoteLaws.{none-without, told-needs_none, told-needs};
-    ghost use Rattle.aggregation.specs.Giving.{FitsTypes, GroupsFail, GroupsGive, single_made, single_verdicts, has_more, to_give};
+    ghost use Rattle.aggregation.specs.Giving.{FitsTypes, GroupsFail, GroupsGive, groups_made, has_more, to_give, verdicts_with};
     ghost use Rattle.aggregation.specs.GivingLaws.{groups-some, groups-rest, single-done};
 
-    ghost may_give = { λ s X B. GroupsGive s.begun s.left.rows (single_verdicts s X) B };
+    ghost may_give = { λ s X B. GroupsGive s.groups.begun s.groups.left.rows (verdicts_with s.groups.table X) B };
 
-    ghost may_still_fail = { λ s X node kind. GroupsFail s.begun s.node (single_verdicts s X) node kind };
+    ghost may_still_fail = { λ s X node kind. GroupsFail s.groups.begun s.node (verdicts_with s.groups.table X) node kind };
 
-    ghost takes = { λ s page. FitsTypes s.table.types page };
+    ghost takes = { λ s page. FitsTypes s.groups.table.types page };
 
-    ghost may_give_page = { λ s _ page. FitsTypes s.left.types page };
+    ghost may_give_page = { λ s _ page. FitsTypes s.groups.left.types page };
 
-    ghost page_size = { λ s. s.left.page };
+    ghost page_size = { λ s. s.groups.left.page };
 
     ghost is_full = { λ _. false };
 
     ghost gives_late = { λ _. true };
 
-    ghost needs_input = { λ s. not s.is_told };
+    ghost needs_input = { λ s. not s.groups.is_told };
 
-    ghost holds_row = { λ s. s.is_told && has_row (to_give s.begun s.left.rows (single_verdicts s [])) };
+    ghost holds_row = { λ s. s.groups.is_told
+        && has_row (to_give s.groups.begun s.groups.left.rows (verdicts_with s.groups.table [])) };
 
-    ghost is_told = { λ s. s.is_told };
+    ghost is_told = { λ s. s.groups.is_told };
 
-    ghost is_finished = { λ s. s.is_told && not (has_more s.begun s.left.rows (single_verdicts s [])) };
+    ghost is_finished = { λ s. s.groups.is_told
+        && not (has_more s.groups.begun s.groups.left.rows (verdicts_with s.groups.table [])) };
 
     ghost waits = { λ _. false };
 
@@ -211,39 +118,39 @@ impl Operator for SingleAgg {
 
     ghost went = { λ _ _ _. Unit {0} };
 
-    ghost as_made = { λ s. single_made s };
+    ghost as_made = { λ s. record s { groups = groups_made s.groups } };
 
     ghost may_learn = { λ _ _. ⊥ };
 
     fn needs_input(&self) -> bool {
-        !self.is_told
+        !self.groups.is_told()
     }
 
     fn add_input(&mut self, page: Page) -> Result<(), OpFault> {
-        let _ = &self.left;
-        self.table.add_page(&page)?;
+        self.groups.add_page(&page)?;
         Ok(())
     }
 
     fn get_output(&mut self) -> Result<Option<Page>, OpFault> {
-        if !self.is_told {
+        if !self.groups.is_told() {
             return Ok(None);
         }
-        match self.begin() {
-            Ok(()) => Ok(self.give()?),
-            Err(fault) => Err(fault),
+        match self.groups.begin_results() {
+            Ok(()) => Ok(self.groups.give()?),
+            Err(EvalFault::Fail(kind)) => Err(OpFault::Expr {
+                node: self.node,
+                kind,
+            }),
+            Err(EvalFault::Memory) => Err(OpFault::Memory),
         }
     }
 
     fn finish(&mut self) {
-        self.is_told = true;
+        self.groups.tell();
     }
 
     fn is_finished(&self) -> bool {
-        if self.has_begun {
-            return self.is_told && !self.left.holds_row();
-        }
-        self.is_told && !self.table.has_group()
+        self.groups.is_told() && !self.groups.has_more()
     }
 
     fn blocked<R: Threads + Wait + Sync, B: Bells>(
@@ -254,17 +161,17 @@ impl Operator for SingleAgg {
         Ok(None)
     }
 
-    ghost some_rows = { λ s X coming. groups-some s.begun s.left.rows (single_verdicts s X) };
+    ghost some_rows = { λ s X coming. groups-some s.groups.begun s.groups.left.rows (verdicts_with s.groups.table X) };
 
     ghost holds_rest = { λ s B told g.
-        groups-rest s.begun s.is_told s.left.rows (single_verdicts s []) B (told refl) g };
+        groups-rest s.groups.begun s.groups.is_told s.groups.left.rows (verdicts_with s.groups.table []) B (told refl) g };
 
     ghost late_holds_none = { λ s late told.
-        none-without s.is_told (has_row (to_give s.begun s.left.rows (single_verdicts s []))) told };
+        none-without s.groups.is_told (has_row (to_give s.groups.begun s.groups.left.rows (verdicts_with s.groups.table []))) told };
 
-    ghost finished = { λ s. single-done s };
+    ghost finished = { λ s. single-done s.groups s.node };
 
-    ghost needs_untold = { λ s. told-needs_none s.is_told };
+    ghost needs_untold = { λ s. told-needs_none s.groups.is_told };
 
     ghost full_needs_none = { λ s full. Prim.cc };
 
@@ -276,7 +183,7 @@ impl Operator for SingleAgg {
 
     ghost waiting_went = { λ s T G waits went. Prim.cc };
 
-    ghost needs = { λ s told _ _ _. told-needs s.is_told told };
+    ghost needs = { λ s told _ _ _. told-needs s.groups.is_told told };
 
     ghost made_untold = { λ s. refl };
 

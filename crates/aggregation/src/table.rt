@@ -1,11 +1,11 @@
-ghost use Rattle.std.specs.Prelude.{◌≡◌, ◌<◌, [], ◌∷◌, ◌++◌, length, IfOk, IsTrue, MatchResult, OnOk, None, slice_index_or, slice_set};
+ghost use Rattle.std.specs.Prelude.{◌≡◌, ◌<◌, ◌≤◌, ◌^◌, [], ◌∷◌, ◌++◌, drop, length, map, IfOk, IsTrue, MatchResult, OnOk, None, slice_index_or, slice_set};
 ghost use Rattle.sql_values.specs.Cells.{cut};
 ghost use Rattle.relations.specs.Partials.{merged, partial_of};
 ghost use Rattle.group_index.specs.Keys.{place_of};
 ghost use Rattle.accumulators.specs.Limits.{are_allowed};
-ghost use Rattle.aggregation.specs.Alike.{TellAlike, part_row, part_rows};
+ghost use Rattle.aggregation.specs.Alike.{TellAlike, held_row, part_row, part_rows};
 ghost use Rattle.aggregation.specs.Held.{first_keys, first_partials};
-ghost use Rattle.aggregation.specs.Giving.{has_verdict, verdicts_with};
+ghost use Rattle.aggregation.specs.Giving.{has_verdict, parts_with, verdicts_with};
 ghost use Rattle.aggregation.specs.Tables.{AreResults, GroupFailsBy, IsKeyAt, IsOpen, IsPut, OneFailsBy, held_in, verdict_at, verdicts_of};
 
 use crate::page_row::PageRow;
@@ -106,6 +106,13 @@ impl GroupTable {
         })
     }
 
+    /// The types of the rows that it takes.
+    pub fn types(&self) -> &[SqlType]
+        ensures { result.now ≡ self.now.types }
+    {
+        &self.types
+    }
+
     /// How many groups there are.
     pub fn len(&self) -> usize
         ensures { result ≡ length self.now.keys }
@@ -185,6 +192,50 @@ impl GroupTable {
         Ok(())
     }
 
+    /// Takes what a row has behind its key as a partial row of the key's group. What is no partial row is refused
+    /// as `Memory`, and so are more than 2^31 key columns.
+    pub fn merge<C: Cells>(&mut self, cells: &C) -> Result<(), Memory>
+        ensures same { record self.new { keys = self.old.keys; partials = self.old.partials } ≡ self.old }
+        ensures ok { OnOk result (TellAlike (length self.old.columns) self.old.calls (held_in self.new)
+            (held_in self.old ++ held_row self.old.columns (C.values cells.now) ∷ [])) }
+    {
+        let _ = &self.alloc;
+        let place = self.open(cells)?;
+        self.merge_at(place, cells)
+    }
+
+    /// Takes what a row has behind its key into the group at a place.
+    fn merge_at<C: Cells>(&mut self, place: usize, cells: &C) -> Result<(), Memory>
+        requires { place < length self.old.keys }
+        ensures same { record self.new { partials = self.old.partials } ≡ self.old }
+        ensures ok { OnOk result (self.new ≡ record self.old {
+          partials = slice_set self.old.partials place
+              (merged self.old.calls (slice_index_or self.old.partials place [])
+              (drop (length self.old.columns) (C.values cells.now)));
+        }) }
+    {
+        let first = first_behind(self.columns.len())?;
+        let group = &mut self.groups[place];
+        if !group.takes_part(cells, first) {
+            return Err(Memory);
+        }
+        let merged = group.merge_cells(cells, first);
+        group.none_adds_nothing();
+        merged
+    }
+
+    /// Takes the partial rows that the rows of a page have behind their keys.
+    pub fn merge_page(&mut self, page: &Page) -> Result<(), Memory>
+        ensures same { record self.new { keys = self.old.keys; partials = self.old.partials } ≡ self.old }
+        ensures ok { OnOk result (TellAlike (length self.old.columns) self.old.calls (held_in self.new)
+            (held_in self.old ++ map (held_row self.old.columns) page.now.rows)) }
+    {
+        for position in 0..page.len() {
+            self.merge(&PageRow { page, position })?;
+        }
+        Ok(())
+    }
+
     /// The law that what is said of the groups is what their partial rows tell.
     pub fn groups_are_told(&self)
         ensures { verdicts_with self.now [] ≡ verdicts_of self.now }
@@ -215,6 +266,19 @@ impl GroupTable {
         Ok(rows)
     }
 
+    /// The key and the partial row of each group, as columns of these types.
+    pub fn parts(&self, kinds: &[SqlType]) -> Result<ColumnRows, Memory>
+        requires { 0 < length kinds.now }
+        ensures { IfOk result (AreResults kinds.now (parts_with self.now [])) }
+    {
+        let mut rows = ColumnRows::new(self.alloc, kinds)?;
+        for place in 0..self.groups.len() {
+            let part = self.groups[place].part()?;
+            put_group(&mut rows, self.index.key(place), &part)?;
+        }
+        Ok(rows)
+    }
+
     /// Appends the row of a group.
     fn put_result(&self, place: usize, rows: &mut ColumnRows) -> Result<(), EvalFault>
         requires within { place < length self.now.keys }
@@ -226,6 +290,17 @@ impl GroupTable {
             Ok(results) => Ok(put_group(rows, self.index.key(place), &results)?),
             Err(fault) => Err(fault),
         }
+    }
+}
+
+/// The column behind so many, which are at most 2^31.
+pub fn first_behind(width: usize) -> Result<u32, Memory>
+    ensures { IfOk result (λ n. (n ≡ width) × (n ≤ 2 ^ 31)) }
+{
+    if width <= 2_147_483_648 {
+        Ok(width as u32)
+    } else {
+        Err(Memory)
     }
 }
 

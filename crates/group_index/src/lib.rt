@@ -11,6 +11,8 @@
 mod chains;
 mod hashes;
 mod index;
+#[cfg(test)]
+mod tests;
 
 pub use chains::HashChains;
 pub use index::GroupIndex;

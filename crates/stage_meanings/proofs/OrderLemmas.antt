@@ -16,19 +16,27 @@ use Rattle.stage_meanings.specs.Pipelines.{at_node}
 use Rattle.stage_meanings.specs.Meanings.{Means}
 use Rattle.stage_meanings.specs.RowMeanings.{MakesRows}
 
+-- the stage makes rows of the types `given` of rows of the types `taken`
+abbrev pub GivesTypes : Stage → List SqlType → List SqlType → Type 0
+GivesTypes stage taken given = (X Y : List Row) → AllFit taken X → Makes strict stage X Y → AllFit given Y
+
+pub made_rows-mean : {S : Type 0} (g : Ghosts S) (m : S) (node : ℕ) (taken given : List SqlType) (stage : Stage) → GivesTypes stage taken given → MakesRows g m stage
+    → Means g m taken (at_node node stage ∷ []) given
+made_rows-mean g m node taken given stage fit own = record {
+  fits = λ X Y fits gives. fit X Y fits (own.makes strict X Y gives);
+  makes = λ X Y fits gives none. (Y, own.makes strict X Y gives, refl);
+  goes_on = λ X Y ended done fits can. goes_on-one stage X Y ended done (λ more may.
+      let c = can.could more may in (c.0, own.makes skipping (X ++ more) (Y ++ c.0) c.1, c.2));
+  fails = λ X ended at kind fits fails. absurd (own.calm (X ++ []) at kind (fails [] (λ e. refl)));
+}
+
 -- the stage keeps the types of its rows
 abbrev pub KeepsTypes : Stage → List SqlType → Type 0
-KeepsTypes stage types = (X Y : List Row) → AllFit types X → Makes strict stage X Y → AllFit types Y
+KeepsTypes stage types = GivesTypes stage types types
 
 pub rows_mean : {S : Type 0} (g : Ghosts S) (m : S) (node : ℕ) (types : List SqlType) (stage : Stage) → KeepsTypes stage types → MakesRows g m stage
     → Means g m types (at_node node stage ∷ []) types
-rows_mean g m node types stage keeps own = record {
-  fits = λ X Y fit gives. keeps X Y fit (own.makes strict X Y gives);
-  makes = λ X Y fit gives none. (Y, own.makes strict X Y gives, refl);
-  goes_on = λ X Y ended done fit can. goes_on-one stage X Y ended done (λ more may.
-      let c = can.could more may in (c.0, own.makes skipping (X ++ more) (Y ++ c.0) c.1, c.2));
-  fails = λ X ended at kind fit fails. absurd (own.calm (X ++ []) at kind (fails [] (λ e. refl)));
-}
+rows_mean g m node types stage keeps own = made_rows-mean g m node types types stage keeps own
 
 pub sort_keeps : (types : List SqlType) (keys : List KeySpec) → KeepsTypes (sort keys) types
 sort_keeps types keys X Y fit sorted = All-permutation (λ row. IsTrue (fits_row types row)) X Y sorted.same fit

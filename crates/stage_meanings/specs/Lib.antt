@@ -1,3 +1,4 @@
 pub mod Pipelines
 pub mod Meanings
 pub mod RowMeanings
+pub mod GroupMeanings

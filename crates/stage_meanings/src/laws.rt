@@ -1,8 +1,11 @@
 //! What follows from what operators mean.
-ghost use Rattle.std.specs.Prelude.{◌≡◌, ℕ, ◌<◌, List, [], ◌∷◌, Bool, true, Some, None, length, get_or, map, take};
+ghost use Rattle.std.specs.Prelude.{◌≡◌, ℕ, ◌<◌, List, [], ◌∷◌, ◌++◌, Bool, true, IsTrue, Some, None, length, get_or, map, take};
 ghost use Rattle.sql_values.specs.declared.types.SqlType.{SqlType};
 ghost use Rattle.sql_values.specs.declared.fail.Fail.{Fail};
 ghost use Rattle.sql_values.specs.declared.order.KeySpec.{KeySpec};
+ghost use Rattle.sql_values.specs.declared.relational.Call.{Call};
+ghost use Rattle.sql_functions.specs.CallTypes.{type_at};
+ghost use Rattle.relations.specs.Groups.{groups_of};
 ghost use Rattle.sql_exprs.specs.Forms.{Form};
 ghost use Rattle.sql_exprs.specs.Meaning.{kind_of};
 ghost use Rattle.operator_core.specs.Rows.{Row};
@@ -10,11 +13,16 @@ ghost use Rattle.operator_core.specs.Stages.{AreMadeOf, Chain, FailsAfter, Linke
 ghost use Rattle.page_judges.specs.Typed.{AllFit, AllTyped};
 ghost use Rattle.row_ops.specs.RowJudges.{columns_in, row_judge};
 ghost use Rattle.plan_trees.specs.Allowed.{strict};
-ghost use Rattle.plan_runs.specs.Nets.{Chain as StageChain, filter, limit, project, sort, topn};
+ghost use Rattle.plan_trees.specs.TreeTypes.{call_kind};
+ghost use Rattle.bag_laws.specs.Pieces.{finals_of};
+ghost use Rattle.accumulators.specs.Limits.{are_allowed};
+ghost use Rattle.aggregation.specs.Layouts.{layout_types};
+ghost use Rattle.plan_runs.specs.Nets.{Chain as StageChain, filter, final, grouping, limit, partial, project, sort, topn};
 ghost use Rattle.plan_runs.specs.Stops.{CanGoOn};
 ghost use Rattle.stage_meanings.specs.Meanings.{ActsAs, AllMean, Means};
 ghost use Rattle.stage_meanings.specs.Pipelines.{FailsIn, NodeStage, at_node, stages_of};
 ghost use Rattle.stage_meanings.specs.RowMeanings.{JudgesRows, MakesRows};
+ghost use Rattle.stage_meanings.specs.GroupMeanings.{GivesGroups};
 
 use operator_core::Operator;
 use std::marker::PhantomData;
@@ -53,6 +61,34 @@ pub fn tops_mean<O: Operator>(_of: PhantomData<O>)
 pub fn limits_mean<O: Operator>(_of: PhantomData<O>)
     ensures { (m : O) (node count : ℕ) (types : List SqlType) → MakesRows O.Operator m (limit count)
         → Means O.Operator m types (at_node node (limit count) ∷ []) types }
+{}
+
+/// The law that an operator which gives the rows of groups, and fails as one of them does, is a grouping.
+pub fn groupings_mean<O: Operator>(_of: PhantomData<O>)
+    ensures { (m : O) (node : ℕ) (types : List SqlType) (keys : List ℕ) (calls : List Call)
+        → IsTrue (are_allowed types calls)
+        → GivesGroups O.Operator m node (groups_of types keys calls)
+        → Means O.Operator m types (at_node node (grouping types keys calls) ∷ [])
+        (map (type_at types) keys ++ map (call_kind types) calls) }
+{}
+
+/// The law that an operator which gives the partial rows of groups is the first half of a grouping.
+pub fn partials_mean<O: Operator>(_of: PhantomData<O>)
+    ensures { (m : O) (node : ℕ) (types : List SqlType) (keys : List ℕ) (calls : List Call)
+        → MakesRows O.Operator m (partial keys calls)
+        → Means O.Operator m types (at_node node (partial keys calls) ∷ [])
+        (layout_types (map (type_at types) keys) types calls) }
+{}
+
+/// The law that an operator which gives the rows of groups of partial rows, and fails as one of them does, is
+/// the second half of a grouping.
+pub fn finals_mean<O: Operator>(_of: PhantomData<O>)
+    ensures { (m : O) (node : ℕ) (kinds types : List SqlType) (calls : List Call)
+        → IsTrue (are_allowed types calls)
+        → GivesGroups O.Operator m node (finals_of types (length kinds) calls)
+        → Means O.Operator m (layout_types kinds types calls)
+        (at_node node (final types (length kinds) calls) ∷ [])
+        (kinds ++ map (call_kind types) calls) }
 {}
 
 /// The law that an operator which acts as another means what that one means: as one that stands in

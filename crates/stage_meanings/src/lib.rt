@@ -14,18 +14,25 @@
 //!   failing row, is a filter where it gives all columns, and a project where it has no predicate
 //! - `laws::sorts_mean`, `laws::tops_mean`, `laws::limits_mean`: one that gives what such a stage makes of all
 //!   its rows, and never fails, is that stage
+//! - `laws::groupings_mean`: one that gives the rows of groups, and fails as one of them does, is a grouping
+//! - `laws::partials_mean`, `laws::finals_mean`: likewise the halves of a grouping
 //! - `laws::acting_operators_mean`: one that does what another does means the same
 //! - `row_stages`: the operators of filters and projects, made of their expressions
+//! - `aggregate_stages`: the operators of aggregates
 //!
 //! `specs/Pipelines.antt` has stages with their nodes and a failure among them, `specs/Meanings.antt`
-//! what an operator means, `specs/RowMeanings.antt` operators that judge row by row, or choose and order rows.
+//! what an operator means, `specs/RowMeanings.antt` operators that judge row by row, or choose and order rows,
+//! `specs/GroupMeanings.antt` operators that make groups.
 #![tactic(auto)]
 
+mod aggregate_stages;
 mod laws;
 mod row_stages;
 
+pub use aggregate_stages::{final_of, partial_of, single_of};
 pub use laws::{
-    acting_operators_mean, drivers_can_go_on, failed_drivers_fail, filters_mean,
-    finished_drivers_make, limits_mean, projects_mean, sorts_mean, tops_mean,
+    acting_operators_mean, drivers_can_go_on, failed_drivers_fail, filters_mean, finals_mean,
+    finished_drivers_make, groupings_mean, limits_mean, partials_mean, projects_mean, sorts_mean,
+    tops_mean,
 };
 pub use row_stages::{filter_of, project_of};

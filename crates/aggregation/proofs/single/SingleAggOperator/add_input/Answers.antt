@@ -1,23 +1,23 @@
-use Rattle.std.proofs.Common.{List, ◌++◌, sym, subst}
-use Rattle.relations.specs.Verdicts.{Verdict}
-use Rattle.aggregation.specs.Giving.{GroupsFail, GroupsGive, SingleState, single_verdicts}
+use Rattle.std.proofs.Common.{◌++◌, ap}
+use Rattle.aggregation.specs.Giving.{GroupsState, verdicts_with}
+use Rattle.aggregation.proofs.OperatorLemmas.{took-fails, took-gives}
 use Rattle.aggregation.proofs.SingleLemmas.{verdicts-taken}
 use Rattle.aggregation.proofs.single.SingleAggOperator.add_input.Goals as goal
 
 pub returns-clause-gives : goal.returns-clause-gives
 returns-clause-gives c =
-    let s = c.self.inside in
+    let old = c.args.self.now.groups in
+    let new = c.add_page.new.self in
     let rows = c.args.page.rows in
-    λ u X B g. subst (λ (t : SingleState). GroupsGive t.begun t.left.rows (single_verdicts t (rows ++ X)) B) c.self.view_is
-    (subst (λ (V : List Verdict). GroupsGive s.has_begun s.left.rows V B) (verdicts-taken s.table c.add_page.new.self rows X c.in_ok-add_page.ensures.same c.in_ok-add_page.ensures.ok) g)
+    let same = c.in_ok-add_page.ensures.same in
+    λ u X B g. took-gives old new (verdicts_with new.table X) (verdicts_with old.table (rows ++ X)) (ap (λ (s : GroupsState). s.begun) same) (ap (λ (s : GroupsState). s.left) same)
+    (verdicts-taken old.table new.table (ap (λ (s : GroupsState). s.table) same) rows X c.in_ok-add_page.ensures.ok) B g
 
 pub returns-clause-fails : goal.returns-clause-fails
 returns-clause-fails c =
-    let s = c.self.inside in
+    let old = c.args.self.now.groups in
+    let new = c.add_page.new.self in
     let rows = c.args.page.rows in
-    λ u X node kind. (
-      (λ f. subst (λ (t : SingleState). GroupsFail t.begun t.node (single_verdicts t (rows ++ X)) node kind) c.self.view_is
-          (subst (λ (V : List Verdict). GroupsFail s.has_begun s.node V node kind) (verdicts-taken s.table c.add_page.new.self rows X c.in_ok-add_page.ensures.same c.in_ok-add_page.ensures.ok) f)),
-      (λ f. subst (λ (V : List Verdict). GroupsFail s.has_begun s.node V node kind) (sym (verdicts-taken s.table c.add_page.new.self rows X c.in_ok-add_page.ensures.same c.in_ok-add_page.ensures.ok))
-          (subst (λ (t : SingleState). GroupsFail t.begun t.node (single_verdicts t (rows ++ X)) node kind) (sym c.self.view_is) f)),
-    )
+    let same = c.in_ok-add_page.ensures.same in
+    λ u X node kind. took-fails old new (verdicts_with new.table X) (verdicts_with old.table (rows ++ X)) (ap (λ (s : GroupsState). s.begun) same) (ap (λ (s : GroupsState). s.left) same)
+    (verdicts-taken old.table new.table (ap (λ (s : GroupsState). s.table) same) rows X c.in_ok-add_page.ensures.ok) c.args.self.now.node node kind

@@ -1,4 +1,6 @@
-use Rattle.std.proofs.Common.{◌<◌, length, sym, subst}
+use Rattle.std.proofs.Common.{◌<◌, List, [], ◌∷◌, length, sym, subst}
+use Rattle.sql_values.specs.declared.relational.Call.{Call}
+use Rattle.relations.specs.Partials.{partial_of}
 use Rattle.aggregation.specs.Tables.{IsGroupOf, TableState}
 use Rattle.aggregation.proofs.TableLemmas.{group-there, partials-set, table-set}
 use Rattle.aggregation.proofs.table.GroupTable.add_at.Goals as goal
@@ -17,4 +19,4 @@ returns-clause-ok g c =
     let s = c.self.inside in
     let within = subst (λ (t : TableState). c.args.place < length t.keys) (sym c.self.view_is) c.requires in
     partials-set s.columns.items s.calls.items s.types.items s.index s.groups.items c.self.invariant c.args.place c.index_mut-group.result.now c.add-added.new.self
-    (g.C.Cells.values c.args.cells.now) c.add-added.result c.args.self.now within c.self.view_is c.index_mut-group.ensures.value c.add-added.ensures.ok
+    (λ (calls : List Call). partial_of calls (g.C.Cells.values c.args.cells.now ∷ [])) c.add-added.result c.args.self.now within c.self.view_is c.index_mut-group.ensures.value c.add-added.ensures.ok

@@ -1,0 +1,16 @@
+use Rattle.std.proofs.Common.{ap, drop, length, subst}
+use Rattle.std.proofs.lemmas.List.{length-map}
+use Rattle.sql_values.specs.Cells.{cell, cut}
+use Rattle.aggregation.specs.Held.{AreHeld}
+use Rattle.aggregation.specs.Tables.{TableState}
+use Rattle.aggregation.proofs.TableLemmas.{part-added}
+use Rattle.aggregation.proofs.table.GroupTable.merge.Goals as goal
+
+pub returns-clause-ok : goal.returns-clause-ok
+returns-clause-ok g c =
+    let old = c.args.self.now in
+    let row = g.C.Cells.values c.args.cells.now in
+    part-added old c.open.new.self c.merge_at.new.self (cut old.columns row) (λ (t : TableState). drop (length t.columns) row) c.in_ok-place.place c.merge_at.result
+    c.in_ok-place.ensures.same c.in_ok-place.ensures.ok c.in_ok-place.ensures.place (length-map old.columns (cell row))
+    (subst (λ (t : TableState). AreHeld (length t.columns) t.calls t.keys t.partials) c.self.view_is c.self.invariant.held)
+    (ap (λ (t : TableState). drop (length t.columns) row) c.in_ok-place.ensures.same) c.merge_at.ensures.ok

@@ -1,0 +1,15 @@
+use Rattle.aggregation.specs.contracts.final_agg.FinalAggOperator.TheImpl.{ghosts}
+use Rattle.aggregation.specs.Layouts.{layout_types}
+use Rattle.stage_meanings.proofs.GroupLemmas.{finals-mean, if_all, if_made, of_types}
+use Rattle.stage_meanings.proofs.aggregate_stages.final_of.Goals as goal
+
+pub returns-clause-takes : goal.returns-clause-takes
+returns-clause-takes c =
+    if_made c.new.result (λ op takes page. of_types (layout_types c.args.kinds.items c.args.types.items c.args.calls.items) page (ghosts.takes op page) (takes page)) c.new.ensures.takes
+
+pub returns-clause-means : goal.returns-clause-means
+returns-clause-means c =
+    if_all c.new.result
+    (λ op gives fails learns. finals-mean ghosts op c.args.node c.args.kinds.items c.args.types.items c.args.calls.items c.requires.allowed
+    (record { gives = λ X Y give. (gives X Y).0 give; fails = fails; learned = λ s learned. learns s learned }))
+    c.new.ensures.gives c.new.ensures.fails c.new.ensures.learns

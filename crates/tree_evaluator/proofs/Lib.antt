@@ -6,3 +6,5 @@ pub mod EvalLemmas
 pub mod ViewLemmas
 pub mod FitLemmas
 pub mod SortLemmas
+pub mod JoinLemmas
+pub mod GroupLemmas

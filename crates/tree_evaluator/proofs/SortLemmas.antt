@@ -1,5 +1,5 @@
 -- A sorted list of rows, and the types of what is sorted.
-use Rattle.std.proofs.Common.{◌≡◌, ◌<◌, Bool, false, List, length, get_or, sym, ◌∙◌, ap, arith, subst}
+use Rattle.std.proofs.Common.{◌≡◌, ◌<◌, Bool, false, List, length, map, get_or, sym, ◌∙◌, ap, arith, subst}
 use Rattle.std.specs.Prelude.{IfOk, IsPermutation, IsTrue, Result, Ok, Err}
 use Rattle.std.specs.Fn.{Called}
 use Rattle.std.specs.List.Sorted.{IsSortedBy, IsSortedByClosure}
@@ -7,7 +7,7 @@ use Rattle.std.specs.Ordering.{is_lt}
 use Rattle.std.specs.declared.cmp.Ordering.{Ordering}
 use Rattle.std.proofs.lemmas.Bool.{true≢false}
 use Rattle.std.proofs.lemmas.Fn.{always_returns_same}
-use Rattle.std.proofs.lemmas.List.{length-map}
+use Rattle.std.proofs.lemmas.List.{length-append, length-map}
 use Rattle.std.proofs.lemmas.List.Sorted.{All-permutation, ranks_by, sorted_far}
 use denote.Ref.{Bor}
 use denote.Param.Members.{Mut}
@@ -17,11 +17,12 @@ use Rattle.sql_values.specs.declared.order.KeySpec.{KeySpec}
 use Rattle.sql_values.specs.ColumnRows.{fits_row}
 use Rattle.sql_values.specs.Order.{IsOrdered, row_cmp}
 use Rattle.sql_values.proofs.OrderLemmas.{row_cmp_total}
+use Rattle.sql_functions.specs.CallTypes.{type_at}
 use Rattle.sql_exprs.specs.Meaning.{kind_of}
 use Rattle.relations.specs.Sorts.{IsSortOf}
 use Rattle.page_judges.specs.Typed.{AllFit}
 use Rattle.plan_trees.specs.TreeForms.{TreeForm, scan, values, remote, filter, project, join, aggregate, sort, topn, limit, union}
-use Rattle.plan_trees.specs.TreeTypes.{types_of}
+use Rattle.plan_trees.specs.TreeTypes.{call_kind, types_of}
 use Rattle.tree_evaluator.specs.Fits.{FitsTables}
 
 -- a tree that fits has a column
@@ -31,8 +32,9 @@ has_column (values id types constants) tables fit = fit.0
 has_column (remote id input) tables fit = has_column input tables fit
 has_column (filter id predicate input) tables fit = has_column input tables fit.1
 has_column (project id columns input) tables fit = omega (arith, length-map columns (kind_of (types_of input)), fit.0)
-has_column (join id kind on left right) tables fit = absurd fit
-has_column (aggregate id keys calls input) tables fit = absurd fit
+has_column (join id kind on left right) tables fit = omega (arith, length-append (types_of left) (types_of right), has_column left tables fit.0)
+has_column (aggregate id keys calls input) tables fit =
+    omega (arith, length-append (map (type_at (types_of input)) keys) (map (call_kind (types_of input)) calls), length-map keys (type_at (types_of input)), length-map calls (call_kind (types_of input)), fit.0)
 has_column (sort id keys input) tables fit = has_column input tables fit
 has_column (topn id count keys input) tables fit = has_column input tables fit
 has_column (limit id count input) tables fit = has_column input tables fit

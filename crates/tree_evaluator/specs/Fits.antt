@@ -1,10 +1,11 @@
--- Trees whose expressions have types, over tables and constants that fit the trees' types. Joins and
--- aggregates are not built yet: a tree with one fits no tables.
-use Rattle.std.specs.Prelude.{◌≡◌, ℕ, ◌<◌, List, ◌∷◌, All, length, map, slice_get, Option, Some, None}
+-- Trees whose expressions have types and whose aggregate calls can be made, over tables and constants
+-- that fit the trees' types.
+use Rattle.std.specs.Prelude.{◌≡◌, ℕ, ◌+◌, ◌<◌, List, ◌∷◌, All, IsTrue, length, map, slice_get, Option, Some, None}
 use Rattle.sql_values.specs.declared.types.Column.{Column}
 use Rattle.sql_values.specs.declared.types.SqlType.{SqlType}
 use Rattle.sql_values.specs.declared.table.Table.{Table}
 use Rattle.sql_values.specs.declared.value.Value.{Value}
+use Rattle.accumulators.specs.Limits.{are_allowed}
 use Rattle.page_judges.specs.Typed.{AllFit, AllTyped, IsTyped}
 use Rattle.plan_trees.specs.TreeForms.{TreeForm, scan, values, remote, filter, project, join, aggregate, sort, topn, limit, union}
 use Rattle.plan_trees.specs.TreeTypes.{types_of}
@@ -18,8 +19,9 @@ FitsTables (values id types constants) tables = (0 < length types) × AllFit typ
 FitsTables (remote id input) tables = FitsTables input tables
 FitsTables (filter id predicate input) tables = IsTyped (types_of input) predicate × FitsTables input tables
 FitsTables (project id columns input) tables = (0 < length columns) × AllTyped (types_of input) columns × FitsTables input tables
-FitsTables (join id kind on left right) tables = ⊥
-FitsTables (aggregate id keys calls input) tables = ⊥
+FitsTables (join id kind on left right) tables = FitsTables left tables × FitsTables right tables
+FitsTables (aggregate id keys calls input) tables =
+    (0 < length keys + length calls) × IsTrue (are_allowed (types_of input) calls) × FitsTables input tables
 FitsTables (sort id keys input) tables = FitsTables input tables
 FitsTables (topn id count keys input) tables = FitsTables input tables
 FitsTables (limit id count input) tables = FitsTables input tables

@@ -1,9 +1,10 @@
 -- What the evaluator gives, and why it stops.
-use Rattle.std.specs.Prelude.{◌≡◌, ℕ, List, Option, Some}
+use Rattle.std.specs.Prelude.{◌≡◌, ℕ, List, Contains, Option, Some}
 use Rattle.sql_values.specs.declared.value.Value.{Value}
 use Rattle.sql_values.specs.declared.table.Table.{Table}
 use Rattle.sql_values.specs.declared.fail.Fail.{Fail}
 use Rattle.col_pages.specs.Pages.{TypedPage}
+use Rattle.relations.specs.Verdicts.{Verdict, fails}
 use Rattle.plan_trees.specs.TreeForms.{TreeForm}
 use Rattle.plan_trees.specs.TreeTypes.{types_of}
 use Rattle.plan_trees.specs.Allowed.{Allows}
@@ -23,6 +24,11 @@ StopsFor tree tables stop.Memory = Unit {0}
 abbrev pub StopsHere : ℕ → Option Fail → EvalStop → Type 0
 StopsHere id failure (stop.ExprFailed node kind) = (id ≡ node) × (failure ≡ Some kind)
 StopsHere id failure stop.Memory = Unit {0}
+
+-- one of the verdicts of this node fails so, or memory was wanting
+abbrev pub GroupStops : ℕ → List Verdict → EvalStop → Type 0
+GroupStops id verdicts (stop.ExprFailed node kind) = (id ≡ node) × Contains verdicts (fails kind)
+GroupStops id verdicts stop.Memory = Unit {0}
 
 -- rows of the tree's types that the tree allows
 pub record IsEvaluated (tree : TreeForm) (tables : List (List (List Value))) (given : TypedPage) : Type 0 where

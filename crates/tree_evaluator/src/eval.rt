@@ -4,6 +4,8 @@ ghost use Rattle.plan_trees.specs.TreeForms.{tree_view};
 ghost use Rattle.tree_evaluator.specs.Fits.{FitsTables};
 ghost use Rattle.tree_evaluator.specs.Stops.{IsEvaluated, StopsFor, rows_of};
 
+use crate::groups::group_rows;
+use crate::joins::join_rows;
 use crate::judges::{filter_rows, project_rows};
 use crate::leaves::{constant_rows, scan_table};
 use crate::lists::{append_rows, limit_rows, list_of};
@@ -55,6 +57,26 @@ fn evaluate_node(alloc: Global, tree: &Tree, tables: &[Table]) -> Result<NodeRow
             let rows = evaluate_node(alloc, input, tables)?;
             project_rows(alloc, *id, columns.as_slice(), types.as_slice(), rows)
         }
+        Tree::Join {
+            kind,
+            on,
+            left,
+            right,
+            ..
+        } => {
+            let left = evaluate_node(alloc, left, tables)?;
+            let right = evaluate_node(alloc, right, tables)?;
+            Ok(join_rows(alloc, *kind, on.as_slice(), left, right)?)
+        }
+        Tree::Aggregate {
+            id,
+            keys,
+            calls,
+            input,
+        } => {
+            let rows = evaluate_node(alloc, input, tables)?;
+            group_rows(alloc, *id, keys.as_slice(), calls.as_slice(), rows)
+        }
         Tree::Sort { keys, input, .. } => {
             let rows = evaluate_node(alloc, input, tables)?;
             Ok(sort_rows(alloc, keys.as_slice(), rows)?)
@@ -79,7 +101,5 @@ fn evaluate_node(alloc: Global, tree: &Tree, tables: &[Table]) -> Result<NodeRow
             append_rows(&mut rows, more)?;
             Ok(rows)
         }
-        Tree::Join { .. } => unreachable!(),
-        Tree::Aggregate { .. } => unreachable!(),
     }
 }

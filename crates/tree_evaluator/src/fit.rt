@@ -7,13 +7,14 @@ ghost use Rattle.page_judges.specs.Typed.{AllFit, AllTyped, IsTyped};
 ghost use Rattle.tree_evaluator.specs.Fits.{ColumnFits, ColumnsFit, FitsTables, TablesFit, kinds};
 ghost use Rattle.tree_evaluator.specs.Stops.{rows_of};
 
+use crate::calls::{are_allowed, has_column};
 use plan_trees::{Tree, types_of_tree};
 use sql_exprs::{Expr, TypeFault, typed};
 use sql_values::{Column, ColumnRows, Memory, RowList, SqlType, Table};
 use std::alloc::Global;
 
-/// True only where each expression of the tree has a type, each node is built and has a column, and tables
-/// and constants have the types that the tree says. It looks at a table's columns, not at its cells: a column
+/// True only where each expression of the tree has a type and each aggregate call can be made, each node
+/// has a column, and tables and constants have the types that the tree says. It looks at a table's columns, not at its cells: a column
 /// of another type that holds only NULL fits, and the answer is false.
 pub fn fits_tables(alloc: Global, tree: &Tree, tables: &[Table]) -> Result<bool, Memory>
     requires { TablesFit tables.now }
@@ -45,8 +46,22 @@ pub fn fits_tables(alloc: Global, tree: &Tree, tables: &[Table]) -> Result<bool,
             let fits = fits_tables(alloc, input, tables)?;
             Ok(!columns.is_empty() && typed && fits)
         }
-        Tree::Join { .. } => Ok(false),
-        Tree::Aggregate { .. } => Ok(false),
+        Tree::Join { left, right, .. } => {
+            let left = fits_tables(alloc, left, tables)?;
+            let right = fits_tables(alloc, right, tables)?;
+            Ok(left && right)
+        }
+        Tree::Aggregate {
+            keys,
+            calls,
+            input,
+            ..
+        } => {
+            let types = types_of_tree(alloc, input)?;
+            let allowed = are_allowed(types.as_slice(), calls.as_slice());
+            let fits = fits_tables(alloc, input, tables)?;
+            Ok(has_column(keys.as_slice(), calls.as_slice()) && allowed && fits)
+        }
         Tree::Sort { input, .. } => fits_tables(alloc, input, tables),
         Tree::TopN { input, .. } => fits_tables(alloc, input, tables),
         Tree::Limit { input, .. } => fits_tables(alloc, input, tables),

@@ -6,21 +6,23 @@
 //! tables fit the tree and its expressions are typed (`specs/Fits.antt`): this is asked for, and
 //! that the tree of a plan that was read has it is the law of `plan_fits`.
 //!
-//! Scans, constants, filters, projects, sorts, top ns, limits and unions are built. A tree with a
-//! join or an aggregate fits no tables; no plan with one is run today.
-//!
 //! - `eval`: `evaluate`
-//! - `fit`: `fits_tables`, whether a tree fits the tables
+//! - `fit`: `fits_tables`, whether a tree fits the tables. `calls`: whether aggregate calls can be made
 //! - `stop`: why it stops
 //! - `node_rows`: the rows of a node, as pages. `list_of` makes one list of them
 //! - `leaves`: the rows of scans and constants
 //! - `judges`: filters and projects
+//! - `joins`: joins, by a look at each pair of rows
+//! - `groups`: aggregates
 //! - `sorts`: sorts, and with a limit top ns
 //! - `lists`: unions and limits
 #![tactic(auto)]
 
+mod calls;
 mod eval;
 mod fit;
+mod groups;
+mod joins;
 mod judges;
 mod leaves;
 mod lists;

@@ -29,7 +29,8 @@ fn sorted_list(alloc: Global, keys: &[KeySpec], list: &RowList) -> Result<RowLis
     listed_rows(alloc, rows)
 }
 
-fn copied_rows(alloc: Global, list: &RowList) -> Result<Vec<Row>, Memory>
+/// The rows one by one.
+pub fn copied_rows(alloc: Global, list: &RowList) -> Result<Vec<Row>, Memory>
     ensures { IfOk result (λ rows. rows.items ≡ list.now) }
 {
     let mut rows = Vec::with_capacity(alloc, list.len())?;

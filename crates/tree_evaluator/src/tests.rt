@@ -1,9 +1,11 @@
 //! Small trees over constants, worked out by hand.
 
 use crate::{EvalStop, evaluate, fits_tables};
-use plan_trees::{KeyList, Tree};
+use plan_trees::{CallList, KeyList, Pair, Pairs, Tree};
 use sql_exprs::{CallName, Expr};
-use sql_values::{KeySpec, Memory, Order, Row, RowList, SqlType, Types, Value, ValueRef};
+use sql_values::{
+    Call, JoinKind, KeySpec, Memory, Order, Places, Row, RowList, SqlType, Types, Value, ValueRef,
+};
 use std::alloc::Global;
 
 const WHOLE: SqlType = SqlType::Bigint;
@@ -89,6 +91,7 @@ fn show(text: &mut String, rows: &RowList, columns: u32) -> Result<(), Memory> {
         for column in 0..columns {
             match rows.cell(place, column) {
                 ValueRef::Bigint(n) => write!(text, "{n} ")?,
+                ValueRef::Decimal(n) => write!(text, "{n}d ")?,
                 _ => text.push_str("null ")?,
             }
         }
@@ -240,5 +243,134 @@ fn lists_go_past_a_page(rt: HostRuntime) -> Result<(), Memory> {
         input: Box::new(alloc, tree)?,
     };
     assert!(rt; count_of(alloc, &tree)? == 9000);
+    Ok(())
+}
+
+/// The pairs beside those of `right` whose first column is this one of theirs.
+fn joined(
+    alloc: Global,
+    kind: JoinKind,
+    left: Tree,
+    column: u32,
+    right: &[(i64, i64)],
+) -> Result<Tree, Memory> {
+    let pair = Pair {
+        left: column,
+        right: 0,
+    };
+    Ok(Tree::Join {
+        id: 7,
+        kind,
+        on: Pairs::of(Vec::from_slice(alloc, &[pair])?),
+        left: Box::new(alloc, left)?,
+        right: Box::new(alloc, pairs(alloc, right)?)?,
+    })
+}
+
+const ORDERS: &[(i64, i64)] = &[(1, 10), (2, 20), (-1, 30), (2, 40)];
+
+const PARTS: &[(i64, i64)] = &[(2, 5), (1, 6), (-1, 7), (2, 8)];
+
+/// A left join over an inner one.
+fn join_of_join(alloc: Global) -> Result<Tree, Memory> {
+    let inner = joined(alloc, JoinKind::Inner, pairs(alloc, ORDERS)?, 0, PARTS)?;
+    joined(alloc, JoinKind::Left, inner, 3, &[(5, 1), (5, 2), (7, 3)])
+}
+
+#[test]
+fn joins_find_partners(rt: HostRuntime) -> Result<(), Memory> {
+    let alloc = rt.alloc();
+    let tree = joined(alloc, JoinKind::Inner, pairs(alloc, ORDERS)?, 0, PARTS)?;
+    let text = outcome(alloc, tree, 4)?;
+    assert!(rt; text.as_str() == "1 10 1 6 2 20 2 5 2 20 2 8 2 40 2 5 2 40 2 8 ");
+    let tree = joined(alloc, JoinKind::Left, pairs(alloc, ORDERS)?, 0, PARTS)?;
+    let text = outcome(alloc, tree, 4)?;
+    let wanted = "1 10 1 6 2 20 2 5 2 20 2 8 null 30 null null 2 40 2 5 2 40 2 8 ";
+    assert!(rt; text.as_str() == wanted);
+    let text = outcome(alloc, join_of_join(alloc)?, 6)?;
+    let wanted =
+        "1 10 1 6 null null 2 20 2 5 5 1 2 20 2 5 5 2 2 20 2 8 null null 2 40 2 5 5 1 2 40 2 5 5 2 2 40 2 8 null null ";
+    assert!(rt; text.as_str() == wanted);
+    Ok(())
+}
+
+/// The groups of the rows by these columns.
+fn grouped(alloc: Global, keys: &[u32], calls: &[Call], input: Tree) -> Result<Tree, Memory> {
+    Ok(Tree::Aggregate {
+        id: 8,
+        keys: Places::of(Vec::from_slice(alloc, keys)?),
+        calls: CallList::of(Vec::from_slice(alloc, calls)?),
+        input: Box::new(alloc, input)?,
+    })
+}
+
+#[test]
+fn aggregates_group_rows(rt: HostRuntime) -> Result<(), Memory> {
+    let alloc = rt.alloc();
+    let calls = [
+        Call::CountAll,
+        Call::Count(1),
+        Call::Sum(1),
+        Call::Min(1),
+        Call::Max(1),
+    ];
+    let tree = grouped(alloc, &[0], &calls, pairs(alloc, PAIRS)?)?;
+    let text = outcome(alloc, tree, 6)?;
+    assert!(rt; text.as_str() == "2 3 2 6 1 5 null 1 1 7 7 7 1 2 1 3 3 3 ");
+    let tree = grouped(alloc, &[0], &[Call::Sum(5)], join_of_join(alloc)?)?;
+    let text = outcome(alloc, tree, 2)?;
+    assert!(rt; text.as_str() == "1 null 2 6 ");
+    let tree = grouped(alloc, &[], &calls, pairs(alloc, &[])?)?;
+    let text = outcome(alloc, tree, 5)?;
+    assert!(rt; text.as_str() == "0 0 null null null ");
+    let tree = grouped(alloc, &[0], &calls, pairs(alloc, &[])?)?;
+    let text = outcome(alloc, tree, 6)?;
+    assert!(rt; text.as_str() == "");
+    Ok(())
+}
+
+/// Decimals of two digits behind the point, by their digits; NULL for -1.
+fn prices(alloc: Global, p: u8, all: &[i128]) -> Result<Tree, Memory> {
+    let mut rows = RowList::new(alloc);
+    for price in all {
+        let value = if *price == -1 {
+            Value::Null
+        } else {
+            Value::Decimal(*price)
+        };
+        rows.push(Row::of(Vec::from_array(alloc, [value])?))?;
+    }
+    Ok(Tree::Values {
+        id: 9,
+        types: Types::of(Vec::from_slice(alloc, &[SqlType::Decimal { p, s: 2 }])?),
+        rows,
+    })
+}
+
+#[test]
+fn decimals_have_sums_and_averages(rt: HostRuntime) -> Result<(), Memory> {
+    let alloc = rt.alloc();
+    let calls = [Call::Sum(0), Call::Avg(0), Call::Count(0)];
+    let input = prices(alloc, 18, &[100, -1, 201, 250])?;
+    let text = outcome(alloc, grouped(alloc, &[], &calls, input)?, 3)?;
+    assert!(rt; text.as_str() == "551d 184d 3 ");
+    let input = prices(alloc, 18, &[-2, -3])?;
+    let text = outcome(alloc, grouped(alloc, &[], &calls, input)?, 3)?;
+    assert!(rt; text.as_str() == "-5d -3d 2 ");
+    let long = grouped(alloc, &[], &calls, prices(alloc, 19, &[100])?)?;
+    assert!(rt; !fits_tables(alloc, &long, &[])?);
+    Ok(())
+}
+
+#[test]
+fn an_aggregate_fails_or_does_not_fit(rt: HostRuntime) -> Result<(), Memory> {
+    let alloc = rt.alloc();
+    let great = numbers(alloc, &[i64::MAX, 1])?;
+    let text = outcome(alloc, grouped(alloc, &[], &[Call::Sum(0)], great)?, 1)?;
+    assert!(rt; text.as_str() == "node 8: a number is out of its type's range");
+    let none = grouped(alloc, &[], &[], numbers(alloc, &[1])?)?;
+    assert!(rt; !fits_tables(alloc, &none, &[])?);
+    let past = grouped(alloc, &[], &[Call::Sum(1)], numbers(alloc, &[1])?)?;
+    assert!(rt; !fits_tables(alloc, &past, &[])?);
     Ok(())
 }

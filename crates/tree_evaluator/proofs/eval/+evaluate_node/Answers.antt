@@ -1,11 +1,12 @@
 use Rattle.std.proofs.Common.{◌≡◌, ◌∙◌, ap, map, subst, sym}
 use Rattle.sql_exprs.specs.Forms.{form_view}
 use Rattle.plan_trees.specs.declared.tree.Tree.{Tree}
-use Rattle.plan_trees.specs.TreeForms.{TreeForm, filter, project, sort, topn, tree_view}
+use Rattle.plan_trees.specs.TreeForms.{TreeForm, aggregate, filter, join, pair_view, project, sort, topn, tree_view}
 use Rattle.tree_evaluator.specs.Fits.{FitsTables}
 use Rattle.tree_evaluator.specs.Stops.{rows_of}
-use Rattle.tree_evaluator.proofs.ViewLemmas.{view_filter, view_project, view_sort, view_topn}
+use Rattle.tree_evaluator.proofs.ViewLemmas.{view_aggregate, view_filter, view_join, view_project, view_sort, view_topn}
 use Rattle.tree_evaluator.proofs.EvalLemmas.{filter_answer, project_answer}
+use Rattle.tree_evaluator.proofs.GroupLemmas.{group_answer}
 use Rattle.tree_evaluator.proofs.SortLemmas.{gave_column}
 use Rattle.tree_evaluator.proofs.eval.+evaluate_node.Goals as goal
 
@@ -41,3 +42,20 @@ sort_rows-requires-in-TopN t c =
     ∙ ap (λ (i : Tree). topn c.in-TopN.id c.in-TopN.count c.in-TopN.keys (tree_view i)) (sym c.deref-in-TopN.ensures) in
     let fit : FitsTables (tree_view c.deref-in-TopN.result.now) (map rows_of c.args.tables.now) = subst (λ (f : TreeForm). FitsTables f (map rows_of c.args.tables.now)) view c.requires in
     gave_column (tree_view c.deref-in-TopN.result.now) (map rows_of c.args.tables.now) c.in_ok-rows-in-TopN.rows.types fit c.in_ok-rows-in-TopN.ensures.types
+
+pub join_rows-requires : goal.join_rows-requires
+join_rows-requires t c =
+    let view : tree_view c.args.tree.now ≡ join c.in-Join.id c.in-Join.kind (map pair_view c.in-Join.on) (tree_view c.deref-in-Join.result.now) (tree_view c.in-Join.right.value) =
+    ap tree_view c.in-Join.is ∙ view_join c.in-Join.id c.in-Join.kind c.in-Join.on c.in-Join.left c.in-Join.right
+    ∙ ap (λ (i : Tree). join c.in-Join.id c.in-Join.kind (map pair_view c.in-Join.on) (tree_view i) (tree_view c.in-Join.right.value)) (sym c.deref-in-Join.ensures) in
+    let fit : FitsTables (join c.in-Join.id c.in-Join.kind (map pair_view c.in-Join.on) (tree_view c.deref-in-Join.result.now) (tree_view c.in-Join.right.value)) (map rows_of c.args.tables.now) =
+    subst (λ (f : TreeForm). FitsTables f (map rows_of c.args.tables.now)) view c.requires in
+    gave_column (tree_view c.deref-in-Join.result.now) (map rows_of c.args.tables.now) c.in_ok-left-in-Join.left.types fit.0 c.in_ok-left-in-Join.ensures.types
+
+pub returns-in_ok-rows-in-Aggregate : goal.returns-in_ok-rows-in-Aggregate
+returns-in_ok-rows-in-Aggregate t c =
+    let view : tree_view c.args.tree.now ≡ aggregate c.in-Aggregate.id c.as_slice-in-Aggregate.result.now c.as_slice-in-Aggregate-2.result.now (tree_view c.deref-in-Aggregate.result.now) =
+    ap tree_view c.in-Aggregate.is ∙ view_aggregate c.in-Aggregate.id c.in-Aggregate.keys c.in-Aggregate.calls c.in-Aggregate.input
+    ∙ (λ i. aggregate c.in-Aggregate.id (sym c.as_slice-in-Aggregate.ensures i) (sym c.as_slice-in-Aggregate-2.ensures i) (tree_view (sym c.deref-in-Aggregate.ensures i))) in
+    group_answer (tree_view c.args.tree.now) c.in-Aggregate.id c.as_slice-in-Aggregate.result.now c.as_slice-in-Aggregate-2.result.now (tree_view c.deref-in-Aggregate.result.now) (map rows_of c.args.tables.now)
+    c.in_ok-rows-in-Aggregate.rows c.group_rows.result view c.in_ok-rows-in-Aggregate.ensures c.group_rows.ensures

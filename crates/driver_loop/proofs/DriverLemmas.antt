@@ -1,21 +1,30 @@
 -- What a driver keeps over its turns, and what follows from it.
-use Rattle.std.proofs.Common.{◌≡◌, ℕ, List, [], ◌∷◌, true, false, Option, Some, None, map, refl, sym, subst, arith}
+use Rattle.std.proofs.Common.{◌≡◌, ◌<◌, ℕ, List, [], ◌∷◌, Bool, true, false, Option, Some, None, Err, length, map, refl, sym, subst, arith}
 use Rattle.sql_values.specs.declared.fail.Fail.{Fail}
+use Rattle.operator_core.specs.Answers.{NotMemory}
 use Rattle.operator_core.specs.Calls.{IsLawful}
+use Rattle.operator_core.specs.declared.fault.OpFault.{OpFault}
+use Rattle.operator_core.specs.declared.fault.OpFault.TheVariants.{Expr}
+use Rattle.operator_core.specs.declared.fault.OpFault.TheVariants as op
 use Rattle.operator_core.specs.Stages.{last_finished}
 use Rattle.operator_core.proofs.ChainLemmas.{finished, could_go_on, failure}
 use Rattle.operator_core.proofs.LinkLemmas.{Linked-made}
 use Rattle.operator_core.proofs.StageLemmas.{Steps-made}
 use Rattle.operator_core.proofs.TurnLemmas.{Turns-made}
 use Rattle.stage_moves.specs.Counts.{LinkedBy}
+use Rattle.stage_moves.specs.Places.{AllLater, IsLater}
+use Rattle.stage_moves.proofs.PlaceLemmas.{each-length}
 use Rattle.driver_loop.specs.declared.run_fault.RunFault.{RunFault}
 use Rattle.driver_loop.specs.declared.run_fault.RunFault.TheVariants.{ExprFailed}
+use Rattle.driver_loop.specs.declared.source.Source.{Source}
 use Rattle.driver_loop.specs.declared.stage.Stage.{Stage}
+use Rattle.driver_loop.specs.declared.target.Target.{Target}
 use Rattle.driver_loop.specs.contracts.stage.StageOperator.TheImpl.{ghosts}
+use Rattle.driver_loop.specs.Faults.{run_fault}
 use Rattle.driver_loop.specs.Ends.{rows_taken, has_ended, rows_given}
 use Rattle.driver_loop.specs.Drivers.{DriverState, IsWhole, IsDriver, IsOver, HasFailed, CanGoOn, Went}
 
-whole : (fault : Option RunFault) → fault ≡ None → IsWhole fault
+pub whole : (fault : Option RunFault) → fault ≡ None → IsWhole fault
 whole fault e = subst IsWhole (sym e) tt
 
 failed_whole : (fault : Option RunFault) (node : ℕ) (kind : Fail) → fault ≡ Some (ExprFailed node kind) → IsWhole fault
@@ -35,6 +44,32 @@ driver_new laws d taken made given none going unfailed = record {
   over = λ f. cc;
   failed = λ node kind f. cc;
 }
+
+-- its target ended with the rows that it was given
+pub driver_ended : (number : ℕ) (source : Source) (stages : List Stage) (t u : Target) (work : ℕ) (over : Bool) (fault : Option RunFault) → rows_given u ≡ rows_given t
+    → IsDriver (record { number = number; source = source; stages = stages; target = t; work = work; is_finished = over; fault = fault })
+    → IsDriver (record { number = number; source = source; stages = stages; target = u; work = work; is_finished = over; fault = fault })
+driver_ended number source stages t u work over fault same kept = record {
+  links = λ w. rw same (kept.links w);
+  turns = kept.turns;
+  counts = λ e. let c = kept.counts e in record { rows = c.rows; entered = rw same c.entered; work = c.work };
+  over = kept.over;
+  failed = kept.failed;
+}
+
+pub over_ended : (number : ℕ) (source : Source) (stages : List Stage) (t u : Target) (work : ℕ) (over : Bool) (fault : Option RunFault) → rows_given u ≡ rows_given t
+    → IsOver (record { number = number; source = source; stages = stages; target = t; work = work; is_finished = over; fault = fault })
+    → IsOver (record { number = number; source = source; stages = stages; target = u; work = work; is_finished = over; fault = fault })
+over_ended number source stages t u work over fault same o = record { ended = o.ended; chain = rw same o.chain }
+
+-- there is room for as many stages
+pub room_stays : (old new : List Stage) (room : ℕ) → AllLater ghosts old new → length old < room → length new < room
+room_stays old new room later h = omega (arith, h, each-length (λ s t. IsLater ghosts s t) old new later)
+
+-- a fault of a turn that is no want of memory
+pub not_memory : (A : Type 0) (fault : OpFault) → IsWhole (Some (run_fault fault)) → NotMemory {A = A} (Err fault)
+not_memory A (Expr node kind) w = tt
+not_memory A op.Memory w = absurd w
 
 -- a turn after which the last stage is finished
 pub driver_ends : IsLawful ghosts → (d e : DriverState) → IsDriver d → d.fault ≡ None → Went d e → last_finished ghosts (has_ended e.source) e.stages ≡ true → IsOver e

@@ -1,5 +1,5 @@
 -- A driver as it is seen, and what it keeps over its turns.
-use Rattle.std.specs.Prelude.{◌≡◌, ℕ, List, Bool, true, Option, Some, None, map, min}
+use Rattle.std.specs.Prelude.{◌≡◌, ℕ, List, Bool, true, false, Option, Some, None, map, min}
 use Rattle.sql_values.specs.declared.fail.Fail.{Fail}
 use Rattle.blocked.specs.Counts.{most_count}
 use Rattle.operator_core.specs.Rows.{Row, Coming}
@@ -7,11 +7,13 @@ use Rattle.operator_core.specs.Stages.{Linked, ToldInTurn, Chain, AreMadeOf, Goe
 use Rattle.stage_moves.specs.Counts.{LinkedBy}
 use Rattle.stage_moves.specs.Moves.{SomeFails}
 use Rattle.driver_turns.specs.Turns.{StageFailed, WentOn}
+use Rattle.key_index.specs.Keys.{IndexedRows}
 use Rattle.driver_loop.specs.declared.run_fault.RunFault.{RunFault}
 use Rattle.driver_loop.specs.declared.run_fault.RunFault.TheVariants.{ExprFailed, Memory}
 use Rattle.driver_loop.specs.declared.source.Source.{Source}
 use Rattle.driver_loop.specs.declared.stage.Stage.{Stage}
 use Rattle.driver_loop.specs.declared.target.Target.{Target}
+use Rattle.driver_loop.specs.declared.target.Target.TheVariants.{Result, Build}
 use Rattle.driver_loop.specs.contracts.stage.StageOperator.TheImpl.{ghosts}
 use Rattle.driver_loop.specs.Ends.{rows_taken, has_ended, rows_given}
 
@@ -51,6 +53,19 @@ pub record IsDriver (d : DriverState) : Type 0 where
 pub record IsOver (d : DriverState) : Type 0 where
   pub ended : has_ended d.source ≡ true
   pub chain : Chain ghosts true (map ghosts.as_made d.stages) (rows_taken d.source) (rows_given d.target)
+
+-- a build has its rows: once they were published its note knows them, and before that nothing
+abbrev pub IsBuiltAs : Bool → Target → Type 0
+IsBuiltAs is_finished (Result rows types) = Unit {0}
+IsBuiltAs is_finished (Build build) =
+    (build.is_lost ≡ false)
+    × (build.is_published ≡ is_finished)
+    × ((x : IndexedRows) → build.note.known ≡ Some x → (is_finished ≡ true) × (x ≡ build.source))
+    × (is_finished ≡ true → build.note.known ≡ Some build.source)
+
+-- where its target is a build, it was published where it is finished, and only there
+abbrev pub IsBuilt : DriverState → Type 0
+IsBuilt d = IsBuiltAs d.is_finished d.target
 
 -- one of its stages, as it was made, fails so on what the stages before it gave, whatever rows still come
 abbrev pub HasFailed : DriverState → ℕ → Fail → Type 0

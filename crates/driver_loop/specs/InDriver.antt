@@ -1,5 +1,7 @@
 -- What a `Driver` keeps.
-use Rattle.driver_loop.specs.Drivers.{DriverState}
+use Rattle.std.specs.Prelude.{◌≡◌, ◌<◌, [], length}
+use Rattle.std.specs.Vec.{vec_capacity}
+use Rattle.driver_loop.specs.Drivers.{DriverState, IsBuilt, IsDriver, IsWhole}
 use Rattle.driver_loop.specs.declared.driver.Driver.TheInside.{Inside}
 
 abbrev pub driver_view : Inside → DriverState
@@ -12,3 +14,10 @@ driver_view d = record {
   is_finished = d.is_finished;
   fault = d.fault;
 }
+
+-- there is room for a note of each stage and one of the target
+pub record IsInDriver (d : Inside) : Type 0 where
+  pub driver : IsDriver (driver_view d)
+  pub built : IsWhole d.fault → IsBuilt (driver_view d)
+  pub none : d.lookups.items ≡ []
+  pub room : IsWhole d.fault → length d.stages.items < vec_capacity d.lookups

@@ -1,5 +1,7 @@
 pub mod RowsSources
 pub mod InRowsSource
+pub mod Builds
+pub mod InBuild
 pub mod Ends
 pub mod Faults
 pub mod Drivers

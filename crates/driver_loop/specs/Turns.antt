@@ -1,10 +1,15 @@
 -- What a turn of a driver answers, and what a driver hands back.
-use Rattle.std.specs.Prelude.{◌≡◌, true, false, Some, None}
+use Rattle.std.specs.Prelude.{◌≡◌, List, [], ◌∷◌, ◌++◌, true, false, Some, None, flat_map}
 use Rattle.blocked.specs.declared.blocked_on.BlockedOn.{BlockedOn}
 use Rattle.driver_loop.specs.declared.turn.Turn.{Turn}
 use Rattle.driver_loop.specs.declared.turn.Turn.TheVariants.{Yield, Blocked, Finished, Failed}
+use Rattle.driver_loop.specs.declared.pieces.CellNote.{CellNote}
 use Rattle.driver_loop.specs.declared.pieces.Pieces.{Pieces}
-use Rattle.driver_loop.specs.Ends.{claim_of, rows_given}
+use Rattle.driver_loop.specs.declared.stage.Stage.{Stage}
+use Rattle.driver_loop.specs.declared.stage.Stage.TheVariants.{Filter, Limit, Sort, TopN, Single, Probe}
+use Rattle.driver_loop.specs.declared.target.Target.{Target}
+use Rattle.driver_loop.specs.declared.target.Target.TheVariants.{Result, Build}
+use Rattle.driver_loop.specs.Ends.{claim_of, rows_kept}
 use Rattle.driver_loop.specs.Drivers.{DriverState}
 
 -- a driver that goes on, is finished, or keeps its fault, as the turn answered
@@ -21,8 +26,26 @@ IfBlocked (Blocked on) P = P on
 IfBlocked Finished P = Unit {0}
 IfBlocked (Failed fault) P = Unit {0}
 
+-- the note of a stage that looks into a cell
+abbrev pub note_of_stage : Stage → List CellNote
+note_of_stage (Filter op) = []
+note_of_stage (Limit op types) = []
+note_of_stage (Sort op) = []
+note_of_stage (TopN op) = []
+note_of_stage (Single op) = []
+note_of_stage (Probe op types) = record { bell = op.bell; note = op.note } ∷ []
+
+-- the note of a target that builds
+abbrev pub note_of_target : Target → List CellNote
+note_of_target (Result rows types) = []
+note_of_target (Build build) = record { bell = build.bell; note = build.note } ∷ []
+
+-- the notes of its stages in their order, and then that of its target
+abbrev pub notes_of : DriverState → List CellNote
+notes_of d = flat_map note_of_stage d.stages ++ note_of_target d.target
+
 -- its number, the seat of its source, and the rows of its target
 pub record ArePiecesOf (d : DriverState) (p : Pieces) : Type 0 where
   pub number : p.number ≡ d.number
   pub claim : p.claim ≡ claim_of d.source
-  pub rows : p.rows ≡ rows_given d.target
+  pub rows : p.rows ≡ rows_kept d.target

@@ -1,15 +1,16 @@
 //! A driver: one source, stages in order, one target.
-ghost use Rattle.std.specs.Prelude.{◌≡◌, ◌+◌, ◌<◌, ◌≤◌, ℕ, [], true, false, Ok, Some, None, map, min};
+ghost use Rattle.std.specs.Prelude.{◌≡◌, ◌+◌, ◌<◌, ◌≤◌, ℕ, [], true, false, IfOk, Some, None, map, min};
 ghost use Rattle.sql_values.specs.declared.fail.Fail.{Fail as Kind};
 ghost use Rattle.blocked.specs.Counts.{most_count};
 ghost use Rattle.col_pages.specs.Pages.{most_rows};
 ghost use Rattle.futures.specs.Task.{Covers, Keeps};
 ghost use Rattle.driver_turns.specs.Turns.{StageBlocked};
-ghost use Rattle.driver_loop.specs.Ends.{rows_taken, rows_given, has_ended, source_made, IsBegun, IsDrained};
-ghost use Rattle.driver_loop.specs.Drivers.{IsDriver, IsOver, HasFailed, CanGoOn, IsWhole, Went};
-ghost use Rattle.driver_loop.specs.Turns.{IsLeftBy, IfBlocked, ArePiecesOf};
+ghost use Rattle.driver_loop.specs.Ends.{is_build, rows_taken, has_ended, source_made, target_made, IsBegun, IsDrained};
+ghost use Rattle.driver_loop.specs.Drivers.{IsDriver, IsOver, HasFailed, CanGoOn, IsBuilt, IsWhole, Went};
+ghost use Rattle.driver_loop.specs.Turns.{IsLeftBy, IfBlocked, ArePiecesOf, notes_of};
 
-use crate::pieces::Pieces;
+use crate::notes::put_notes;
+use crate::pieces::{CellNote, Pieces};
 use crate::run_fault::RunFault;
 use crate::source::Source;
 use crate::stage::Stage;
@@ -31,11 +32,13 @@ use std::thread::Threads;
 pub struct Driver<'w> {
     number: u32,
     source: Source<'w>,
-    stages: Vec<Stage>,
-    target: Target,
+    stages: Vec<Stage<'w>>,
+    target: Target<'w>,
     work: u64,
     is_finished: bool,
     fault: Option<RunFault>,
+    lookups: Vec<CellNote>,
+    alloc: Global,
 }
 
 impl<'w> Model for Driver<'w> {
@@ -48,37 +51,37 @@ impl<'w> Model for Driver<'w> {
 
     ghost coded = { Prim.hlevel (codes, e.the_row.coded) };
 
-    ghost use Rattle.driver_loop.specs.InDriver.{driver_view};
-    ghost use Rattle.driver_loop.specs.Drivers.{IsDriver};
+    ghost use Rattle.driver_loop.specs.InDriver.{driver_view, IsInDriver};
 
     ghost view = { driver_view };
 
-    ghost invariant = { λ d. IsDriver (driver_view d) };
+    ghost invariant = { IsInDriver };
 }
 
 impl<'w> Driver<'w> {
-    /// A driver of parts as they were made. The lists of its `Pieces` want no memory yet.
+    /// A driver of parts as they were made. Takes the memory for the list of notes of its `Pieces`.
     pub fn new(
-        _alloc: Global,
+        alloc: Global,
         number: u32,
         source: Source<'w>,
-        stages: Vec<Stage>,
-        target: Target,
+        stages: Vec<Stage<'w>>,
+        target: Target<'w>,
     ) -> Result<Driver<'w>, Memory>
         requires source { rows_taken source ≡ [] }
-        requires stages { map ⟦<Stage as Operator>⟧.as_made stages.items ≡ stages.items }
-        requires target { rows_given target ≡ [] }
-        ensures { result ≡ Ok (record {
+        requires stages { map ⟦<Stage<'w> as Operator>⟧.as_made stages.items ≡ stages.items }
+        requires target { target_made target ≡ target }
+        ensures { IfOk result (λ d. d ≡ record {
           number = number;
           source = source.entry;
-          stages = stages.items;
-          target = target;
+          stages = stages.entry.items;
+          target = target.entry;
           work = 0;
           is_finished = false;
           fault = None;
         }) }
     {
-        laws::laws::<Stage>(PhantomData);
+        laws::laws::<Stage<'w>>(PhantomData);
+        let lookups = Vec::with_capacity(alloc, stages.len() + 1)?;
         Ok(Driver {
             number,
             source,
@@ -87,6 +90,8 @@ impl<'w> Driver<'w> {
             work: 0,
             is_finished: false,
             fault: None,
+            lookups,
+            alloc,
         })
     }
 
@@ -117,6 +122,13 @@ impl<'w> Driver<'w> {
         self.fault
     }
 
+    /// Whether its target builds the right side of a join.
+    pub fn is_build(&self) -> bool
+        ensures { result ≡ is_build self.now.target }
+    {
+        self.target.is_build()
+    }
+
     /// What it keeps over its turns, and what follows from it.
     pub fn keeps(&self)
         ensures kept { IsDriver self.now }
@@ -126,13 +138,15 @@ impl<'w> Driver<'w> {
         ensures failed { (node : ℕ) (kind : Kind)
             → self.now.fault ≡ Some (RunFault.ExprFailed node kind) → HasFailed self.now node kind }
         ensures goes_on { IsWhole self.now.fault → CanGoOn self.now }
+        ensures built { IsWhole self.now.fault → IsBuilt self.now }
     {
-        laws::laws::<Stage>(PhantomData);
+        laws::laws::<Stage<'w>>(PhantomData);
         self.source.keeps();
     }
 
     /// Moves rows until its last stage is finished, `quantum` of them entered a stage or the target, or nothing
-    /// moves and a stage waits. The future of one who waits has then registered with the context.
+    /// moves and a stage waits. The future of one who waits has then registered with the context. Where the last
+    /// stage is finished, the target ends: a build is published, and the bell of its cell is rung.
     pub fn turn<R: Threads + Wait + Sync, B: Bells>(
         &mut self,
         rt: &R,
@@ -143,13 +157,15 @@ impl<'w> Driver<'w> {
         requires running { (self.old.is_finished ≡ false) × (self.old.fault ≡ None) }
         ensures number { self.new.number ≡ self.old.number }
         ensures source { source_made self.new.source ≡ source_made self.old.source }
+        ensures target { IsWhole self.new.fault
+            → target_made self.new.target ≡ target_made self.old.target }
         ensures state { IsLeftBy result self.new }
         ensures went { IsWhole self.new.fault → Went self.old self.new }
         ensures work { (self.old.work ≤ self.new.work)
             × (self.new.work < self.old.work + (quantum + most_rows)) }
         ensures yields { result ≡ Turn.Yield
             → min (self.old.work + quantum) most_count ≤ self.new.work }
-        ensures blocked { IfBlocked result (λ on. StageBlocked ⟦<Stage as Operator>⟧
+        ensures blocked { IfBlocked result (λ on. StageBlocked ⟦<Stage<'w> as Operator>⟧
             self.old.stages self.new.stages (B.shown bells.new) on) }
         ensures heard { IfBlocked result (λ on. Covers cx.new (⟦<BlockedOn as Future>⟧.needs on)) }
         ensures over { result ≡ Turn.Finished → IsOver self.new }
@@ -159,7 +175,7 @@ impl<'w> Driver<'w> {
         ensures bells { (bell count : ℕ) → B.shown bells.old bell count
             → B.shown bells.new bell count }
     {
-        laws::laws::<Stage>(PhantomData);
+        laws::laws::<Stage<'w>>(PhantomData);
         let (units, turned) = match turn(
             rt,
             &mut self.source,
@@ -179,10 +195,16 @@ impl<'w> Driver<'w> {
         match turned {
             Turned::Yield => Turn::Yield,
             Turned::Blocked(on) => Turn::Blocked(hear(on, cx)),
-            Turned::Finished => {
-                self.is_finished = true;
-                Turn::Finished
-            }
+            Turned::Finished => match self.target.end(rt, bells) {
+                Ok(()) => {
+                    self.is_finished = true;
+                    Turn::Finished
+                }
+                Err(_) => {
+                    self.fault = Some(RunFault::Memory);
+                    Turn::Failed(RunFault::Memory)
+                }
+            },
         }
     }
 
@@ -190,6 +212,8 @@ impl<'w> Driver<'w> {
     pub fn into_pieces(self) -> Pieces<'w>
         requires { self.is_finished ≡ true }
         ensures pieces { ArePiecesOf self.entry result }
+        ensures lookups { IsWhole self.entry.fault → result.lookups.items ≡ notes_of self.entry }
+        ensures built { IsBuilt self.entry }
         ensures over { IsOver self.entry }
         ensures drained { IsDrained self.entry.source }
     {
@@ -200,6 +224,8 @@ impl<'w> Driver<'w> {
     /// Hands its parts back as they stand.
     pub fn stop(self) -> Pieces<'w>
         ensures pieces { ArePiecesOf self.entry result }
+        ensures lookups { IsWhole self.entry.fault → result.lookups.items ≡ notes_of self.entry }
+        ensures built { IsWhole self.entry.fault → IsBuilt self.entry }
         ensures kept { IsDriver self.entry }
     {
         self.keeps();
@@ -207,18 +233,25 @@ impl<'w> Driver<'w> {
     }
 
     fn take_apart(self) -> Pieces<'w>
-        ensures { ArePiecesOf self.entry result }
+        ensures pieces { ArePiecesOf self.entry result }
+        ensures lookups { IsWhole self.entry.fault → result.lookups.items ≡ notes_of self.entry }
     {
         let Driver {
             number,
             source,
+            stages,
             target,
+            mut lookups,
+            alloc,
             ..
         } = self;
+        put_notes(&mut lookups, stages);
+        let rows = target.into_rows(alloc, &mut lookups);
         Pieces {
             number,
             claim: source.into_claim(),
-            rows: target.into_rows(),
+            rows,
+            lookups,
         }
     }
 }

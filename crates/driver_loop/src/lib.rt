@@ -12,20 +12,36 @@
 //!   stages before it gave, whatever rows still come
 //! - `CanGoOn`: one that is not through, or failed on an expression, can go on, whatever rows still come and
 //!   whatever the notes of its stages come to know
+//! - `IsBuilt`: where its target builds the right side of a join, that was published where the driver is
+//!   finished, and only there: the target's note knows the rows that it was given, and nothing before
 //!
 //! A turn yields only once it counted its quantum of rows, and counts fewer than that and the most rows of a
 //! page. It is blocked only where a stage looked for a value in this turn, in vain; the future that it hands
 //! out has registered with the turn's context. After want of memory nothing is said but that it failed so.
 //!
+//! The turn in which the last stage is finished also ends the target: a build is frozen and published in its
+//! cell, and the cell's bell is rung. Where the cell has another source already, the turn fails as for want of
+//! memory.
+//!
+//! A driver hands back the notes of all cells that it looked into or published in. What notes of one cell know
+//! is the same (`SetNote::agree` of `set_once`), so that what one driver published is what others probed. The
+//! list of these notes has its memory from the start, so that a driver can always be taken apart.
+//!
 //! - `source`: `Source`, where pages come from. A scan of claimed splits, or rows of the plan (`rows_source`)
 //! - `stage`: `Stage`, the operators, one variant each. It behaves as its operator does, and expects pages of
 //!   the operator's types
 //! - `target`: `Target`, where pages go to. The rows of a result are kept as the pages in which they came
-//! - `driver`: `Driver`. `turn`: what a turn answers. `pieces`: what a driver hands back
+//! - `build`: `BuildTarget`, which keeps them as the source of a join (`specs/Builds.antt`)
+//! - `driver`: `Driver`. `turn`: what a turn answers. `pieces`: what a driver hands back. `notes`: how the
+//!   notes of its stages come into one list
 //! - `run_fault`: `RunFault`, why a run gave up
 #![tactic(auto)]
 
+mod build;
 mod driver;
+#[cfg(test)]
+mod join_tests;
+mod notes;
 mod pieces;
 mod rows_source;
 mod run_fault;
@@ -37,8 +53,9 @@ mod tests;
 mod turn;
 mod types;
 
+pub use build::BuildTarget;
 pub use driver::Driver;
-pub use pieces::Pieces;
+pub use pieces::{CellNote, Pieces};
 pub use rows_source::RowsSource;
 pub use run_fault::RunFault;
 pub use source::Source;

@@ -1,8 +1,10 @@
 //! The steps of a pipeline, one variant each.
 
 use crate::types::are_same;
+use aggregation::SingleAgg;
 use blocked::{Bells, BlockedOn};
 use col_pages::Page;
+use hash_join::ProbeOp;
 use operator_core::{OpFault, Operator};
 use row_ops::{FilterProject, LimitOp};
 use sql_values::{Memory, Types};
@@ -13,27 +15,33 @@ use topn_sort::{SortOp, TopNOp};
 
 /// A step of a pipeline. It behaves as its operator does. Where the operator does not keep the types of the
 /// rows that it is given, they stand beside it.
-#[derive(Debug, Drop)]
-pub enum Stage {
+#[derive(Drop)]
+pub enum Stage<'w> {
     Filter(FilterProject),
     Limit(LimitOp, Types),
     Sort(SortOp),
     TopN(TopNOp),
+    Single(SingleAgg),
+    Probe(ProbeOp<'w>, Types),
 }
 
-impl Operator for Stage {
+impl<'w> Operator for Stage<'w> {
     ghost use Rattle.std.specs.Prelude.{◌≡◌};
     ghost use Rattle.std.proofs.Common.{ap};
     ghost use Rattle.row_ops.specs.RowsHeld.{FilterState};
     ghost use Rattle.row_ops.specs.declared.limit.LimitOp.{LimitOp as LimitState};
-    ghost use Rattle.driver_loop.specs.declared.stage.Stage.TheVariants.{Filter, Limit, Sort, TopN};
+    ghost use Rattle.driver_loop.specs.declared.stage.Stage.TheVariants.{Filter, Limit, Sort, TopN, Single, Probe};
     ghost use Rattle.topn_sort.specs.Sorting.{SortState, TopState};
+    ghost use Rattle.aggregation.specs.declared.single.SingleAgg.{SingleAgg as SingleState};
+    ghost use Rattle.hash_join.specs.Probing.{ProbeState};
 
     ghost may_give = { elim [
       | Filter op ↦ ⟦<FilterProject as Operator>⟧.may_give op
       | Limit op types ↦ ⟦<LimitOp as Operator>⟧.may_give op
       | Sort op ↦ ⟦<SortOp as Operator>⟧.may_give op
       | TopN op ↦ ⟦<TopNOp as Operator>⟧.may_give op
+      | Single op ↦ ⟦<SingleAgg as Operator>⟧.may_give op
+      | Probe op types ↦ ⟦<ProbeOp<'w> as Operator>⟧.may_give op
     ] };
 
     ghost may_still_fail = { elim [
@@ -41,6 +49,8 @@ impl Operator for Stage {
       | Limit op types ↦ ⟦<LimitOp as Operator>⟧.may_still_fail op
       | Sort op ↦ ⟦<SortOp as Operator>⟧.may_still_fail op
       | TopN op ↦ ⟦<TopNOp as Operator>⟧.may_still_fail op
+      | Single op ↦ ⟦<SingleAgg as Operator>⟧.may_still_fail op
+      | Probe op types ↦ ⟦<ProbeOp<'w> as Operator>⟧.may_still_fail op
     ] };
 
     ghost takes = { elim [
@@ -48,6 +58,8 @@ impl Operator for Stage {
       | Limit op types ↦ ⟦<LimitOp as Operator>⟧.takes op
       | Sort op ↦ ⟦<SortOp as Operator>⟧.takes op
       | TopN op ↦ ⟦<TopNOp as Operator>⟧.takes op
+      | Single op ↦ ⟦<SingleAgg as Operator>⟧.takes op
+      | Probe op types ↦ ⟦<ProbeOp<'w> as Operator>⟧.takes op
     ] };
 
     ghost may_give_page = { elim [
@@ -55,6 +67,8 @@ impl Operator for Stage {
       | Limit op types ↦ ⟦<LimitOp as Operator>⟧.may_give_page op
       | Sort op ↦ ⟦<SortOp as Operator>⟧.may_give_page op
       | TopN op ↦ ⟦<TopNOp as Operator>⟧.may_give_page op
+      | Single op ↦ ⟦<SingleAgg as Operator>⟧.may_give_page op
+      | Probe op types ↦ ⟦<ProbeOp<'w> as Operator>⟧.may_give_page op
     ] };
 
     ghost page_size = { elim [
@@ -62,6 +76,8 @@ impl Operator for Stage {
       | Limit op types ↦ ⟦<LimitOp as Operator>⟧.page_size op
       | Sort op ↦ ⟦<SortOp as Operator>⟧.page_size op
       | TopN op ↦ ⟦<TopNOp as Operator>⟧.page_size op
+      | Single op ↦ ⟦<SingleAgg as Operator>⟧.page_size op
+      | Probe op types ↦ ⟦<ProbeOp<'w> as Operator>⟧.page_size op
     ] };
 
     ghost is_full = { elim [
@@ -69,6 +85,8 @@ impl Operator for Stage {
       | Limit op types ↦ ⟦<LimitOp as Operator>⟧.is_full op
       | Sort op ↦ ⟦<SortOp as Operator>⟧.is_full op
       | TopN op ↦ ⟦<TopNOp as Operator>⟧.is_full op
+      | Single op ↦ ⟦<SingleAgg as Operator>⟧.is_full op
+      | Probe op types ↦ ⟦<ProbeOp<'w> as Operator>⟧.is_full op
     ] };
 
     ghost gives_late = { elim [
@@ -76,6 +94,8 @@ impl Operator for Stage {
       | Limit op types ↦ ⟦<LimitOp as Operator>⟧.gives_late op
       | Sort op ↦ ⟦<SortOp as Operator>⟧.gives_late op
       | TopN op ↦ ⟦<TopNOp as Operator>⟧.gives_late op
+      | Single op ↦ ⟦<SingleAgg as Operator>⟧.gives_late op
+      | Probe op types ↦ ⟦<ProbeOp<'w> as Operator>⟧.gives_late op
     ] };
 
     ghost needs_input = { elim [
@@ -83,6 +103,8 @@ impl Operator for Stage {
       | Limit op types ↦ ⟦<LimitOp as Operator>⟧.needs_input op
       | Sort op ↦ ⟦<SortOp as Operator>⟧.needs_input op
       | TopN op ↦ ⟦<TopNOp as Operator>⟧.needs_input op
+      | Single op ↦ ⟦<SingleAgg as Operator>⟧.needs_input op
+      | Probe op types ↦ ⟦<ProbeOp<'w> as Operator>⟧.needs_input op
     ] };
 
     ghost holds_row = { elim [
@@ -90,6 +112,8 @@ impl Operator for Stage {
       | Limit op types ↦ ⟦<LimitOp as Operator>⟧.holds_row op
       | Sort op ↦ ⟦<SortOp as Operator>⟧.holds_row op
       | TopN op ↦ ⟦<TopNOp as Operator>⟧.holds_row op
+      | Single op ↦ ⟦<SingleAgg as Operator>⟧.holds_row op
+      | Probe op types ↦ ⟦<ProbeOp<'w> as Operator>⟧.holds_row op
     ] };
 
     ghost is_told = { elim [
@@ -97,6 +121,8 @@ impl Operator for Stage {
       | Limit op types ↦ ⟦<LimitOp as Operator>⟧.is_told op
       | Sort op ↦ ⟦<SortOp as Operator>⟧.is_told op
       | TopN op ↦ ⟦<TopNOp as Operator>⟧.is_told op
+      | Single op ↦ ⟦<SingleAgg as Operator>⟧.is_told op
+      | Probe op types ↦ ⟦<ProbeOp<'w> as Operator>⟧.is_told op
     ] };
 
     ghost is_finished = { elim [
@@ -104,6 +130,8 @@ impl Operator for Stage {
       | Limit op types ↦ ⟦<LimitOp as Operator>⟧.is_finished op
       | Sort op ↦ ⟦<SortOp as Operator>⟧.is_finished op
       | TopN op ↦ ⟦<TopNOp as Operator>⟧.is_finished op
+      | Single op ↦ ⟦<SingleAgg as Operator>⟧.is_finished op
+      | Probe op types ↦ ⟦<ProbeOp<'w> as Operator>⟧.is_finished op
     ] };
 
     ghost waits = { elim [
@@ -111,6 +139,8 @@ impl Operator for Stage {
       | Limit op types ↦ ⟦<LimitOp as Operator>⟧.waits op
       | Sort op ↦ ⟦<SortOp as Operator>⟧.waits op
       | TopN op ↦ ⟦<TopNOp as Operator>⟧.waits op
+      | Single op ↦ ⟦<SingleAgg as Operator>⟧.waits op
+      | Probe op types ↦ ⟦<ProbeOp<'w> as Operator>⟧.waits op
     ] };
 
     ghost bell = { elim [
@@ -118,6 +148,8 @@ impl Operator for Stage {
       | Limit op types ↦ ⟦<LimitOp as Operator>⟧.bell op
       | Sort op ↦ ⟦<SortOp as Operator>⟧.bell op
       | TopN op ↦ ⟦<TopNOp as Operator>⟧.bell op
+      | Single op ↦ ⟦<SingleAgg as Operator>⟧.bell op
+      | Probe op types ↦ ⟦<ProbeOp<'w> as Operator>⟧.bell op
     ] };
 
     ghost knows = { elim [
@@ -125,6 +157,8 @@ impl Operator for Stage {
       | Limit op types ↦ ⟦<LimitOp as Operator>⟧.knows op
       | Sort op ↦ ⟦<SortOp as Operator>⟧.knows op
       | TopN op ↦ ⟦<TopNOp as Operator>⟧.knows op
+      | Single op ↦ ⟦<SingleAgg as Operator>⟧.knows op
+      | Probe op types ↦ ⟦<ProbeOp<'w> as Operator>⟧.knows op
     ] };
 
     ghost empty_looks = { elim [
@@ -132,6 +166,8 @@ impl Operator for Stage {
       | Limit op types ↦ ⟦<LimitOp as Operator>⟧.empty_looks op
       | Sort op ↦ ⟦<SortOp as Operator>⟧.empty_looks op
       | TopN op ↦ ⟦<TopNOp as Operator>⟧.empty_looks op
+      | Single op ↦ ⟦<SingleAgg as Operator>⟧.empty_looks op
+      | Probe op types ↦ ⟦<ProbeOp<'w> as Operator>⟧.empty_looks op
     ] };
 
     ghost went = { elim [
@@ -139,6 +175,8 @@ impl Operator for Stage {
       | Limit op types ↦ ⟦<LimitOp as Operator>⟧.went op
       | Sort op ↦ ⟦<SortOp as Operator>⟧.went op
       | TopN op ↦ ⟦<TopNOp as Operator>⟧.went op
+      | Single op ↦ ⟦<SingleAgg as Operator>⟧.went op
+      | Probe op types ↦ ⟦<ProbeOp<'w> as Operator>⟧.went op
     ] };
 
     ghost as_made = { elim [
@@ -146,6 +184,8 @@ impl Operator for Stage {
       | Limit op types ↦ Limit (⟦<LimitOp as Operator>⟧.as_made op) types
       | Sort op ↦ Sort (⟦<SortOp as Operator>⟧.as_made op)
       | TopN op ↦ TopN (⟦<TopNOp as Operator>⟧.as_made op)
+      | Single op ↦ Single (⟦<SingleAgg as Operator>⟧.as_made op)
+      | Probe op types ↦ Probe (⟦<ProbeOp<'w> as Operator>⟧.as_made op) types
     ] };
 
     ghost may_learn = { λ s m. elim s [
@@ -157,6 +197,10 @@ impl Operator for Stage {
           × ⟦<SortOp as Operator>⟧.may_learn op to
       | TopN op ↦ (to : TopState) × (m ≡ TopN to)
           × ⟦<TopNOp as Operator>⟧.may_learn op to
+      | Single op ↦ (to : SingleState) × (m ≡ Single to)
+          × ⟦<SingleAgg as Operator>⟧.may_learn op to
+      | Probe op types ↦ (to : ProbeState) × (m ≡ Probe to types)
+          × ⟦<ProbeOp<'w> as Operator>⟧.may_learn op to
     ] };
 
     fn needs_input(&self) -> bool {
@@ -165,6 +209,8 @@ impl Operator for Stage {
             Stage::Limit(op, _) => op.needs_input(),
             Stage::Sort(op) => op.needs_input(),
             Stage::TopN(op) => op.needs_input(),
+            Stage::Single(op) => op.needs_input(),
+            Stage::Probe(op, _) => op.needs_input(),
         }
     }
 
@@ -174,6 +220,8 @@ impl Operator for Stage {
             Stage::Limit(op, _) => op.add_input(page),
             Stage::Sort(op) => op.add_input(page),
             Stage::TopN(op) => op.add_input(page),
+            Stage::Single(op) => op.add_input(page),
+            Stage::Probe(op, _) => op.add_input(page),
         }
     }
 
@@ -183,6 +231,8 @@ impl Operator for Stage {
             Stage::Limit(op, _) => op.get_output(),
             Stage::Sort(op) => op.get_output(),
             Stage::TopN(op) => op.get_output(),
+            Stage::Single(op) => op.get_output(),
+            Stage::Probe(op, _) => op.get_output(),
         }
     }
 
@@ -192,6 +242,8 @@ impl Operator for Stage {
             Stage::Limit(op, _) => op.finish(),
             Stage::Sort(op) => op.finish(),
             Stage::TopN(op) => op.finish(),
+            Stage::Single(op) => op.finish(),
+            Stage::Probe(op, _) => op.finish(),
         }
     }
 
@@ -201,6 +253,8 @@ impl Operator for Stage {
             Stage::Limit(op, _) => op.is_finished(),
             Stage::Sort(op) => op.is_finished(),
             Stage::TopN(op) => op.is_finished(),
+            Stage::Single(op) => op.is_finished(),
+            Stage::Probe(op, _) => op.is_finished(),
         }
     }
 
@@ -214,6 +268,8 @@ impl Operator for Stage {
             Stage::Limit(op, _) => op.blocked(rt, bells),
             Stage::Sort(op) => op.blocked(rt, bells),
             Stage::TopN(op) => op.blocked(rt, bells),
+            Stage::Single(op) => op.blocked(rt, bells),
+            Stage::Probe(op, _) => op.blocked(rt, bells),
         }
     }
 
@@ -221,12 +277,16 @@ impl Operator for Stage {
     ghost use Rattle.row_ops.specs.contracts.limit.LimitOpOperator.TheImpl.Laws as limit_laws;
     ghost use Rattle.topn_sort.specs.contracts.sort.SortOpOperator.TheImpl.Laws as sort_laws;
     ghost use Rattle.topn_sort.specs.contracts.topn.TopNOpOperator.TheImpl.Laws as topn_laws;
+    ghost use Rattle.aggregation.specs.contracts.single.SingleAggOperator.TheImpl.Laws as single_laws;
+    ghost use Rattle.hash_join.specs.contracts.probe.ProbeOpOperator.TheImpl.Laws as probe_laws;
 
     ghost some_rows = { elim [
       | Filter op ↦ filter_laws.some_rows-law op
       | Limit op types ↦ limit_laws.some_rows-law op
       | Sort op ↦ sort_laws.some_rows-law op
       | TopN op ↦ topn_laws.some_rows-law op
+      | Single op ↦ single_laws.some_rows-law op
+      | Probe op types ↦ probe_laws.some_rows-law op
     ] };
 
     ghost holds_rest = { elim [
@@ -234,6 +294,8 @@ impl Operator for Stage {
       | Limit op types ↦ limit_laws.holds_rest-law op
       | Sort op ↦ sort_laws.holds_rest-law op
       | TopN op ↦ topn_laws.holds_rest-law op
+      | Single op ↦ single_laws.holds_rest-law op
+      | Probe op types ↦ probe_laws.holds_rest-law op
     ] };
 
     ghost late_holds_none = { elim [
@@ -241,6 +303,8 @@ impl Operator for Stage {
       | Limit op types ↦ limit_laws.late_holds_none-law op
       | Sort op ↦ sort_laws.late_holds_none-law op
       | TopN op ↦ topn_laws.late_holds_none-law op
+      | Single op ↦ single_laws.late_holds_none-law op
+      | Probe op types ↦ probe_laws.late_holds_none-law op
     ] };
 
     ghost finished = { elim [
@@ -248,6 +312,8 @@ impl Operator for Stage {
       | Limit op types ↦ limit_laws.finished-law op
       | Sort op ↦ sort_laws.finished-law op
       | TopN op ↦ topn_laws.finished-law op
+      | Single op ↦ single_laws.finished-law op
+      | Probe op types ↦ probe_laws.finished-law op
     ] };
 
     ghost needs_untold = { elim [
@@ -255,6 +321,8 @@ impl Operator for Stage {
       | Limit op types ↦ limit_laws.needs_untold-law op
       | Sort op ↦ sort_laws.needs_untold-law op
       | TopN op ↦ topn_laws.needs_untold-law op
+      | Single op ↦ single_laws.needs_untold-law op
+      | Probe op types ↦ probe_laws.needs_untold-law op
     ] };
 
     ghost full_needs_none = { elim [
@@ -262,6 +330,8 @@ impl Operator for Stage {
       | Limit op types ↦ limit_laws.full_needs_none-law op
       | Sort op ↦ sort_laws.full_needs_none-law op
       | TopN op ↦ topn_laws.full_needs_none-law op
+      | Single op ↦ single_laws.full_needs_none-law op
+      | Probe op types ↦ probe_laws.full_needs_none-law op
     ] };
 
     ghost full_gives = { elim [
@@ -269,6 +339,8 @@ impl Operator for Stage {
       | Limit op types ↦ limit_laws.full_gives-law op
       | Sort op ↦ sort_laws.full_gives-law op
       | TopN op ↦ topn_laws.full_gives-law op
+      | Single op ↦ single_laws.full_gives-law op
+      | Probe op types ↦ probe_laws.full_gives-law op
     ] };
 
     ghost full_fails = { elim [
@@ -276,6 +348,8 @@ impl Operator for Stage {
       | Limit op types ↦ limit_laws.full_fails-law op
       | Sort op ↦ sort_laws.full_fails-law op
       | TopN op ↦ topn_laws.full_fails-law op
+      | Single op ↦ single_laws.full_fails-law op
+      | Probe op types ↦ probe_laws.full_fails-law op
     ] };
 
     ghost waiting_needs_none = { elim [
@@ -283,6 +357,8 @@ impl Operator for Stage {
       | Limit op types ↦ limit_laws.waiting_needs_none-law op
       | Sort op ↦ sort_laws.waiting_needs_none-law op
       | TopN op ↦ topn_laws.waiting_needs_none-law op
+      | Single op ↦ single_laws.waiting_needs_none-law op
+      | Probe op types ↦ probe_laws.waiting_needs_none-law op
     ] };
 
     ghost waiting_went = { elim [
@@ -290,6 +366,8 @@ impl Operator for Stage {
       | Limit op types ↦ limit_laws.waiting_went-law op
       | Sort op ↦ sort_laws.waiting_went-law op
       | TopN op ↦ topn_laws.waiting_went-law op
+      | Single op ↦ single_laws.waiting_went-law op
+      | Probe op types ↦ probe_laws.waiting_went-law op
     ] };
 
     ghost needs = { elim [
@@ -297,6 +375,8 @@ impl Operator for Stage {
       | Limit op types ↦ limit_laws.needs-law op
       | Sort op ↦ sort_laws.needs-law op
       | TopN op ↦ topn_laws.needs-law op
+      | Single op ↦ single_laws.needs-law op
+      | Probe op types ↦ probe_laws.needs-law op
     ] };
 
     ghost made_untold = { elim [
@@ -304,6 +384,8 @@ impl Operator for Stage {
       | Limit op types ↦ limit_laws.made_untold-law op
       | Sort op ↦ sort_laws.made_untold-law op
       | TopN op ↦ topn_laws.made_untold-law op
+      | Single op ↦ single_laws.made_untold-law op
+      | Probe op types ↦ probe_laws.made_untold-law op
     ] };
 
     ghost made_knows = { elim [
@@ -311,6 +393,8 @@ impl Operator for Stage {
       | Limit op types ↦ limit_laws.made_knows-law op
       | Sort op ↦ sort_laws.made_knows-law op
       | TopN op ↦ topn_laws.made_knows-law op
+      | Single op ↦ single_laws.made_knows-law op
+      | Probe op types ↦ probe_laws.made_knows-law op
     ] };
 
     ghost made_went = { elim [
@@ -318,6 +402,8 @@ impl Operator for Stage {
       | Limit op types ↦ limit_laws.made_went-law op
       | Sort op ↦ sort_laws.made_went-law op
       | TopN op ↦ topn_laws.made_went-law op
+      | Single op ↦ single_laws.made_went-law op
+      | Probe op types ↦ probe_laws.made_went-law op
     ] };
 
     ghost made_again = { elim [
@@ -325,6 +411,8 @@ impl Operator for Stage {
       | Limit op types ↦ ap (λ x. Limit x types) (limit_laws.made_again-law op)
       | Sort op ↦ ap Sort (sort_laws.made_again-law op)
       | TopN op ↦ ap TopN (topn_laws.made_again-law op)
+      | Single op ↦ ap Single (single_laws.made_again-law op)
+      | Probe op types ↦ ap (λ x. Probe x types) (probe_laws.made_again-law op)
     ] };
 
     ghost learns_as_made = { elim [
@@ -344,6 +432,14 @@ impl Operator for Stage {
         (λ e. (e.0, e.1, (topn_laws.learns_as_made-law op e.0).0 e.2)),
         (λ e. (e.0, e.1, (topn_laws.learns_as_made-law op e.0).1 e.2)),
       )
+      | Single op ↦ λ m. (
+        (λ e. (e.0, e.1, (single_laws.learns_as_made-law op e.0).0 e.2)),
+        (λ e. (e.0, e.1, (single_laws.learns_as_made-law op e.0).1 e.2)),
+      )
+      | Probe op types ↦ λ m. (
+        (λ e. (e.0, e.1, (probe_laws.learns_as_made-law op e.0).0 e.2)),
+        (λ e. (e.0, e.1, (probe_laws.learns_as_made-law op e.0).1 e.2)),
+      )
     ] };
 
     ghost learns_made = { elim [
@@ -359,6 +455,12 @@ impl Operator for Stage {
       | TopN op ↦ λ m e.
           let learned = topn_laws.learns_made-law op e.0 e.2 in
           Prim.rw e.1 (learned.0, learned.1, ap TopN learned.2)
+      | Single op ↦ λ m e.
+          let learned = single_laws.learns_made-law op e.0 e.2 in
+          Prim.rw e.1 (learned.0, learned.1, ap Single learned.2)
+      | Probe op types ↦ λ m e.
+          let learned = probe_laws.learns_made-law op e.0 e.2 in
+          Prim.rw e.1 (learned.0, learned.1, ap (λ x. Probe x types) learned.2)
     ] };
 
     ghost any_note = { elim [
@@ -374,10 +476,16 @@ impl Operator for Stage {
       | TopN op ↦ λ m T G Z knows went learns coming.
           let any = topn_laws.any_note-law op learns.0 T G Z knows went learns.2 coming in
           (any.0, Prim.rw learns.1 any.1, any.2)
+      | Single op ↦ λ m T G Z knows went learns coming.
+          let any = single_laws.any_note-law op learns.0 T G Z knows went learns.2 coming in
+          (any.0, Prim.rw learns.1 any.1, any.2)
+      | Probe op types ↦ λ m T G Z knows went learns coming.
+          let any = probe_laws.any_note-law op learns.0 T G Z knows went learns.2 coming in
+          (any.0, Prim.rw learns.1 any.1, any.2)
     ] };
 }
 
-impl TypedOperator for Stage {
+impl<'w> TypedOperator for Stage<'w> {
     fn expects(&self, page: &Page) -> bool {
         page.rows_fit();
         match self {
@@ -385,6 +493,8 @@ impl TypedOperator for Stage {
             Stage::Limit(_, types) => are_same(page.types(), types.as_slice()),
             Stage::Sort(op) => are_same(page.types(), op.types()),
             Stage::TopN(op) => are_same(page.types(), op.types()),
+            Stage::Single(op) => are_same(page.types(), op.types()),
+            Stage::Probe(_, types) => are_same(page.types(), types.as_slice()),
         }
     }
 }

@@ -76,7 +76,9 @@ fn number(n: i64) -> Expr {
     }
 }
 
-fn whole(alloc: Global) -> Result<Vec<SqlType>, Memory> {
+pub(crate) fn whole(alloc: Global) -> Result<Vec<SqlType>, Memory>
+    ensures { IfOk result (λ types. types.items ≡ Bigint ∷ []) }
+{
     let mut types = Vec::new(alloc);
     types.push(SqlType::Bigint)?;
     Ok(types)
@@ -90,8 +92,8 @@ fn call(alloc: Global, name: CallName, left: Expr, right: Expr) -> Result<Expr, 
 }
 
 /// Keeps the numbers for which 12 divided by their difference to `at` is less than 3. Its node is 5.
-fn filter(alloc: Global, at: i64) -> Result<Option<Stage>, Memory>
-    ensures { IfOk result (λ o. IfSome o (λ s. ⟦<Stage as Operator>⟧.as_made s ≡ s)) }
+fn filter<'w>(alloc: Global, at: i64) -> Result<Option<Stage<'w>>, Memory>
+    ensures { IfOk result (λ o. IfSome o (λ s. ⟦<Stage<'w> as Operator>⟧.as_made s ≡ s)) }
 {
     let distance = call(alloc, CallName::Subtract, Expr::Column(0), number(at))?;
     let quotient = call(alloc, CallName::Divide, number(12), distance)?;
@@ -101,13 +103,13 @@ fn filter(alloc: Global, at: i64) -> Result<Option<Stage>, Memory>
     made(alloc, whole(alloc)?, Some(predicate), columns)
 }
 
-fn made(
+fn made<'w>(
     alloc: Global,
     types: Vec<SqlType>,
     predicate: Option<Expr>,
     columns: Vec<Expr>,
-) -> Result<Option<Stage>, Memory>
-    ensures { IfOk result (λ o. IfSome o (λ s. ⟦<Stage as Operator>⟧.as_made s ≡ s)) }
+) -> Result<Option<Stage<'w>>, Memory>
+    ensures { IfOk result (λ o. IfSome o (λ s. ⟦<Stage<'w> as Operator>⟧.as_made s ≡ s)) }
 {
     if !are_typed(alloc, types.as_slice(), &predicate, columns.as_slice())? {
         return Ok(None);
@@ -116,17 +118,17 @@ fn made(
     Ok(Some(Stage::Filter(op)))
 }
 
-fn limit(alloc: Global, count: u32) -> Result<Stage, Memory>
-    ensures { IfOk result (λ s. ⟦<Stage as Operator>⟧.as_made s ≡ s) }
+fn limit<'w>(alloc: Global, count: u32) -> Result<Stage<'w>, Memory>
+    ensures { IfOk result (λ s. ⟦<Stage<'w> as Operator>⟧.as_made s ≡ s) }
 {
     let types = whole(alloc)?;
     Ok(Stage::Limit(LimitOp::new(alloc, count), Types::of(types)))
 }
 
-fn stages(alloc: Global, first: Stage, second: Stage) -> Result<Vec<Stage>, Memory>
-    requires first { ⟦<Stage as Operator>⟧.as_made first ≡ first }
-    requires second { ⟦<Stage as Operator>⟧.as_made second ≡ second }
-    ensures { IfOk result (λ v. map ⟦<Stage as Operator>⟧.as_made v.items ≡ v.items) }
+fn stages<'w>(alloc: Global, first: Stage<'w>, second: Stage<'w>) -> Result<Vec<Stage<'w>>, Memory>
+    requires first { ⟦<Stage<'w> as Operator>⟧.as_made first ≡ first }
+    requires second { ⟦<Stage<'w> as Operator>⟧.as_made second ≡ second }
+    ensures { IfOk result (λ v. map ⟦<Stage<'w> as Operator>⟧.as_made v.items ≡ v.items) }
 {
     let mut stages = Vec::new(alloc);
     stages.push(first)?;
@@ -141,7 +143,7 @@ fn driver<'w>(
     size: u32,
     page: u32,
     seat: ClaimSeat<'w>,
-    stages: Vec<Stage>,
+    stages: Vec<Stage<'w>>,
 ) -> Result<Driver<'w>, Memory>
     requires size { 0 < size }
     requires page { (0 < page) × (page ≤ 8192) }
@@ -150,7 +152,7 @@ fn driver<'w>(
     requires fresh { seat.numbers ≡ [] }
     requires columns { length table.now.columns ≡ 1 }
     requires fits { AreReadable table.now.columns (0 ∷ []) table.now.rows }
-    requires stages { map ⟦<Stage as Operator>⟧.as_made stages.items ≡ stages.items }
+    requires stages { map ⟦<Stage<'w> as Operator>⟧.as_made stages.items ≡ stages.items }
     ensures { IfOk result (λ d. (d.is_finished ≡ false) × (d.fault ≡ None)) }
 {
     let mut columns = Vec::new(alloc);
@@ -161,7 +163,7 @@ fn driver<'w>(
 }
 
 /// The numbers that a driver gave, and how often it yielded.
-fn run<R: Threads + Wait + Sync>(
+pub(crate) fn run<R: Threads + Wait + Sync>(
     rt: &R,
     alloc: Global,
     mut driver: Driver<'_>,
@@ -213,10 +215,6 @@ fn filtered<R: Threads + Wait + Sync>(
 ) -> Result<String, Memory>
     requires sizes { (0 < sizes.0) × (0 < sizes.1) × (sizes.1 ≤ 8192) }
 {
-    let Some(first) = filter(alloc, at)? else {
-        return Ok(String::from_str(alloc, "no type")?);
-    };
-    let stages = stages(alloc, first, limit(alloc, 4)?)?;
     let table = table_of(alloc, 10)?;
     let (size, page) = sizes;
     let mut claims = Claims::new(alloc, split_count(table.rows.len() as u32, size), 1)?;
@@ -224,6 +222,10 @@ fn filtered<R: Threads + Wait + Sync>(
     let Some(seat) = seats.pop() else {
         return Ok(String::from_str(alloc, "no seat")?);
     };
+    let Some(first) = filter(alloc, at)? else {
+        return Ok(String::from_str(alloc, "no type")?);
+    };
+    let stages = stages(alloc, first, limit(alloc, 4)?)?;
     let driver = driver(alloc, &table, size, page, seat, stages)?;
     run(rt, alloc, driver, quantum, solo)
 }

@@ -60,7 +60,11 @@ struct Kept {
 }
 
 impl PageTarget for Kept {
+    ghost use Rattle.std.specs.Prelude.{[]};
+
     ghost given = { λ s. s.pages };
+
+    ghost emptied = { λ s. record s { pages = [] } };
 
     fn put(&mut self, page: Page) -> Result<(), Memory> {
         self.pages.push(page)

@@ -93,6 +93,7 @@ fn step<I: PageSource, S: TypedOperator, T: PageTarget, R: Threads + Wait + Sync
     ensures counts { IfOk result (λ r. Counted S.Operator stages.old.items stages.new.items
         (I.taken source.old) (I.taken source.new) (T.given target.old) (T.given target.new) r.0) }
     ensures source { I.as_made source.new ≡ I.as_made source.old }
+    ensures target { NotMemory result → T.emptied target.new ≡ T.emptied target.old }
     ensures few { IfOk result (λ r. r.0 < room + most_rows) }
     ensures blocked { IfOk result (λ r. IfSome r.1 (λ on. StageBlocked S.Operator
         stages.old.items stages.new.items (B.shown bells.new) on)) }
@@ -139,6 +140,7 @@ pub fn turn<I: PageSource, S: TypedOperator, T: PageTarget, R: Threads + Wait + 
     ensures answer { IfOk result (λ r. TurnedSo S.Operator stages.old.items stages.new.items
         (I.is_ended source.new) (B.shown bells.new) quantum r.0 r.1) }
     ensures source { I.as_made source.new ≡ I.as_made source.old }
+    ensures target { NotMemory result → T.emptied target.new ≡ T.emptied target.old }
     ensures few { IfOk result (λ r. r.0 < quantum + most_rows) }
     ensures bells { (bell count : ℕ) → B.shown bells.old bell count
         → B.shown bells.new bell count }

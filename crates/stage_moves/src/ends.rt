@@ -35,7 +35,11 @@ pub trait PageTarget {
     // The rows that it was given so far.
     ghost given: { Self → List Row };
 
+    // It without the rows that it was given.
+    ghost emptied: { Self → Self };
+
     /// Takes a page.
     fn put(&mut self, page: Page) -> Result<(), Memory>
-        ensures { IsOk result → given self.new ≡ given self.old ++ page.rows };
+        ensures rows { IsOk result → given self.new ≡ given self.old ++ page.rows }
+        ensures same { IsOk result → emptied self.new ≡ emptied self.old };
 }

@@ -26,6 +26,7 @@ pub fn take_page<I: PageSource, S: TypedOperator, T: PageTarget>(
     ensures counts { IfOk result (λ rows. Counted S.Operator stages.old.items stages.new.items
         (I.taken source.old) (I.taken source.new) (T.given target.old) (T.given target.new) rows) }
     ensures source { I.as_made source.new ≡ I.as_made source.old }
+    ensures target { NotMemory result → T.emptied target.new ≡ T.emptied target.old }
     ensures few { IfOk result (λ rows. rows ≤ most_rows) }
     ensures fault { (node : ℕ) (kind : Kind) → result ≡ Err (OpFault.Expr node kind)
         → SomeFails S.Operator stages.new.items node kind }
@@ -111,6 +112,7 @@ pub fn give_page<S: TypedOperator, T: PageTarget>(
         (T.given target.new) ended ended }
     ensures counts { IfOk result (λ rows. (X : List Row) → Counted S.Operator stages.old.items
         stages.new.items X X (T.given target.old) (T.given target.new) rows) }
+    ensures target { NotMemory result → T.emptied target.new ≡ T.emptied target.old }
     ensures few { IfOk result (λ rows. rows ≤ most_rows) }
     ensures fault { (node : ℕ) (kind : Kind) → result ≡ Err (OpFault.Expr node kind)
         → SomeFails S.Operator stages.new.items node kind }
@@ -141,6 +143,7 @@ pub fn pass<I: PageSource, S: TypedOperator, T: PageTarget>(
     ensures counts { IfOk result (λ rows. Counted S.Operator stages.old.items stages.new.items
         (I.taken source.old) (I.taken source.new) (T.given target.old) (T.given target.new) rows) }
     ensures source { I.as_made source.new ≡ I.as_made source.old }
+    ensures target { NotMemory result → T.emptied target.new ≡ T.emptied target.old }
     ensures few { 0 < room → IfOk result (λ rows. rows < room + most_rows) }
     ensures fault { (node : ℕ) (kind : Kind) → result ≡ Err (OpFault.Expr node kind)
         → SomeFails S.Operator stages.new.items node kind }

@@ -34,7 +34,11 @@ impl PageSource for Nothing {
 }
 
 impl PageTarget for HeldPages {
+    ghost use Rattle.std.specs.Prelude.{[]};
+
     ghost given = { λ s. s };
+
+    ghost emptied = { λ _. [] };
 
     fn put(&mut self, page: Page) -> Result<(), Memory> {
         self.push(page)

@@ -9,6 +9,7 @@ pub loop-init : goal.loop-init
 loop-init g c = record {
   went = WentOn-none g.S.Operator _ _ _ _;
   source = refl;
+  target = refl;
   same = refl;
   few = omega arith;
   counts = Counted-none g.S.Operator _ _ _ _ refl;
@@ -39,6 +40,7 @@ pub loop-preserved : goal.loop-preserved
 loop-preserved g c = record {
   went = WentOn-then g.S.Operator _ _ _ _ _ _ _ _ _ _ _ _ c.loop.invariant.went ((c.in-Ok.ensures).went tt);
   source = (c.in-Ok.ensures).source ∙ c.loop.invariant.source;
+  target = (c.in-Ok.ensures).target tt ∙ c.loop.invariant.target;
   same = c.loop.invariant.same;
   few = omega (arith, c.if-units-from.false, c.from.ensures, (c.in-Ok.ensures).few);
   counts = Counted-both g.S.Operator _ _ _ _ _ _ _ _ _ _ _ _ c.loop.invariant.counts ((c.in-Ok.ensures).counts) refl;

@@ -23,3 +23,15 @@ returns-in-Sort-clause-fault c = rw c.in-Sort.is c.add_input-in-Sort.ensures.fau
 
 pub returns-in-TopN-clause-fault : goal.returns-in-TopN-clause-fault
 returns-in-TopN-clause-fault c = rw c.in-TopN.is c.add_input-in-TopN.ensures.fault
+
+pub returns-in-Single-clause-fails : goal.returns-in-Single-clause-fails
+returns-in-Single-clause-fails c = rw c.in-Single.is c.add_input-in-Single.ensures.fails
+
+pub returns-in-Probe-clause-fails : goal.returns-in-Probe-clause-fails
+returns-in-Probe-clause-fails c = rw c.in-Probe.is c.add_input-in-Probe.ensures.fails
+
+pub returns-in-Single-clause-fault : goal.returns-in-Single-clause-fault
+returns-in-Single-clause-fault c = rw c.in-Single.is c.add_input-in-Single.ensures.fault
+
+pub returns-in-Probe-clause-fault : goal.returns-in-Probe-clause-fault
+returns-in-Probe-clause-fault c = rw c.in-Probe.is c.add_input-in-Probe.ensures.fault

@@ -47,3 +47,27 @@ returns-in-Sort-clause-pages g c = rw c.in-Sort.is c.blocked-in-Sort.ensures.pag
 
 pub returns-in-TopN-clause-pages : goal.returns-in-TopN-clause-pages
 returns-in-TopN-clause-pages g c = rw c.in-TopN.is c.blocked-in-TopN.ensures.pages
+
+pub returns-in-Single-clause-gives : goal.returns-in-Single-clause-gives
+returns-in-Single-clause-gives g c = rw c.in-Single.is c.blocked-in-Single.ensures.gives
+
+pub returns-in-Probe-clause-gives : goal.returns-in-Probe-clause-gives
+returns-in-Probe-clause-gives g c = rw c.in-Probe.is c.blocked-in-Probe.ensures.gives
+
+pub returns-in-Single-clause-fails : goal.returns-in-Single-clause-fails
+returns-in-Single-clause-fails g c = rw c.in-Single.is c.blocked-in-Single.ensures.fails
+
+pub returns-in-Probe-clause-fails : goal.returns-in-Probe-clause-fails
+returns-in-Probe-clause-fails g c = rw c.in-Probe.is c.blocked-in-Probe.ensures.fails
+
+pub returns-in-Single-clause-takes : goal.returns-in-Single-clause-takes
+returns-in-Single-clause-takes g c = rw c.in-Single.is c.blocked-in-Single.ensures.takes
+
+pub returns-in-Probe-clause-takes : goal.returns-in-Probe-clause-takes
+returns-in-Probe-clause-takes g c = rw c.in-Probe.is c.blocked-in-Probe.ensures.takes
+
+pub returns-in-Single-clause-pages : goal.returns-in-Single-clause-pages
+returns-in-Single-clause-pages g c = rw c.in-Single.is c.blocked-in-Single.ensures.pages
+
+pub returns-in-Probe-clause-pages : goal.returns-in-Probe-clause-pages
+returns-in-Probe-clause-pages g c = rw c.in-Probe.is c.blocked-in-Probe.ensures.pages

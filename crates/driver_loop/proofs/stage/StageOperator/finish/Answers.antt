@@ -23,3 +23,15 @@ returns-in-Sort-clause-pages c = rw c.in-Sort.is c.finish-in-Sort.ensures.pages
 
 pub returns-in-TopN-clause-pages : goal.returns-in-TopN-clause-pages
 returns-in-TopN-clause-pages c = rw c.in-TopN.is c.finish-in-TopN.ensures.pages
+
+pub returns-in-Single-clause-fails : goal.returns-in-Single-clause-fails
+returns-in-Single-clause-fails c = rw c.in-Single.is c.finish-in-Single.ensures.fails
+
+pub returns-in-Probe-clause-fails : goal.returns-in-Probe-clause-fails
+returns-in-Probe-clause-fails c = rw c.in-Probe.is c.finish-in-Probe.ensures.fails
+
+pub returns-in-Single-clause-pages : goal.returns-in-Single-clause-pages
+returns-in-Single-clause-pages c = rw c.in-Single.is c.finish-in-Single.ensures.pages
+
+pub returns-in-Probe-clause-pages : goal.returns-in-Probe-clause-pages
+returns-in-Probe-clause-pages c = rw c.in-Probe.is c.finish-in-Probe.ensures.pages

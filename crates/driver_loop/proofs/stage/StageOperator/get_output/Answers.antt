@@ -59,3 +59,33 @@ returns-in-Sort-clause-pages c = rw c.in-Sort.is c.get_output-in-Sort.ensures.pa
 
 pub returns-in-TopN-clause-pages : goal.returns-in-TopN-clause-pages
 returns-in-TopN-clause-pages c = rw c.in-TopN.is c.get_output-in-TopN.ensures.pages
+
+pub returns-in-Single-clause-fails : goal.returns-in-Single-clause-fails
+returns-in-Single-clause-fails c = rw c.in-Single.is c.get_output-in-Single.ensures.fails
+
+pub returns-in-Probe-clause-fails : goal.returns-in-Probe-clause-fails
+returns-in-Probe-clause-fails c = rw c.in-Probe.is c.get_output-in-Probe.ensures.fails
+
+pub returns-in-Single-clause-none : goal.returns-in-Single-clause-none
+returns-in-Single-clause-none c = rw c.in-Single.is c.get_output-in-Single.ensures.none
+
+pub returns-in-Probe-clause-none : goal.returns-in-Probe-clause-none
+returns-in-Probe-clause-none c = rw c.in-Probe.is c.get_output-in-Probe.ensures.none
+
+pub returns-in-Single-clause-went : goal.returns-in-Single-clause-went
+returns-in-Single-clause-went c = rw c.in-Single.is c.get_output-in-Single.ensures.went
+
+pub returns-in-Probe-clause-went : goal.returns-in-Probe-clause-went
+returns-in-Probe-clause-went c = rw c.in-Probe.is c.get_output-in-Probe.ensures.went
+
+pub returns-in-Single-clause-page : goal.returns-in-Single-clause-page
+returns-in-Single-clause-page c = rw c.in-Single.is c.get_output-in-Single.ensures.page
+
+pub returns-in-Probe-clause-page : goal.returns-in-Probe-clause-page
+returns-in-Probe-clause-page c = rw c.in-Probe.is c.get_output-in-Probe.ensures.page
+
+pub returns-in-Single-clause-pages : goal.returns-in-Single-clause-pages
+returns-in-Single-clause-pages c = rw c.in-Single.is c.get_output-in-Single.ensures.pages
+
+pub returns-in-Probe-clause-pages : goal.returns-in-Probe-clause-pages
+returns-in-Probe-clause-pages c = rw c.in-Probe.is c.get_output-in-Probe.ensures.pages

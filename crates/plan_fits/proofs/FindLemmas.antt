@@ -50,13 +50,25 @@ pub second_true : (a b : Bool) → a && b ≡ true → b ≡ true
 second_true true b h = h
 second_true false b h = cc
 
+pub both_true : (a b : Bool) → a ≡ true → b ≡ true → a && b ≡ true
+both_true true b h g = g
+both_true false b h g = h
+
 pub neither : (a b : Bool) → a || b ≡ false → a ≡ false
 neither true b h = h
 neither false b h = refl
 
+pub nor_second : (a b : Bool) → a || b ≡ false → b ≡ false
+nor_second true b h = cc
+nor_second false b h = h
+
 pub some_is : {A : Type 0} (o : Option A) → is_some o ≡ true → (x : A) × (o ≡ Some x)
 some_is None h = cc
 some_is (Some x) h = (x, refl)
+
+pub none_is : {A : Type 0} (o : Option A) → is_some o ≡ false → o ≡ None
+none_is None h = refl
+none_is (Some x) h = cc
 
 pub first_option : {A : Type 0} (o p : Option A) → option_or o p ≡ None → o ≡ None
 first_option None p h = refl

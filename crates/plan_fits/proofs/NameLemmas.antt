@@ -1,4 +1,4 @@
--- A scan of a document that passes the checks is of a table that the document declares, and of columns
+-- Each scan of a document that passes the checks is of a table that the document declares, and of columns
 -- that the table has.
 use Rattle.std.proofs.Common.{◌≡◌, ℕ, ◌+◌, ◌<◌, ◌≤◌, zero, suc, List, [], ◌∷◌, ◌++◌, length, map, Bool, true, false, cond, Option, Some, None, refl, ap, sym, ◌∙◌, subst, arith, add-one}
 use Rattle.std.specs.Prelude.{All, slice_get, not, nat_lt, ◌||◌, option_map, if◌then◌else◌}
@@ -10,6 +10,7 @@ use Rattle.std.proofs.lemmas.List.Elements.{All-cons, All-nil}
 use Rattle.std.proofs.lemmas.Option.{slice_get-map}
 use Rattle.serde_json.specs.Data.{Data}
 use Rattle.serde_json.specs.Find.{as_array}
+use Rattle.plan_places.specs.declared.key.Key.{Key}
 use Rattle.plan_places.specs.declared.key.Key.TheVariants as key
 use Rattle.plan_places.specs.declared.step.Step.{Step}
 use Rattle.plan_places.specs.declared.step.Step.TheVariants as step
@@ -19,8 +20,8 @@ use Rattle.plan_grammar.specs.declared.tables.Part.{Part}
 use Rattle.plan_grammar.specs.declared.words.OpWord.{OpWord}
 use Rattle.plan_grammar.specs.declared.words.OpWord.TheVariants as op
 use Rattle.plan_grammar.specs.declared.words.StepWord.{StepWord}
-use Rattle.plan_grammar.specs.Grammar.{parts_of_node}
-use Rattle.plan_grammar.specs.Json.{entries_under, text_of, text_under, under}
+use Rattle.plan_grammar.specs.Grammar.{join_parts, parts_of_node}
+use Rattle.plan_grammar.specs.Json.{entries_under, has_key, text_of, text_under, under}
 use Rattle.plan_grammar.specs.Spots.{Spot}
 use Rattle.plan_grammar.specs.Tables.{part}
 use Rattle.plan_grammar.specs.Tables as table
@@ -30,14 +31,14 @@ use Rattle.plan_checks.specs.Names.{first_misnamed, has_column, is_misnamed, mis
 use Rattle.plan_docs.specs.declared.plan.TableDoc.{TableDoc}
 use Rattle.plan_docs.specs.Documents.{table_of}
 use Rattle.plan_docs.specs.Names.{column_place, columns_in, has_name, place_named, places_of}
+use Rattle.plan_docs.specs.Nodes.{NodeForm, scan, values, remote, filter, project, join, aggregate, aggregate_final, sort, top_n, top_n_final, limit, limit_final, union}
 use Rattle.plan_docs.specs.Parts.{column_of, columns_of}
 use Rattle.plan_docs.specs.ReadNodes.{inner_node, node_at, node_by}
 use Rattle.plan_docs.specs.ReadNodes as read
 use Rattle.plan_docs.specs.Words.{small}
-use Rattle.plan_pipelines.specs.Built.{PipelineSource, from_plan, from_table, source_of}
 use Rattle.plan_fits.proofs.FindLemmas.{both_none, first_false, not_false, rest_none, some_is}
 use Rattle.plan_fits.proofs.PlaceLemmas.{Free, Part-at, Passes, free_entry, free_here, free_part, in_list, not_beyond, part_passes, text_is, under_is}
-use Rattle.plan_fits.proofs.NodeLemmas.{IsNarrow, built_word, limit_own, place_within, single_limit, single_topn, topn_own}
+use Rattle.plan_fits.proofs.NodeLemmas.{IsNarrow, aggregate_own, built_word, join_left, join_right, limit_own, place_within, single_aggregate, single_limit, single_topn, topn_own}
 use Rattle.plan_fits.proofs.NumberLemmas.{small_same}
 
 -- a scan's name of a table, or of a column, that is not declared
@@ -98,10 +99,22 @@ pub record IsDeclared (docs : List TableDoc) (table : ℕ) (columns : List ℕ) 
   pub is_doc : slice_get docs table ≡ Some doc
   pub within : All (λ column. column < length doc.columns) columns
 
--- what a scan reads is declared
-abbrev pub IsFound : List TableDoc → PipelineSource → Type 0
-IsFound docs (from_table table columns) = IsDeclared docs table columns
-IsFound docs (from_plan types rows) = Unit {0}
+-- what the scans of a node read is declared
+abbrev pub AreDeclared : List TableDoc → NodeForm → Type 0
+AreDeclared docs (scan id table columns types) = IsDeclared docs table columns
+AreDeclared docs (values id types rows) = Unit {0}
+AreDeclared docs (remote id fragment) = Unit {0}
+AreDeclared docs (filter id predicate input) = AreDeclared docs input
+AreDeclared docs (project id columns input) = AreDeclared docs input
+AreDeclared docs (join id kind on filters left right) = AreDeclared docs left × AreDeclared docs right
+AreDeclared docs (aggregate id half keys calls input) = AreDeclared docs input
+AreDeclared docs (aggregate_final id input) = AreDeclared docs input
+AreDeclared docs (sort id keys input) = AreDeclared docs input
+AreDeclared docs (top_n id half count keys input) = AreDeclared docs input
+AreDeclared docs (top_n_final id input) = AreDeclared docs input
+AreDeclared docs (limit id half count input) = AreDeclared docs input
+AreDeclared docs (limit_final id input) = AreDeclared docs input
+AreDeclared docs (union id left right) = AreDeclared docs left × AreDeclared docs right
 
 -- a node that passes, of names that are declared
 record Named (nodes filters : ℕ) (document d : Data) (path : List Step) (owner : Data) (level : ℕ) : Type 0 where
@@ -137,7 +150,7 @@ named_columns nodes filters document d path owner level p is j n at =
 -- a scan whose table is declared
 scan_found : (document d t : Data) → IsNarrow document → table_named (text_under key.Table d) document ≡ Some t
     → ((j : ℕ) (n : Data) → slice_get (entries_under key.Columns d) j ≡ Some n → scan_has (text_of n) d document ≡ true)
-    → IsFound (map table_of (entries_under key.Tables document)) (source_of (read.scan_of document d))
+    → AreDeclared (map table_of (entries_under key.Tables document)) (read.scan_of document d)
 scan_found document d t narrow found has =
     let ts = entries_under key.Tables document in
     let ns = entries_under key.Columns d in
@@ -155,51 +168,61 @@ scan_found document d t narrow found has =
       within = subst (λ (o : Option Data). All (λ column. column < length (columns_of (entries_under key.Columns t))) (places_of (columns_in o) ns)) (sym at) within;
     }
 
--- a node whose input's source is found
-input_found : (nodes filters n : ℕ) (document d : Data) (path : List Step) (owner : Data) (level : ℕ) (docs : List TableDoc) (parts : List Part) (i : ℕ)
+-- what a node reads has its scans declared
+input_found : (nodes filters n : ℕ) (document d : Data) (path : List Step) (owner : Data) (level : ℕ) (docs : List TableDoc) (parts : List Part) (i : ℕ) (k : Key)
     → Named nodes filters document d path owner level
-    → ((e : Data) (inner : List Step) → Named nodes filters document e inner d (level + 1) → IsFound docs (source_of (node_at n document e)))
-    → parts_of_node (op_of d) d ≡ parts → slice_get parts i ≡ Some (part key.Input kind.Node)
-    → IsFound docs (source_of (inner_node (node_at n document) (under key.Input d)))
-input_found nodes filters n document d path owner level docs parts i p below own is =
-    let at : Part-at nodes filters d path key.Input kind.Node level = part_passes nodes filters d path owner kind.Node level parts i key.Input kind.Node p.passes refl own is in
-    let free = free_part (is_missing document) d path owner kind.Node level parts i key.Input kind.Node at.value p.free own is at.is in
-    subst (λ (o : Option Data). IsFound docs (source_of (inner_node (node_at n document) o))) (sym at.is)
-    (below at.value (path ++ step.Key key.Input ∷ []) (record { passes = at.passes; free = free }))
+    → ((e : Data) (inner : List Step) → Named nodes filters document e inner d (level + 1) → AreDeclared docs (node_at n document e))
+    → parts_of_node (op_of d) d ≡ parts → slice_get parts i ≡ Some (part k kind.Node)
+    → AreDeclared docs (inner_node (node_at n document) (under k d))
+input_found nodes filters n document d path owner level docs parts i k p below own is =
+    let at : Part-at nodes filters d path k kind.Node level = part_passes nodes filters d path owner kind.Node level parts i k kind.Node p.passes refl own is in
+    let free = free_part (is_missing document) d path owner kind.Node level parts i k kind.Node at.value p.free own is at.is in
+    subst (λ (o : Option Data). AreDeclared docs (inner_node (node_at n document) o)) (sym at.is)
+    (below at.value (path ++ step.Key k ∷ []) (record { passes = at.passes; free = free }))
 
 step_found : (nodes filters n : ℕ) (document d : Data) (path : List Step) (owner : Data) (level : ℕ) → IsNarrow document
     → Named nodes filters document d path owner level
-    → ((e : Data) (inner : List Step) → Named nodes filters document e inner d (level + 1) → IsFound (map table_of (entries_under key.Tables document)) (source_of (node_at n document e)))
+    → ((e : Data) (inner : List Step) → Named nodes filters document e inner d (level + 1) → AreDeclared (map table_of (entries_under key.Tables document)) (node_at n document e))
     → (w : OpWord) → op_of d ≡ w → is_built w ≡ true
-    → IsFound (map table_of (entries_under key.Tables document)) (source_of (node_by (node_at n document) document d w))
+    → AreDeclared (map table_of (entries_under key.Tables document)) (node_by (node_at n document) document d w)
 step_found nodes filters n document d path owner level narrow p below op.Scan is built =
     let t = named_table nodes filters document d path owner level p is in
     scan_found document d t.0 narrow t.1 (named_columns nodes filters document d path owner level p is)
 step_found nodes filters n document d path owner level narrow p below op.Values is built = tt
 step_found nodes filters n document d path owner level narrow p below op.Filter is built =
-    input_found nodes filters n document d path owner level (map table_of (entries_under key.Tables document)) table.filter 3 p below (ap (λ (w : OpWord). parts_of_node w d) is) refl
+    input_found nodes filters n document d path owner level (map table_of (entries_under key.Tables document)) table.filter 3 key.Input p below (ap (λ (w : OpWord). parts_of_node w d) is) refl
 step_found nodes filters n document d path owner level narrow p below op.Project is built =
-    input_found nodes filters n document d path owner level (map table_of (entries_under key.Tables document)) table.project 3 p below (ap (λ (w : OpWord). parts_of_node w d) is) refl
+    input_found nodes filters n document d path owner level (map table_of (entries_under key.Tables document)) table.project 3 key.Input p below (ap (λ (w : OpWord). parts_of_node w d) is) refl
+step_found nodes filters n document d path owner level narrow p below op.Join is built =
+    let docs = map table_of (entries_under key.Tables document) in
+    let parts = join_parts (has_key key.Filters d) in
+    let own = ap (λ (w : OpWord). parts_of_node w d) is in (
+      input_found nodes filters n document d path owner level docs parts 4 key.Left p below own (join_left (has_key key.Filters d)),
+      input_found nodes filters n document d path owner level docs parts 5 key.Right p below own (join_right (has_key key.Filters d)),
+    )
+step_found nodes filters n document d path owner level narrow p below op.Aggregate is built =
+    let docs = map table_of (entries_under key.Tables document) in
+    let single = single_aggregate nodes filters d path owner level p.passes is in
+    let inner = input_found nodes filters n document d path owner level docs table.aggregate 5 key.Input p below (aggregate_own d is single) refl in
+    subst (λ (w : StepWord). AreDeclared docs (read.aggregate_of w d (inner_node (node_at n document) (under key.Input d)))) (sym single) inner
 step_found nodes filters n document d path owner level narrow p below op.Sort is built =
-    input_found nodes filters n document d path owner level (map table_of (entries_under key.Tables document)) table.sort 3 p below (ap (λ (w : OpWord). parts_of_node w d) is) refl
+    input_found nodes filters n document d path owner level (map table_of (entries_under key.Tables document)) table.sort 3 key.Input p below (ap (λ (w : OpWord). parts_of_node w d) is) refl
 step_found nodes filters n document d path owner level narrow p below op.TopN is built =
     let docs = map table_of (entries_under key.Tables document) in
     let single = single_topn nodes filters d path owner level p.passes is in
-    let inner = input_found nodes filters n document d path owner level docs table.topn 5 p below (topn_own d is single) refl in
-    subst (λ (w : StepWord). IsFound docs (source_of (read.top_n_of w d (inner_node (node_at n document) (under key.Input d))))) (sym single) inner
+    let inner = input_found nodes filters n document d path owner level docs table.topn 5 key.Input p below (topn_own d is single) refl in
+    subst (λ (w : StepWord). AreDeclared docs (read.top_n_of w d (inner_node (node_at n document) (under key.Input d)))) (sym single) inner
 step_found nodes filters n document d path owner level narrow p below op.Limit is built =
     let docs = map table_of (entries_under key.Tables document) in
     let single = single_limit nodes filters d path owner level p.passes is in
-    let inner = input_found nodes filters n document d path owner level docs table.limit 4 p below (limit_own d is single) refl in
-    subst (λ (w : StepWord). IsFound docs (source_of (read.limit_of w d (inner_node (node_at n document) (under key.Input d))))) (sym single) inner
+    let inner = input_found nodes filters n document d path owner level docs table.limit 4 key.Input p below (limit_own d is single) refl in
+    subst (λ (w : StepWord). AreDeclared docs (read.limit_of w d (inner_node (node_at n document) (under key.Input d)))) (sym single) inner
 step_found nodes filters n document d path owner level narrow p below op.Remote is built = cc
-step_found nodes filters n document d path owner level narrow p below op.Join is built = cc
-step_found nodes filters n document d path owner level narrow p below op.Aggregate is built = cc
 step_found nodes filters n document d path owner level narrow p below op.Union is built = cc
 step_found nodes filters n document d path owner level narrow p below op.Unknown is built = cc
 
 node_named : (nodes filters n : ℕ) (document d : Data) (path : List Step) (owner : Data) (level : ℕ) → n + level ≡ 33 → IsNarrow document
-    → Named nodes filters document d path owner level → IsFound (map table_of (entries_under key.Tables document)) (source_of (node_at n document d))
+    → Named nodes filters document d path owner level → AreDeclared (map table_of (entries_under key.Tables document)) (node_at n document d)
 unfolding node_at
 node_named nodes filters zero document d path owner level deep narrow p =
     let within : nat_lt 32 level ≡ false = not_beyond nodes filters d path owner kind.Node level p.passes in
@@ -212,6 +235,6 @@ node_named nodes filters (suc n) document d path owner level deep narrow p =
 
 pub node_found : (nodes filters n : ℕ) (document d : Data) (path : List Step) (owner : Data) (level : ℕ) → n + level ≡ 33 → IsNarrow document
     → Passes nodes filters d path owner kind.Node level → Free (is_missing document) d path owner kind.Node level
-    → IsFound (map table_of (entries_under key.Tables document)) (source_of (node_at n document d))
+    → AreDeclared (map table_of (entries_under key.Tables document)) (node_at n document d)
 node_found nodes filters n document d path owner level deep narrow p free =
     node_named nodes filters n document d path owner level deep narrow (record { passes = p; free = free })

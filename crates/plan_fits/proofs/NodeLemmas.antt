@@ -1,5 +1,5 @@
 -- A node of a document that passes the checks is a scan of declared columns or rows of constants, or
--- an operator of one input over such a node.
+-- the whole of an operator over such nodes.
 use Rattle.std.proofs.Common.{◌≡◌, ℕ, ◌+◌, ◌<◌, ◌≤◌, zero, suc, List, [], ◌∷◌, ◌++◌, length, map, Bool, true, false, cond, Option, Some, None, refl, ap, sym, ◌∙◌, subst, arith, add-one}
 use Rattle.std.specs.Prelude.{slice_get, nat_lt, if◌then◌else◌}
 use Rattle.std.specs.List.{find}
@@ -35,21 +35,22 @@ use Rattle.plan_docs.specs.Names.{column_place, column_type, columns_in, has_nam
 use Rattle.plan_docs.specs.Names as names
 use Rattle.plan_docs.specs.Nodes.{NodeForm, scan, values, remote, filter, project, join, aggregate, aggregate_final, sort, top_n, top_n_final, limit, limit_final, union}
 use Rattle.plan_docs.specs.Exprs.{expr_form}
-use Rattle.plan_docs.specs.Parts.{columns_of, kinds_of}
-use Rattle.plan_docs.specs.ReadNodes.{inner_node, limit_of, node_at, node_by, top_n_of}
-use Rattle.plan_docs.specs.Words.{small, type_of}
+use Rattle.plan_docs.specs.Parts.{call_of, calls_of, columns_of, filters_of, kinds_of, numbers_of}
+use Rattle.plan_docs.specs.ReadNodes.{aggregate_of, inner_node, limit_of, node_at, node_by, top_n_of}
+use Rattle.plan_docs.specs.Words.{small, small_number, type_of}
 use Rattle.tree_evaluator.specs.Fits.{ColumnFits, ColumnsFit, IsOrMissing, kinds}
 use Rattle.plan_fits.proofs.CellLemmas.{AreWide, rows_wide}
-use Rattle.plan_fits.proofs.FindLemmas.{not_false}
+use Rattle.plan_fits.proofs.FindLemmas.{none_is, not_false}
 use Rattle.plan_fits.proofs.NumberLemmas.{small_same}
-use Rattle.plan_fits.proofs.PlaceLemmas.{Part-at, Passes, counted, entry_passes, in_list, not_beyond, not_unbuilt, part_passes, text_is, under_is, wide_row}
+use Rattle.plan_fits.proofs.PlaceLemmas.{Part-at, Passes, counted, entry_passes, has_work, in_list, not_beyond, not_unbuilt, part_passes, text_is, under_is, under_none, unfiltered, wide_row}
 
 -- the columns of a declared table, if there is one, have these types at these places
 abbrev pub ScanFits : Option TableDoc → List ℕ → List SqlType → Type 0
 ScanFits None columns types = Unit {0}
 ScanFits (Some doc) columns types = ColumnsFit (kinds doc.columns) columns types
 
--- scans of declared columns, or rows as wide as their types, under whole operators of one input
+-- scans of declared columns, or rows as wide as their types, under whole operators: joins without dynamic
+-- filters, and aggregates with a key or a call
 abbrev pub IsSound : List TableDoc → NodeForm → Type 0
 IsSound docs (scan id table columns types) =
     (0 < length types) × (length types ≡ length columns) × ScanFits (slice_get docs table) columns types
@@ -57,8 +58,8 @@ IsSound docs (values id types rows) = (0 < length types) × (length types ≤ 25
 IsSound docs (remote id fragment) = ⊥
 IsSound docs (filter id predicate input) = IsSound docs input
 IsSound docs (project id columns input) = (0 < length columns) × IsSound docs input
-IsSound docs (join id kind on filters left right) = ⊥
-IsSound docs (aggregate id step keys calls input) = ⊥
+IsSound docs (join id kind on filters left right) = (filters ≡ []) × IsSound docs left × IsSound docs right
+IsSound docs (aggregate id half keys calls input) = (half ≡ Single) × (0 < length keys + length calls) × IsSound docs input
 IsSound docs (aggregate_final id input) = ⊥
 IsSound docs (sort id keys input) = IsSound docs input
 IsSound docs (top_n id half count keys input) = (half ≡ Single) × IsSound docs input
@@ -150,7 +151,13 @@ built_word nodes filters d path owner level p =
     let same : op_named (text_of at.value) ≡ op_of d = ap op_named (sym (text_is key.Op d at.value at.is)) in
     subst (λ (w : OpWord). is_built w ≡ true) same built
 
--- a top n and a limit have their step third
+-- an aggregate, a top n and a limit have their step third
+aggregate_step : (w : StepWord) → slice_get (aggregate_parts w) 2 ≡ Some (part key.Step kind.Step)
+aggregate_step word.Single = refl
+aggregate_step word.Partial = refl
+aggregate_step word.Final = refl
+aggregate_step word.Unknown = refl
+
 topn_step : (w : StepWord) → slice_get (topn_parts w) 2 ≡ Some (part key.Step kind.Step)
 topn_step word.Single = refl
 topn_step word.Partial = refl
@@ -176,6 +183,10 @@ single_step nodes filters d path owner level p third =
     let built = not_false (is_whole (step_named (text_of at.value))) (not_unbuilt nodes filters at.value (path ++ step.Key key.Step ∷ []) d kind.Step level at.passes) in
     ap step_named (text_is key.Step d at.value at.is) ∙ whole_single (step_named (text_of at.value)) built
 
+pub single_aggregate : (nodes filters : ℕ) (d : Data) (path : List Step) (owner : Data) (level : ℕ) → Passes nodes filters d path owner kind.Node level → op_of d ≡ op.Aggregate → step_of d ≡ word.Single
+single_aggregate nodes filters d path owner level p is =
+    single_step nodes filters d path owner level p (subst (λ (w : OpWord). slice_get (parts_of_node w d) 2 ≡ Some (part key.Step kind.Step)) (sym is) (aggregate_step (step_of d)))
+
 pub single_topn : (nodes filters : ℕ) (d : Data) (path : List Step) (owner : Data) (level : ℕ) → Passes nodes filters d path owner kind.Node level → op_of d ≡ op.TopN → step_of d ≡ word.Single
 single_topn nodes filters d path owner level p is =
     single_step nodes filters d path owner level p (subst (λ (w : OpWord). slice_get (parts_of_node w d) 2 ≡ Some (part key.Step kind.Step)) (sym is) (topn_step (step_of d)))
@@ -185,6 +196,9 @@ single_limit nodes filters d path owner level p is =
     single_step nodes filters d path owner level p (subst (λ (w : OpWord). slice_get (parts_of_node w d) 2 ≡ Some (part key.Step kind.Step)) (sym is) (limit_step (step_of d)))
 
 -- so it has the keys of that step
+pub aggregate_own : (d : Data) → op_of d ≡ op.Aggregate → step_of d ≡ word.Single → parts_of_node (op_of d) d ≡ table.aggregate
+aggregate_own d is single = ap (λ (w : OpWord). parts_of_node w d) is ∙ ap aggregate_parts single
+
 pub topn_own : (d : Data) → op_of d ≡ op.TopN → step_of d ≡ word.Single → parts_of_node (op_of d) d ≡ table.topn
 topn_own d is single = ap (λ (w : OpWord). parts_of_node w d) is ∙ ap topn_parts single
 
@@ -200,6 +214,35 @@ listed nodes filters d path owner level parts i least most k inner p own at is =
     let count = counted nodes filters here.value (path ++ step.Key k ∷ []) d inner (level_of inner level) least most here.passes is in
     subst (λ (es : List Data). (least ≤ length es) × (length es ≤ most)) (sym (under_is k d here.value here.is)) count
 
+-- a join has its sides fifth and sixth, with dynamic filters or without
+pub join_left : (b : Bool) → slice_get (join_parts b) 4 ≡ Some (part key.Left kind.Node)
+join_left true = refl
+join_left false = refl
+
+pub join_right : (b : Bool) → slice_get (join_parts b) 5 ≡ Some (part key.Right kind.Node)
+join_right true = refl
+join_right false = refl
+
+-- a join that passes has no dynamic filters
+no_filters : (nodes filters : ℕ) (d : Data) (path : List Step) (owner : Data) (level : ℕ) → Passes nodes filters d path owner kind.Node level → op_of d ≡ op.Join
+    → entries_under key.Filters d ≡ []
+no_filters nodes filters d path owner level p is = by_key (has_key key.Filters d) refl
+  where
+    by_key : (b : Bool) → has_key key.Filters d ≡ b → entries_under key.Filters d ≡ []
+    by_key false has = under_none key.Filters d (none_is (under key.Filters d) has)
+    by_key true has =
+        let own : parts_of_node (op_of d) d ≡ table.filtered_join = ap (λ (w : OpWord). parts_of_node w d) is ∙ ap join_parts has in
+        let at : Part-at nodes filters d path key.Filters kind.Filters level = part_passes nodes filters d path owner kind.Node level table.filtered_join 6 key.Filters kind.Filters p refl own refl in
+        under_is key.Filters d at.value at.is ∙ unfiltered nodes filters at.value (path ++ step.Key key.Filters ∷ []) d level at.passes
+
+-- an aggregate that passes has a key or a call
+some_work : (nodes filters : ℕ) (d : Data) (path : List Step) (owner : Data) (level : ℕ) → Passes nodes filters d path owner kind.Node level → parts_of_node (op_of d) d ≡ table.aggregate
+    → 0 < length (entries_under key.Keys d) + length (entries_under key.Calls d)
+some_work nodes filters d path owner level p own =
+    let at : Part-at nodes filters d path key.Calls kind.AggregateCalls level = part_passes nodes filters d path owner kind.Node level table.aggregate 4 key.Calls kind.AggregateCalls p refl own refl in
+    let some = has_work nodes filters at.value (path ++ step.Key key.Calls ∷ []) d level at.passes in
+    subst (λ (es : List Data). 0 < length (entries_under key.Keys d) + length es) (sym (under_is key.Calls d at.value at.is)) some
+
 -- a row of a values node has as many entries as there are types
 wide_rows : (nodes filters : ℕ) (d : Data) (path : List Step) (owner : Data) (level : ℕ) → Passes nodes filters d path owner kind.Node level → op_of d ≡ op.Values
     → (j : ℕ) (e : Data) → slice_get (entries_under key.Rows d) j ≡ Some e → length (entries_in e) ≡ length (entries_under key.Types d)
@@ -211,15 +254,15 @@ wide_rows nodes filters d path owner level p is j e at =
     let one = entry_passes nodes filters rows.value inside d kind.Rows level here.items j e rows.passes here.is refl here.at in
     wide_row nodes filters e (inside ++ step.Index j ∷ []) d level one
 
--- a node whose input passes is as sound as the input
-over_input : (nodes filters n : ℕ) (document d : Data) (path : List Step) (owner : Data) (level : ℕ) (docs : List TableDoc) (parts : List Part) (i : ℕ)
+-- what a node that passes reads is sound
+over_input : (nodes filters n : ℕ) (document d : Data) (path : List Step) (owner : Data) (level : ℕ) (docs : List TableDoc) (parts : List Part) (i : ℕ) (k : Key)
     → Passes nodes filters d path owner kind.Node level
     → ((e : Data) (inner : List Step) → Passes nodes filters e inner d kind.Node (level + 1) → IsSound docs (node_at n document e))
-    → parts_of_node (op_of d) d ≡ parts → slice_get parts i ≡ Some (part key.Input kind.Node)
-    → IsSound docs (inner_node (node_at n document) (under key.Input d))
-over_input nodes filters n document d path owner level docs parts i p below own is =
-    let at : Part-at nodes filters d path key.Input kind.Node level = part_passes nodes filters d path owner kind.Node level parts i key.Input kind.Node p refl own is in
-    subst (λ (o : Option Data). IsSound docs (inner_node (node_at n document) o)) (sym at.is) (below at.value (path ++ step.Key key.Input ∷ []) at.passes)
+    → parts_of_node (op_of d) d ≡ parts → slice_get parts i ≡ Some (part k kind.Node)
+    → IsSound docs (inner_node (node_at n document) (under k d))
+over_input nodes filters n document d path owner level docs parts i k p below own is =
+    let at : Part-at nodes filters d path k kind.Node level = part_passes nodes filters d path owner kind.Node level parts i k kind.Node p refl own is in
+    subst (λ (o : Option Data). IsSound docs (inner_node (node_at n document) o)) (sym at.is) (below at.value (path ++ step.Key k ∷ []) at.passes)
 
 node_step : (nodes filters n : ℕ) (document d : Data) (path : List Step) (owner : Data) (level : ℕ) → IsNarrow document
     → Passes nodes filters d path owner kind.Node level
@@ -251,29 +294,44 @@ node_step nodes filters n document d path owner level narrow p below op.Values i
           (rows_wide (kinds_of ts) (length ts) (entries_under key.Rows d) (wide_rows nodes filters d path owner level p is)),
     )
 node_step nodes filters n document d path owner level narrow p below op.Filter is built =
-    over_input nodes filters n document d path owner level (map table_of (entries_under key.Tables document)) table.filter 3 p below (ap (λ (w : OpWord). parts_of_node w d) is) refl
+    over_input nodes filters n document d path owner level (map table_of (entries_under key.Tables document)) table.filter 3 key.Input p below (ap (λ (w : OpWord). parts_of_node w d) is) refl
 node_step nodes filters n document d path owner level narrow p below op.Project is built =
     let own = ap (λ (w : OpWord). parts_of_node w d) is in
     let es = entries_under key.Columns d in
     let some = (listed nodes filters d path owner level table.project 2 1 256 key.Columns kind.Expressions p own refl refl).0 in (
       omega (arith, length-map es expr_form, some),
-      over_input nodes filters n document d path owner level (map table_of (entries_under key.Tables document)) table.project 3 p below own refl,
+      over_input nodes filters n document d path owner level (map table_of (entries_under key.Tables document)) table.project 3 key.Input p below own refl,
     )
+node_step nodes filters n document d path owner level narrow p below op.Join is built =
+    let docs = map table_of (entries_under key.Tables document) in
+    let parts = join_parts (has_key key.Filters d) in
+    let own = ap (λ (w : OpWord). parts_of_node w d) is in (
+      ap filters_of (no_filters nodes filters d path owner level p is),
+      over_input nodes filters n document d path owner level docs parts 4 key.Left p below own (join_left (has_key key.Filters d)),
+      over_input nodes filters n document d path owner level docs parts 5 key.Right p below own (join_right (has_key key.Filters d)),
+    )
+node_step nodes filters n document d path owner level narrow p below op.Aggregate is built =
+    let docs = map table_of (entries_under key.Tables document) in
+    let single = single_aggregate nodes filters d path owner level p is in
+    let own = aggregate_own d is single in
+    let inner = over_input nodes filters n document d path owner level docs table.aggregate 5 key.Input p below own refl in
+    let keys : length (numbers_of (entries_under key.Keys d)) ≡ length (entries_under key.Keys d) = length-map (entries_under key.Keys d) small_number in
+    let calls : length (calls_of (entries_under key.Calls d)) ≡ length (entries_under key.Calls d) = length-map (entries_under key.Calls d) call_of in
+    let some = some_work nodes filters d path owner level p own in
+    subst (λ (w : StepWord). IsSound docs (aggregate_of w d (inner_node (node_at n document) (under key.Input d)))) (sym single) (refl, omega (arith, keys, calls, some), inner)
 node_step nodes filters n document d path owner level narrow p below op.Sort is built =
-    over_input nodes filters n document d path owner level (map table_of (entries_under key.Tables document)) table.sort 3 p below (ap (λ (w : OpWord). parts_of_node w d) is) refl
+    over_input nodes filters n document d path owner level (map table_of (entries_under key.Tables document)) table.sort 3 key.Input p below (ap (λ (w : OpWord). parts_of_node w d) is) refl
 node_step nodes filters n document d path owner level narrow p below op.TopN is built =
     let docs = map table_of (entries_under key.Tables document) in
     let single = single_topn nodes filters d path owner level p is in
-    let inner = over_input nodes filters n document d path owner level docs table.topn 5 p below (topn_own d is single) refl in
+    let inner = over_input nodes filters n document d path owner level docs table.topn 5 key.Input p below (topn_own d is single) refl in
     subst (λ (w : StepWord). IsSound docs (top_n_of w d (inner_node (node_at n document) (under key.Input d)))) (sym single) (refl, inner)
 node_step nodes filters n document d path owner level narrow p below op.Limit is built =
     let docs = map table_of (entries_under key.Tables document) in
     let single = single_limit nodes filters d path owner level p is in
-    let inner = over_input nodes filters n document d path owner level docs table.limit 4 p below (limit_own d is single) refl in
+    let inner = over_input nodes filters n document d path owner level docs table.limit 4 key.Input p below (limit_own d is single) refl in
     subst (λ (w : StepWord). IsSound docs (limit_of w d (inner_node (node_at n document) (under key.Input d)))) (sym single) (refl, inner)
 node_step nodes filters n document d path owner level narrow p below op.Remote is built = cc
-node_step nodes filters n document d path owner level narrow p below op.Join is built = cc
-node_step nodes filters n document d path owner level narrow p below op.Aggregate is built = cc
 node_step nodes filters n document d path owner level narrow p below op.Union is built = cc
 node_step nodes filters n document d path owner level narrow p below op.Unknown is built = cc
 

@@ -1,12 +1,13 @@
 -- A document that passes the checks, seen from one of its places: what stands inside passes too.
-use Rattle.std.proofs.Common.{◌≡◌, ℕ, ◌+◌, ◌≤◌, zero, suc, List, [], ◌∷◌, ◌++◌, length, Bool, true, false, Option, Some, None, refl, ap, sym, ◌∙◌, subst, arith}
-use Rattle.std.specs.Prelude.{slice_get, ◌||◌, ◌==◌, option_map, unwrap_or, nat_le, if◌then◌else◌}
-use Rattle.std.proofs.lemmas.Bool.{eqb-true, leb-true}
+use Rattle.std.proofs.Common.{◌≡◌, ℕ, ◌+◌, ◌<◌, ◌≤◌, zero, suc, List, [], ◌∷◌, ◌++◌, length, Bool, true, false, Option, Some, None, refl, ap, sym, ◌∙◌, subst, arith}
+use Rattle.std.specs.Prelude.{slice_get, ◌&&◌, ◌||◌, ◌==◌, option_map, unwrap_or, nat_le, nat_lt, if◌then◌else◌}
+use Rattle.std.proofs.lemmas.Bool.{eqb-true, leb-true, ltb-false}
 use Rattle.std.specs.List.{find, flat_map, list_all}
 use Rattle.serde_json.specs.Data.{Data, null, boolean, number, string, array, object, Items, no_items, item}
 use Rattle.serde_json.specs.Events.{items_len}
 use Rattle.serde_json.specs.Find.{as_array, get}
 use Rattle.plan_places.specs.declared.key.Key.{Key}
+use Rattle.plan_places.specs.declared.key.Key.TheVariants as key
 use Rattle.plan_places.specs.declared.step.Step.{Step}
 use Rattle.plan_places.specs.declared.step.Step.TheVariants as step
 use Rattle.plan_places.specs.Places.{key_text}
@@ -23,7 +24,7 @@ use Rattle.plan_checks.specs.declared.limits.Bound.TheVariants as bound
 use Rattle.plan_checks.specs.Built.{is_unbuilt}
 use Rattle.plan_checks.specs.Limits.{bound_of, exceeds, is_beyond, is_crowded, is_within, lacks_work}
 use Rattle.plan_checks.specs.Shapes.{has_keys, has_shape, is_cell, is_list, is_misshapen, is_wide, row_width, shape_of}
-use Rattle.plan_fits.proofs.FindLemmas.{first_true, neither, none_here, none_after, none_left, none_part, none_right, not_false, second_true, some_is}
+use Rattle.plan_fits.proofs.FindLemmas.{first_true, neither, none_here, none_after, none_left, none_part, none_right, nor_second, not_false, second_true, some_is}
 
 -- at no place from this one on does the test hold
 abbrev pub Free : (Spot → Bool) → Data → List Step → Data → Kind → ℕ → Type 0
@@ -157,6 +158,31 @@ count-entries : (o : Option Items) → length (entries o) ≡ count_of o
 count-entries None = refl
 count-entries (Some ds) = length-entries ds
 
+-- an aggregate that passes has a key or a call
+pub has_work : (nodes filters : ℕ) (d : Data) (path : List Step) (owner : Data) (level : ℕ) → Passes nodes filters d path owner kind.AggregateCalls level
+    → 0 < length (entries_under key.Keys owner) + length (entries_in d)
+has_work nodes filters d path owner level p =
+    let here = spot d path owner kind.AggregateCalls level in
+    let at = free_here (is_beyond nodes filters) d path owner kind.AggregateCalls level p.within in
+    let lacks = nor_second (exceeds (bound_of kind.AggregateCalls) here || is_crowded nodes filters kind.AggregateCalls) (lacks_work here) at in
+    let some = some_of (entries_count d) (length (entries_under key.Keys owner)) lacks in
+    subst (λ (n : ℕ). 0 < length (entries_under key.Keys owner) + n) (sym (count-entries (as_array d))) some
+  where
+    some_of : (calls keys : ℕ) → (calls == 0) && (keys == 0) ≡ false → 0 < keys + calls
+    some_of zero zero h = cc
+    some_of zero (suc keys) h = omega arith
+    some_of (suc calls) keys h = omega arith
+
+no_entry : (es : List Data) → length es ≤ 0 → es ≡ []
+no_entry [] h = refl
+no_entry (e ∷ es) h = absurd (omega (arith, h))
+
+-- a list of dynamic filters that is built is empty
+pub unfiltered : (nodes filters : ℕ) (d : Data) (path : List Step) (owner : Data) (level : ℕ) → Passes nodes filters d path owner kind.Filters level → entries_in d ≡ []
+unfiltered nodes filters d path owner level p =
+    let few : nat_lt 0 (entries_count d) ≡ false = not_unbuilt nodes filters d path owner kind.Filters level p in
+    no_entry (entries_in d) (subst (λ (n : ℕ). n ≤ 0) (sym (count-entries (as_array d))) (ltb-false 0 (entries_count d) few))
+
 -- how many entries a list has
 pub counted : (nodes filters : ℕ) (d : Data) (path : List Step) (owner : Data) (kind : Kind) (level least most : ℕ)
     → Passes nodes filters d path owner kind level → bound_of kind ≡ bound.Entries least most
@@ -199,3 +225,7 @@ under_is k d e is = rw is refl
 -- the text under a key
 pub text_is : (k : Key) (d e : Data) → under k d ≡ Some e → text_under k d ≡ text_of e
 text_is k d e is = rw is refl
+
+-- what is not there has no entries
+pub under_none : (k : Key) (d : Data) → under k d ≡ None → entries_under k d ≡ []
+under_none k d is = rw is refl

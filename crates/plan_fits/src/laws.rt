@@ -9,7 +9,8 @@ use plan_reader::Plan;
 use sql_values::Table;
 
 /// The law that the tree of a plan that was read fits tables of the columns that the plan declares:
-/// scans, constants, filters, projects, sorts, top ns and limits, of which plans are built today.
+/// scans, constants, filters, projects, joins, aggregates, sorts, top ns and limits, of which plans
+/// are built today.
 #[tactic(auto, using(crate::proofs::PlanLemmas::plan_fits))]
 pub fn tree_of_a_plan_fits(plan: &Plan, tables: &[Table])
     requires read { WasRead (plan_view plan.now) }

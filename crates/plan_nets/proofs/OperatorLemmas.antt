@@ -28,7 +28,7 @@ use Rattle.plan_nets.specs.Operators.{AreKnown, EndsIn, LooksUp, Operate, types_
 use Rattle.plan_nets.proofs.SnocLemmas.{Chain-snoc, Linked-snoc, Place, Turns-snoc, last-snoc, last_or_before, only_one}
 
 -- the first build of those that agree
-first_agrees : (noted : Option (List Row)) (notes : List (Option (List Row))) (built : List Row) (builds : List (List Row)) → AgreeWith (noted ∷ notes) (built ∷ builds)
+pub first_agrees : (noted : Option (List Row)) (notes : List (Option (List Row))) (built : List Row) (builds : List (List Row)) → AgreeWith (noted ∷ notes) (built ∷ builds)
     → IsNoted noted built × AgreeWith notes builds
 first_agrees None notes built builds agrees = (tt, agrees)
 first_agrees (Some known) notes built builds agrees = agrees
@@ -71,14 +71,14 @@ module _ {S : Type 0} (g : Ghosts S) (laws : IsLawful g) where
     pub told : ToldInTurn g ended before
     pub turn : g.is_told last ≡ true → last_finished g ended before ≡ true
 
-  came_before : (all before : List S) (last : S) (ended : Bool) (took gave : List Row) → all ≡ before ++ last ∷ [] → ToldInTurn g ended all → Linked g all took gave
+  pub came_before : (all before : List S) (last : S) (ended : Bool) (took gave : List Row) → all ≡ before ++ last ∷ [] → ToldInTurn g ended all → Linked g all took gave
       → Before before last ended took gave
   came_before all before last ended took gave are turns linked =
       let l = Linked-snoc g before last took gave (subst (λ (a : List S). Linked g a took gave) are linked) in
       let t = Turns-snoc g ended before last (subst (ToldInTurn g ended) are turns) in
       record { came = l.0; linked = l.1; steps = l.2; told = t.0; turn = t.1 }
 
-  done_is : (all before : List S) (last : S) (ended : Bool) → all ≡ before ++ last ∷ [] → last_finished g ended all ≡ g.is_finished last
+  pub done_is : (all before : List S) (last : S) (ended : Bool) → all ≡ before ++ last ∷ [] → last_finished g ended all ≡ g.is_finished last
   done_is all before last ended are = ap (last_finished g ended) are ∙ last-snoc g ended before last
 
   unary : (run : RunPlan) (at : NodeStage) (input : RunPlan) (notes : List (Option (List Row))) (all : List S) (given : List SqlType)
@@ -108,7 +108,7 @@ module _ {S : Type 0} (g : Ghosts S) (laws : IsLawful g) where
       subst (λ (p : List Stage). CanGoOn p took gave ended (g.is_finished last)) (sym (stages-append pipeline (probe built ∷ [])))
       (goes_on-append (stages_of pipeline) (stages_of (probe built ∷ [])) took M gave ended told (g.is_finished last) opens (is.goes_on refl built M gave told fit steps turn))
 
-  gave_fits : (noted : Option (List Row)) (probe : List Row → NodeStage) (last : S) (between given : List SqlType) → LooksUp g last noted between probe given
+  pub gave_fits : (noted : Option (List Row)) (probe : List Row → NodeStage) (last : S) (between given : List SqlType) → LooksUp g last noted between probe given
       → (took M gave : List Row) (ended told : Bool) → (g.is_told last ≡ true → told ≡ true) → Steps g last M gave → AllFit between M → AllFit given gave
   gave_fits (Some rows) probe last between given is took M gave ended told turn steps fit =
       (one_more [] (probe rows) last (g.as_made last) between given (is.means rows rows refl (same-refl rows)) (inl refl) took M gave ended told turn steps fit).1
@@ -181,7 +181,7 @@ module _ {S : Type 0} (g : Ghosts S) (laws : IsLawful g) where
   leaf_made [] types given took gave none same chain fit = (chain, subst (λ (ts : List SqlType). AllFit ts gave) same (subst (AllFit types) chain fit))
   leaf_made (s ∷ all) types given took gave none same chain fit = absurd cc
 
-  made_behind : (run input : RunPlan) (builds own : List (List Row)) (at : NodeStage) (m : S) (between given : List SqlType) (took M gave : List Row)
+  pub made_behind : (run input : RunPlan) (builds own : List (List Row)) (at : NodeStage) (m : S) (between given : List SqlType) (took M gave : List Row)
       → stages_over run own ≡ stages_over input builds ++ at ∷ [] → Means g m between (at ∷ []) given → g.may_give m M gave → NothingFails g m M → Made input builds between took M
       → Made run own given took gave
   made_behind run input builds own at m between given took M gave over means gives calm made =

@@ -17,7 +17,7 @@ ghost use Rattle.plan_runs.specs.RunPlans.{RunPlan, tree_of_run};
 ghost use Rattle.stage_meanings.specs.Pipelines.{at_node, stages_of};
 ghost use Rattle.plan_nets.specs.Trees.{IsInOneTask, IsSideOf, rows_of_source, stages_over};
 ghost use Rattle.plan_nets.specs.Wholes.{SidesGave};
-ghost use Rattle.plan_nets.specs.Stopped.{FailsAt, IsOpen, StandsAt};
+ghost use Rattle.plan_nets.specs.Stopped.{AgreeWith, FailsAt, IsOpen, StandsAt};
 ghost use Rattle.plan_nets.specs.Lookups.{IsSourceOf, rows_known};
 ghost use Rattle.plan_nets.specs.Operators.{AreKnown, LooksUp, Operate, Probes, types_of_source};
 
@@ -73,6 +73,19 @@ pub fn operators_make<O: Operator>(all: &[O])
         (given : List Typed) → Operate O.Operator run notes all.now given → AreKnown notes builds
         → (took gave : List Row) → AllFit (types_of_source run) took
         → Chain O.Operator true (map O.Operator.as_made all.now) took gave
+        → StageChain strict (stages_of (stages_over run builds)) took gave }
+{
+    operator_core::laws::laws::<O>(PhantomData);
+}
+
+/// The law that where the last operator is finished, what they gave is what the stages make, over any builds with
+/// which the notes agree: a note may know nothing, where no row came.
+pub fn operators_finish<O: Operator>(all: &[O])
+    ensures { (run : RunPlan) (notes : List (Option (List Row))) (builds : List (List Row))
+        (given : List Typed) → Operate O.Operator run notes all.now given → AgreeWith notes builds
+        → (ended : Bool) (took gave : List Row) → ToldInTurn O.Operator ended all.now
+        → Linked O.Operator all.now took gave → AllFit (types_of_source run) took
+        → last_finished O.Operator ended all.now ≡ true
         → StageChain strict (stages_of (stages_over run builds)) took gave }
 {
     operator_core::laws::laws::<O>(PhantomData);

@@ -14,12 +14,15 @@
 //!   tree gives
 //! - `nets_fail`, `sides_fail`: where a stage fails in the pipeline of the root, or in that of a right side, its
 //!   node may fail so
-//! - `operators_go_on`, `operators_make`, `operators_fail`: the same premises in terms of any operators that are the
-//!   stages, as a driver knows of them
+//! - `operators_go_on`, `operators_make`, `operators_finish`, `operators_fail`: the same premises in terms of any
+//!   operators that are the stages, as a driver knows of them
 //! - `probes_look_up`: an operator that gives the join with what its note knows is the stage of that join, and
 //!   `probe_ops_probe`: `ProbeOp` is such an operator (`specs/Lookups.antt`)
 #![tactic(auto)]
 
 mod laws;
 
-pub use laws::{nets_fail, nets_give, operators_fail, operators_go_on, operators_make, sides_fail};
+pub use laws::{
+    nets_fail, nets_give, operators_fail, operators_finish, operators_go_on, operators_make,
+    probe_ops_probe, probes_look_up, sides_fail,
+};

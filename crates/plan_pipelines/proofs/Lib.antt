@@ -1,5 +1,1 @@
 pub mod FragmentLemmas
-pub mod PipelineLemmas
-pub mod SourceLemmas
-pub mod DriverLemmas
-pub mod WorkedDriver

@@ -1,22 +1,23 @@
--- Plans that run as one pipeline.
+-- Plans that run as pipelines of one fragment: that of the root, and one for the right side of each join.
 use Rattle.std.specs.Prelude.{◌≡◌, ◌<◌, ℕ, List, [], All, length, slice_get, Some}
 use Rattle.sql_values.specs.declared.table.Table.{Table}
 use Rattle.sql_values.specs.declared.types.SqlType.{SqlType}
 use Rattle.sql_values.specs.declared.value.Value.{Value}
+use Rattle.plan_docs.specs.declared.node.NodeStep.TheVariants.{Single}
 use Rattle.plan_docs.specs.Nodes.{NodeForm}
 use Rattle.plan_docs.specs.Nodes as node
 use Rattle.plan_docs.specs.Plans.{PlanForm}
 use Rattle.plan_pipelines.specs.Fragments.{IsOneFragment}
 
--- a scan or constant rows, or operators of one input over these
+-- scans and constant rows, and operators over these: each the whole of its operator, and no join with filters
 abbrev pub IsBuilt : NodeForm → Type 0
 IsBuilt (node.scan id table columns types) = Unit {0}
 IsBuilt (node.values id types rows) = Unit {0}
 IsBuilt (node.remote id fragment) = ⊥
 IsBuilt (node.filter id predicate input) = IsBuilt input
 IsBuilt (node.project id columns input) = IsBuilt input
-IsBuilt (node.join id kind on filters left right) = ⊥
-IsBuilt (node.aggregate id step keys calls input) = ⊥
+IsBuilt (node.join id kind on filters left right) = (filters ≡ []) × IsBuilt left × IsBuilt right
+IsBuilt (node.aggregate id step keys calls input) = (step ≡ Single) × IsBuilt input
 IsBuilt (node.aggregate_final id input) = ⊥
 IsBuilt (node.sort id keys input) = IsBuilt input
 IsBuilt (node.top_n id step count keys input) = IsBuilt input
@@ -25,7 +26,7 @@ IsBuilt (node.limit id step count input) = IsBuilt input
 IsBuilt (node.limit_final id input) = ⊥
 IsBuilt (node.union id left right) = ⊥
 
--- where its rows come from
+-- where the rows of a pipeline come from
 pub data PipelineSource : Type 0 where
   from_table : (table : ℕ) (columns : List ℕ) → PipelineSource
   from_plan : (types : List SqlType) (rows : List (List Value)) → PipelineSource
@@ -34,14 +35,15 @@ pub data PipelineSource : Type 0 where
 abbrev pub no_source : PipelineSource
 no_source = from_plan [] []
 
+-- the source of the node's pipeline, which goes along inputs and left sides
 abbrev pub source_of : NodeForm → PipelineSource
 source_of (node.scan id table columns types) = from_table table columns
 source_of (node.values id types rows) = from_plan types rows
 source_of (node.remote id fragment) = no_source
 source_of (node.filter id predicate input) = source_of input
 source_of (node.project id columns input) = source_of input
-source_of (node.join id kind on filters left right) = no_source
-source_of (node.aggregate id step keys calls input) = no_source
+source_of (node.join id kind on filters left right) = source_of left
+source_of (node.aggregate id step keys calls input) = source_of input
 source_of (node.aggregate_final id input) = no_source
 source_of (node.sort id keys input) = source_of input
 source_of (node.top_n id step count keys input) = source_of input
@@ -62,9 +64,26 @@ abbrev pub CanBeRead : List Table → PipelineSource → Type 0
 CanBeRead tables (from_table place columns) = IsReadFrom tables place columns
 CanBeRead tables (from_plan types rows) = 0 < length types
 
--- the plan is one fragment, which is one pipeline over a source that can be read
+-- the sources of all pipelines of the node can be read
+abbrev pub AreRead : List Table → NodeForm → Type 0
+AreRead tables (node.scan id table columns types) = IsReadFrom tables table columns
+AreRead tables (node.values id types rows) = 0 < length types
+AreRead tables (node.remote id fragment) = ⊥
+AreRead tables (node.filter id predicate input) = AreRead tables input
+AreRead tables (node.project id columns input) = AreRead tables input
+AreRead tables (node.join id kind on filters left right) = AreRead tables left × AreRead tables right
+AreRead tables (node.aggregate id step keys calls input) = AreRead tables input
+AreRead tables (node.aggregate_final id input) = ⊥
+AreRead tables (node.sort id keys input) = AreRead tables input
+AreRead tables (node.top_n id step count keys input) = AreRead tables input
+AreRead tables (node.top_n_final id input) = ⊥
+AreRead tables (node.limit id step count input) = AreRead tables input
+AreRead tables (node.limit_final id input) = ⊥
+AreRead tables (node.union id left right) = ⊥
+
+-- the plan is one fragment, whose pipelines are built, over sources that can be read
 pub record IsRunnable (plan : PlanForm) (tables : List Table) : Type 0 where
   pub root : NodeForm
   pub one : IsOneFragment plan root
   pub built : IsBuilt root
-  pub source : CanBeRead tables (source_of root)
+  pub read : AreRead tables root

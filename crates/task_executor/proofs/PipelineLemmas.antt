@@ -1,6 +1,7 @@
 -- The stages of a pipeline, one more behind the others.
-use Rattle.std.proofs.Common.{Box, Global, Vec, Result, Ok, Err, IfOk, ◌≡◌, ◌↔◌, ◌<◌, ℕ, List, [], ◌∷◌, ◌++◌, length, map, take, refl, ap, sym, subst, ◌∙◌, append_assoc, append-nil, arith}
-use Rattle.std.proofs.lemmas.List.{length-map, map-append}
+use Rattle.std.proofs.Common.{Box, Global, Vec, Result, Ok, Err, IfOk, ◌≡◌, ◌↔◌, ◌<◌, ℕ, List, [], ◌∷◌, ◌++◌, length, map, take, ap, sym, subst, ◌∙◌, arith}
+use Rattle.std.proofs.lemmas.List.{length-append, length-map, map-append}
+use Rattle.std.specs.Prelude.{◌+◌, IsTrue}
 use Rattle.sql_values.specs.declared.types.SqlType.{SqlType}
 use Rattle.sql_values.specs.declared.value.Value.{Value}
 use Rattle.sql_values.specs.declared.fail.Fail.{Fail}
@@ -14,8 +15,20 @@ use Rattle.plan_docs.specs.declared.node.Node.{Node}
 use Rattle.plan_docs.specs.declared.node.Node.TheFolds.{fold-roll-Node}
 use Rattle.plan_docs.specs.declared.node.Node.TheVariants as declared
 use Rattle.plan_docs.specs.declared.node.NodeStep.{NodeStep}
-use Rattle.plan_docs.specs.Nodes.{NodeForm, filter, limit, node_step, node_view, project, sort, top_n}
-use Rattle.plan_trees.specs.TreeTypes.{types_of}
+use Rattle.plan_docs.specs.Nodes.{NodeForm, aggregate, filter, join, limit, node_step, node_view, project, sort, top_n}
+use Rattle.plan_docs.specs.declared.node.DynamicFilter.{DynamicFilter}
+use Rattle.plan_trees.specs.declared.tree.Pair.{Pair}
+use Rattle.plan_trees.specs.TreeForms.{pair_view}
+use Rattle.plan_trees.specs.TreeTypes.{call_kind, types_of}
+use Rattle.sql_functions.specs.CallTypes.{type_at}
+use Rattle.sql_values.specs.declared.relational.Call.{Call}
+use Rattle.sql_values.specs.declared.relational.JoinKind.{JoinKind}
+use Rattle.accumulators.specs.Limits.{are_allowed}
+use Rattle.aggregation.specs.declared.single.SingleAgg.{SingleAgg as SingleState}
+use Rattle.aggregation.specs.contracts.single.SingleAggOperator.TheImpl.{ghosts as single_ghosts}
+use Rattle.hash_join.specs.Probing.{ProbeState}
+use Rattle.plan_nets.specs.Operators.{EndsIn}
+use Rattle.task_executor.specs.Cells.{Names, cell_of}
 use Rattle.plan_trees.specs.TreeForms.{TreeForm}
 use Rattle.plan_trees.specs.TreeForms as tree
 use Rattle.plan_runs.specs.RunPlans.{tree_of_run}
@@ -29,40 +42,21 @@ use Rattle.row_ops.specs.contracts.limit.LimitOpOperator.TheImpl.{ghosts as limi
 use Rattle.topn_sort.specs.Sorting.{SortState, TopState}
 use Rattle.topn_sort.specs.contracts.sort.SortOpOperator.TheImpl.{ghosts as sort_ghosts}
 use Rattle.topn_sort.specs.contracts.topn.TopNOpOperator.TheImpl.{ghosts as topn_ghosts}
-use Rattle.driver_loop.specs.declared.stage.Stage.TheVariants.{Filter, Limit, Sort, TopN}
+use Rattle.driver_loop.specs.declared.stage.Stage.TheVariants.{Filter, Limit, Probe, Single, Sort, TopN}
 use Rattle.stage_meanings.proofs.OrderLemmas.{limit_keeps, rows_mean, sort_keeps, topn_keeps}
-use Rattle.stage_meanings.specs.Meanings.{ActsAs, AllMean, Means}
+use Rattle.stage_meanings.specs.Meanings.{ActsAs, Means}
 use Rattle.stage_meanings.proofs.ActLemmas.{acts_mean}
 use Rattle.stage_meanings.specs.Pipelines.{NodeStage, at_node}
 use Rattle.plan_pipelines.specs.Fragments.{run_of}
-use Rattle.plan_pipelines.specs.Sources.{pipeline_of, source_types}
 use Rattle.sql_exprs.specs.declared.expr.Expr.{Expr}
 use Rattle.sql_exprs.specs.Forms.{Form, form_view}
 use Rattle.sql_exprs.specs.Meaning.{kind_of}
-use Rattle.task_executor.specs.Pipelines.{CanFit, Extends, IsMadeFor, NeverLearns, NoneLearns}
+use Rattle.task_executor.specs.Pipelines.{Assembled, CanFit, Extends, IsMadeFor, IsStageOf, NeverLearns, ProbesFor}
 use Rattle.task_executor.specs.declared.pipeline.Pipeline.{Pipeline}
-
-pub all_mean-snoc : (stages : List Stage) (taken between given : List SqlType) (pipeline more : List NodeStage) (stage : Stage)
-    → AllMean ghosts stages taken pipeline between → Means ghosts stage between more given
-    → AllMean ghosts (stages ++ stage ∷ []) taken (pipeline ++ more) given
-all_mean-snoc [] taken between given pipeline more stage (none, same) means =
-    (more, [], given, ap (λ p. p ++ more) none ∙ sym (append-nil more), subst (λ t. Means ghosts stage t more given) (sym same) means, (refl, refl))
-all_mean-snoc (s ∷ stages) taken between given pipeline more stage (first, rest, next, is, head, tail) means = (
-  first,
-  rest ++ more,
-  next,
-  ap (λ p. p ++ more) is ∙ append_assoc first rest more,
-  head,
-  all_mean-snoc stages next between given rest more stage tail means,
-)
 
 made-snoc : (stages : List Stage) (stage : Stage) → map ghosts.as_made stages ≡ stages → ghosts.as_made stage ≡ stage
     → map ghosts.as_made (stages ++ stage ∷ []) ≡ stages ++ stage ∷ []
 made-snoc stages stage made is = map-append ghosts.as_made stages (stage ∷ []) ∙ ap (λ s. s ++ ghosts.as_made stage ∷ []) made ∙ ap (λ s. stages ++ s ∷ []) is
-
-none_learns-snoc : (stages : List Stage) (stage : Stage) → NoneLearns stages → NeverLearns stage → NoneLearns (stages ++ stage ∷ [])
-none_learns-snoc [] stage none never = (never, tt)
-none_learns-snoc (s ∷ stages) stage (first, none) never = (first, none_learns-snoc stages stage none never)
 
 -- a node whose rows fit tables has a column
 pub some_types : (t : TreeForm) (tables : List (List (List Value))) → FitsTables t tables → 0 < length (types_of t)
@@ -71,52 +65,98 @@ some_types (tree.values id types rows) tables fits = fits.0
 some_types (tree.remote id input) tables fits = some_types input tables fits
 some_types (tree.filter id predicate input) tables fits = some_types input tables fits.1
 some_types (tree.project id columns input) tables fits = omega (arith, length-map columns (kind_of (types_of input)), fits.0)
-some_types (tree.join id kind on left right) tables fits = absurd fits
-some_types (tree.aggregate id keys calls input) tables fits = absurd fits
+some_types (tree.join id kind on left right) tables fits = omega (arith, some_types left tables fits.0, length-append (types_of left) (types_of right))
+some_types (tree.aggregate id keys calls input) tables fits =
+    omega (arith, fits.0, length-append (map (type_at (types_of input)) keys) (map (call_kind (types_of input)) calls), length-map keys (type_at (types_of input)), length-map calls (call_kind (types_of input)))
 some_types (tree.sort id keys input) tables fits = some_types input tables fits
 some_types (tree.topn id count keys input) tables fits = some_types input tables fits
 some_types (tree.limit id count input) tables fits = some_types input tables fits
 some_types (tree.union id left right) tables fits = some_types left tables fits.1
 
--- the pipeline of a node, behind that of its input
-pub behind : (input node : NodeForm) (below whole : Pipeline) (at : NodeStage) → source_types (run_of node) ≡ source_types (run_of input)
-    → pipeline_of (run_of node) ≡ pipeline_of (run_of input) ++ at ∷ [] → whole.types ≡ types_of (tree_of_run (run_of node))
-    → IsMadeFor input below → Extends below at whole → IsMadeFor node whole
-behind input node below whole at source pipeline types made extends = record {
-  means = subst (λ ss. AllMean ghosts ss (source_types (run_of node)) (pipeline_of (run_of node)) whole.types) (sym extends.stages)
-      (subst (λ p. AllMean ghosts (below.stages.items ++ extends.stage ∷ []) (source_types (run_of node)) p whole.types) (sym pipeline)
-      (subst (λ ts. AllMean ghosts (below.stages.items ++ extends.stage ∷ []) ts (pipeline_of (run_of input) ++ at ∷ []) whole.types) (sym source)
-      (all_mean-snoc below.stages.items (source_types (run_of input)) below.types whole.types (pipeline_of (run_of input)) (at ∷ []) extends.stage made.means extends.means)));
-  types = types;
-  made = subst (λ ss. map ghosts.as_made ss ≡ ss) (sym extends.stages) (made-snoc below.stages.items extends.stage made.made extends.made);
-  fixed = subst NoneLearns (sym extends.stages) (none_learns-snoc below.stages.items extends.stage made.fixed extends.fixed);
-}
+-- a stage behind those of the input
+module _ (names : Names) where
+  pub behind : (node input : NodeForm) (bells : List ℕ) (at : NodeStage) (below whole : Pipeline)
+      → ((all : List Stage) (given : List SqlType) → EndsIn (Assembled names (run_of input) bells) (λ last between. IsStageOf at between given (ghosts.as_made last)) all → Assembled names (run_of node) bells all given)
+      → whole.types ≡ types_of (tree_of_run (run_of node)) → IsMadeFor names bells input below → Extends below (IsStageOf at below.types whole.types) whole → IsMadeFor names bells node whole
+  behind node input bells at below whole into types made extends = record {
+    stages = into whole.stages.items whole.types (record {
+      before = below.stages.items;
+      last = extends.stage;
+      between = below.types;
+      are = extends.stages;
+      input = made.stages;
+      is = subst (IsStageOf at below.types whole.types) (sym extends.made) extends.is;
+    });
+    types = types;
+    made = subst (λ ss. map ghosts.as_made ss ≡ ss) (sym extends.stages) (made-snoc below.stages.items extends.stage made.made extends.made);
+  }
 
-pub filter_made : (id : ℕ) (predicate : Form) (input : NodeForm) (below whole : Pipeline)
-    → IsMadeFor input below → Extends below (at_node id (stage.filter below.types predicate)) whole → whole.types ≡ below.types
-    → IsMadeFor (filter id predicate input) whole
-filter_made id predicate input below whole made extends same =
-    let at = at_node id (stage.filter (types_of (tree_of_run (run_of input))) predicate) in
-    behind input (filter id predicate input) below whole at refl refl (same ∙ made.types) made
-    (subst (λ types. Extends below (at_node id (stage.filter types predicate)) whole) made.types extends)
+  pub filter_made : (bells : List ℕ) (id : ℕ) (predicate : Form) (input : NodeForm) (below whole : Pipeline)
+      → IsMadeFor names bells input below → Extends below (IsStageOf (at_node id (stage.filter below.types predicate)) below.types below.types) whole → whole.types ≡ below.types
+      → IsMadeFor names bells (filter id predicate input) whole
+  filter_made bells id predicate input below whole made extends same =
+      behind (filter id predicate input) input bells (at_node id (stage.filter (types_of (tree_of_run (run_of input))) predicate)) below whole (λ all given e. e) (same ∙ made.types) made
+      (subst (λ ts. Extends below (IsStageOf (at_node id (stage.filter ts predicate)) below.types whole.types) whole) made.types
+      (subst (λ ts. Extends below (IsStageOf (at_node id (stage.filter below.types predicate)) below.types ts) whole) (sym same) extends))
 
-pub project_made : (id : ℕ) (columns : List Form) (input : NodeForm) (below whole : Pipeline)
-    → IsMadeFor input below → Extends below (at_node id (stage.project below.types columns)) whole → whole.types ≡ map (kind_of below.types) columns
-    → IsMadeFor (project id columns input) whole
-project_made id columns input below whole made extends same =
-    let at = at_node id (stage.project (types_of (tree_of_run (run_of input))) columns) in
-    behind input (project id columns input) below whole at refl refl (same ∙ ap (λ types. map (kind_of types) columns) made.types) made
-    (subst (λ types. Extends below (at_node id (stage.project types columns)) whole) made.types extends)
+  pub project_made : (bells : List ℕ) (id : ℕ) (columns : List Form) (input : NodeForm) (below whole : Pipeline)
+      → IsMadeFor names bells input below → Extends below (IsStageOf (at_node id (stage.project below.types columns)) below.types whole.types) whole → whole.types ≡ map (kind_of below.types) columns
+      → IsMadeFor names bells (project id columns input) whole
+  project_made bells id columns input below whole made extends same =
+      behind (project id columns input) input bells (at_node id (stage.project (types_of (tree_of_run (run_of input))) columns)) below whole (λ all given e. e)
+      (same ∙ ap (λ types. map (kind_of types) columns) made.types) made
+      (subst (λ ts. Extends below (IsStageOf (at_node id (stage.project ts columns)) below.types whole.types) whole) made.types extends)
 
--- no operator in the enum of stages has a note
-none_learned : (s m : Stage) → ghosts.may_learn s m → ⊥
-none_learned (Filter op) m learned = learned.2
-none_learned (Limit op types) m learned = learned.2
-none_learned (Sort op) m learned = learned.2
-none_learned (TopN op) m learned = learned.2
+  pub single_made : (bells : List ℕ) (id : ℕ) (step : NodeStep) (keys : List ℕ) (calls : List Call) (input : NodeForm) (below whole : Pipeline)
+      → IsMadeFor names bells input below → Extends below (IsStageOf (at_node id (stage.grouping below.types keys calls)) below.types whole.types) whole
+      → whole.types ≡ map (type_at below.types) keys ++ map (call_kind below.types) calls → IsMadeFor names bells (aggregate id step keys calls input) whole
+  single_made bells id step keys calls input below whole made extends same =
+      behind (aggregate id step keys calls input) input bells (at_node id (stage.grouping (types_of (tree_of_run (run_of input))) keys calls)) below whole (λ all given e. e)
+      (same ∙ ap (λ types. map (type_at types) keys ++ map (call_kind types) calls) made.types) made
+      (subst (λ ts. Extends below (IsStageOf (at_node id (stage.grouping ts keys calls)) below.types whole.types) whole) made.types extends)
 
-pub never_learns : (stage : Stage) → NeverLearns stage
-never_learns stage = λ later. none_learned stage later
+  pub probe_made : (bell : ℕ) (bells : List ℕ) (id : ℕ) (kind : JoinKind) (on : List Pair) (filters : List DynamicFilter) (left right : NodeForm) (below whole : Pipeline)
+      → IsMadeFor names bells left below → Extends below (ProbesFor names bell kind (map pair_view on)) whole → whole.types ≡ below.types ++ types_of (tree_of_run (run_of right))
+      → (along : List ℕ) → along ≡ bell ∷ bells → IsMadeFor names along (join id kind on filters left right) whole
+  probe_made bell bells id kind on filters left right below whole made extends same along are = record {
+    stages = subst (λ bs. Assembled names (run_of (join id kind on filters left right)) bs whole.stages.items whole.types) (sym are) (record {
+      before = below.stages.items;
+      last = extends.stage;
+      between = below.types;
+      are = extends.stages;
+      input = made.stages;
+      is = record { probes = subst (ProbesFor names bell kind (map pair_view on)) (sym extends.made) extends.is; types = sym same };
+    });
+    types = same ∙ ap (λ ts. ts ++ types_of (tree_of_run (run_of right))) made.types;
+    made = subst (λ ss. map ghosts.as_made ss ≡ ss) (sym extends.stages) (made-snoc below.stages.items extends.stage made.made extends.made);
+  }
+
+-- an operator that looks into no cell never learns
+none_learned : (s m : Stage) → cell_of s ≡ [] → ghosts.may_learn s m → ⊥
+none_learned (Filter op) m apart learned = learned.2
+none_learned (Limit op types) m apart learned = learned.2
+none_learned (Sort op) m apart learned = learned.2
+none_learned (TopN op) m apart learned = learned.2
+none_learned (Single op) m apart learned = learned.2
+none_learned (Probe op types) m apart learned = absurd cc
+
+pub never_learns : (stage : Stage) → cell_of stage ≡ [] → NeverLearns stage
+never_learns stage apart = λ later. none_learned stage later apart
+
+-- a stage that means a node's, and looks into no cell
+pub stage_is : (at : NodeStage) (between given : List SqlType) (stage : Stage) → cell_of stage ≡ [] → Means ghosts stage between (at ∷ []) given → IsStageOf at between given stage
+stage_is at between given stage apart means = record { means = means; fixed = never_learns stage apart; apart = apart }
+
+filter_untaught : (s : Stage) (op : FilterState) → ghosts.may_learn s (Filter op) → ⊥
+filter_untaught (Filter f) op learned = learned.2
+filter_untaught (Limit l types) op learned = learned.2
+filter_untaught (Sort k) op learned = learned.2
+filter_untaught (TopN k) op learned = learned.2
+filter_untaught (Single k) op learned = learned.2
+filter_untaught (Probe p types) op learned = absurd (no_probe p types op learned)
+  where
+    no_probe : (p : ProbeState) (types : List SqlType) (op : FilterState) → ghosts.may_learn (Probe p types) (Filter op) → ⊥
+    no_probe p types op (to, same, learned) = absurd cc
 
 -- one in the enum acts as the operator in it
 filter_acts : (op : FilterState) → ActsAs ghosts (Filter op) filter_ghosts op
@@ -124,7 +164,7 @@ filter_acts op = record {
   gives = λ X Y gives. gives;
   fails = λ X node kind fails. fails;
   calm = λ X node kind fails. fails;
-  learned = λ s learned. absurd (none_learned s (Filter op) learned);
+  learned = λ s learned. absurd (filter_untaught s op learned);
 }
 
 pub filter_means : (op : FilterState) (taken given : List SqlType) (pipeline : List NodeStage) → Means filter_ghosts op taken pipeline given
@@ -147,12 +187,42 @@ pub limit_means : (op : LimitState) (own : List SqlType) (node count : ℕ) (typ
 limit_means op own node count types gives calm =
     rows_mean ghosts (Limit op own) node types (stage.limit count) (limit_keeps types count) (record { makes = λ mode X Y g. (gives X Y).0 g; calm = calm })
 
+single_untaught : (s : Stage) (op : SingleState) → ghosts.may_learn s (Single op) → ⊥
+single_untaught (Filter f) op learned = learned.2
+single_untaught (Limit l types) op learned = learned.2
+single_untaught (Sort k) op learned = learned.2
+single_untaught (TopN k) op learned = learned.2
+single_untaught (Single k) op learned = learned.2
+single_untaught (Probe p types) op learned = absurd (no_probe p types op learned)
+  where
+    no_probe : (p : ProbeState) (types : List SqlType) (op : SingleState) → ghosts.may_learn (Probe p types) (Single op) → ⊥
+    no_probe p types op (to, same, learned) = absurd cc
+
+single_acts : (op : SingleState) → ActsAs ghosts (Single op) single_ghosts op
+single_acts op = record {
+  gives = λ X Y gives. gives;
+  fails = λ X node kind fails. fails;
+  calm = λ X node kind fails. fails;
+  learned = λ s learned. absurd (single_untaught s op learned);
+}
+
+pub single_means : (op : SingleState) (taken given : List SqlType) (pipeline : List NodeStage) → Means single_ghosts op taken pipeline given
+    → Means ghosts (Single op) taken pipeline given
+single_means op taken given pipeline means = acts_mean ghosts (Single op) single_ghosts op (single_acts op) taken given pipeline means
+
 -- what tables that a node fits say of its input
 pub filter_below : (id : ℕ) (predicate : Form) (input : NodeForm) → CanFit (filter id predicate input) → 0 < length (types_of (tree_of_run (run_of input)))
 filter_below id predicate input can = some_types (tree_of_run (run_of input)) can.tables can.fits.1
 
 pub project_some : (id : ℕ) (columns : List Form) (input : NodeForm) → CanFit (project id columns input) → 0 < length columns
 project_some id columns input can = can.fits.0
+
+pub single_some : (id : ℕ) (step : NodeStep) (keys : List ℕ) (calls : List Call) (input : NodeForm) → CanFit (aggregate id step keys calls input) → 0 < length keys + length calls
+single_some id step keys calls input can = can.fits.0
+
+pub single_allowed : (id : ℕ) (step : NodeStep) (keys : List ℕ) (calls : List Call) (input : NodeForm) → CanFit (aggregate id step keys calls input)
+    → IsTrue (are_allowed (types_of (tree_of_run (run_of input))) calls)
+single_allowed id step keys calls input can = can.fits.1
 
 -- the node's form
 pub view_filter : (id : ℕ) (predicate : Expr) (input : Box Node Global) → node_view (declared.Filter id predicate input) ≡ filter id (form_view predicate) (node_view input.value)
@@ -170,15 +240,25 @@ view_topn id step count keys input = ap node_view (sym (declared.rolls-TopN id s
 pub view_limit : (id : ℕ) (step : NodeStep) (count : ℕ) (input : Box Node Global) → node_view (declared.Limit id step count input) ≡ limit id step count (node_view input.value)
 view_limit id step count input = ap node_view (sym (declared.rolls-Limit id step count input)) ∙ fold-roll-Node NodeForm node_step _
 
+pub view_aggregate : (id : ℕ) (step : NodeStep) (keys : List ℕ) (calls : List Call) (input : Box Node Global) → node_view (declared.Aggregate id step keys calls input) ≡ aggregate id step keys calls (node_view input.value)
+view_aggregate id step keys calls input = ap node_view (sym (declared.rolls-Aggregate id step keys calls input)) ∙ fold-roll-Node NodeForm node_step _
+
+pub view_join : (id : ℕ) (kind : JoinKind) (on : List Pair) (left right : Box Node Global) (filters : List DynamicFilter)
+    → node_view (declared.Join id kind on left right filters) ≡ join id kind on filters (node_view left.value) (node_view right.value)
+view_join id kind on left right filters = ap node_view (sym (declared.rolls-Join id kind on left right filters)) ∙ fold-roll-Node NodeForm node_step _
+
 -- the answer of a node that keeps the types of its input's rows, and never fails
-pub answer_behind : {E : Type 0} (r : Result Pipeline E) (node full input : NodeForm) (below : Pipeline) (id : ℕ) (made : PlanStage) → node ≡ full
-    → source_types (run_of full) ≡ source_types (run_of input) → pipeline_of (run_of full) ≡ pipeline_of (run_of input) ++ at_node id made ∷ []
-    → types_of (tree_of_run (run_of full)) ≡ types_of (tree_of_run (run_of input)) → IsMadeFor input below
-    → IfOk r (λ (whole : Pipeline). (n : ℕ) → Extends below (at_node n made) whole) → IfOk r (λ (whole : Pipeline). whole.types ≡ below.types) → IfOk r (IsMadeFor node)
-answer_behind (Ok whole) node full input below id made is source pipeline kept own extends types =
-    subst (λ n. IsMadeFor n whole) (sym is)
-    (behind input full below whole (at_node id made) source pipeline (types ∙ own.types ∙ sym kept) own (extends id))
-answer_behind (Err e) node full input below id made is source pipeline kept own extends types = tt
+pub answer_behind : {E : Type 0} (r : Result Pipeline E) (names : Names) (node full input : NodeForm) (bells along : List ℕ) (below : Pipeline) (id : ℕ) (made : PlanStage) → node ≡ full → along ≡ bells
+    → ((all : List Stage) (given : List SqlType) → EndsIn (Assembled names (run_of input) bells) (λ last between. IsStageOf (at_node id made) between given (ghosts.as_made last)) all
+    → Assembled names (run_of full) bells all given)
+    → types_of (tree_of_run (run_of full)) ≡ types_of (tree_of_run (run_of input)) → IsMadeFor names bells input below
+    → IfOk r (λ (whole : Pipeline). (n : ℕ) → Extends below (IsStageOf (at_node n made) below.types below.types) whole) → IfOk r (λ (whole : Pipeline). whole.types ≡ below.types)
+    → IfOk r (IsMadeFor names along node)
+answer_behind (Ok whole) names node full input bells along below id made is same into kept own extends types =
+    subst (λ n. IsMadeFor names along n whole) (sym is) (subst (λ bs. IsMadeFor names bs full whole) (sym same)
+    (behind names full input bells (at_node id made) below whole into (types ∙ own.types ∙ sym kept) own
+    (subst (λ ts. Extends below (IsStageOf (at_node id made) below.types ts) whole) (sym types) (extends id))))
+answer_behind (Err e) names node full input bells along below id made is same into kept own extends types = tt
 
 -- what tables that a sort or a top n fits say of its input
 pub sort_below : (id : ℕ) (keys : List KeySpec) (input : NodeForm) → CanFit (sort id keys input) → 0 < length (types_of (tree_of_run (run_of input)))
@@ -188,20 +268,62 @@ pub topn_below : (id : ℕ) (step : NodeStep) (count : ℕ) (keys : List KeySpec
     → 0 < length (types_of (tree_of_run (run_of input)))
 topn_below id step count keys input can = some_types (tree_of_run (run_of input)) can.tables can.fits
 
--- the answers of a filter and of a project
-pub filter_answer : {E : Type 0} (r : Result Pipeline E) (node : NodeForm) (id : ℕ) (predicate copy : Form) (input : NodeForm) (below : Pipeline)
-    → node ≡ filter id predicate input → copy ≡ predicate → IsMadeFor input below
-    → IfOk r (Extends below (at_node id (stage.filter below.types copy))) → IfOk r (λ (whole : Pipeline). whole.types ≡ below.types) → IfOk r (IsMadeFor node)
-filter_answer (Ok whole) node id predicate copy input below is same made extends types =
-    subst (λ n. IsMadeFor n whole) (sym is)
-    (filter_made id predicate input below whole made (subst (λ f. Extends below (at_node id (stage.filter below.types f)) whole) same extends) types)
-filter_answer (Err e) node id predicate copy input below is same made extends types = tt
+-- the answers of the others
+pub filter_answer : {E : Type 0} (r : Result Pipeline E) (names : Names) (node : NodeForm) (bells along : List ℕ) (id : ℕ) (predicate copy : Form) (input : NodeForm) (below : Pipeline)
+    → node ≡ filter id predicate input → along ≡ bells → copy ≡ predicate → IsMadeFor names bells input below
+    → IfOk r (Extends below (IsStageOf (at_node id (stage.filter below.types copy)) below.types below.types)) → IfOk r (λ (whole : Pipeline). whole.types ≡ below.types)
+    → IfOk r (IsMadeFor names along node)
+filter_answer (Ok whole) names node bells along id predicate copy input below is there same made extends types =
+    subst (λ n. IsMadeFor names along n whole) (sym is) (subst (λ bs. IsMadeFor names bs (filter id predicate input) whole) (sym there)
+    (filter_made names bells id predicate input below whole made (subst (λ f. Extends below (IsStageOf (at_node id (stage.filter below.types f)) below.types below.types) whole) same extends) types))
+filter_answer (Err e) names node bells along id predicate copy input below is there same made extends types = tt
 
-pub project_answer : {E : Type 0} (r : Result Pipeline E) (node : NodeForm) (id : ℕ) (columns copy : List Form) (input : NodeForm) (below : Pipeline)
-    → node ≡ project id columns input → copy ≡ columns → IsMadeFor input below
-    → IfOk r (Extends below (at_node id (stage.project below.types copy))) → IfOk r (λ (whole : Pipeline). whole.types ≡ map (kind_of below.types) copy) → IfOk r (IsMadeFor node)
-project_answer (Ok whole) node id columns copy input below is same made extends types =
-    subst (λ n. IsMadeFor n whole) (sym is)
-    (project_made id columns input below whole made (subst (λ fs. Extends below (at_node id (stage.project below.types fs)) whole) same extends)
-    (types ∙ ap (map (kind_of below.types)) same))
-project_answer (Err e) node id columns copy input below is same made extends types = tt
+pub project_answer : {E : Type 0} (r : Result Pipeline E) (names : Names) (node : NodeForm) (bells along : List ℕ) (id : ℕ) (columns copy : List Form) (input : NodeForm) (below : Pipeline)
+    → node ≡ project id columns input → along ≡ bells → copy ≡ columns → IsMadeFor names bells input below
+    → IfOk r (λ (whole : Pipeline). Extends below (IsStageOf (at_node id (stage.project below.types copy)) below.types whole.types) whole)
+    → IfOk r (λ (whole : Pipeline). whole.types ≡ map (kind_of below.types) copy) → IfOk r (IsMadeFor names along node)
+project_answer (Ok whole) names node bells along id columns copy input below is there same made extends types =
+    subst (λ n. IsMadeFor names along n whole) (sym is) (subst (λ bs. IsMadeFor names bs (project id columns input) whole) (sym there)
+    (project_made names bells id columns input below whole made (subst (λ fs. Extends below (IsStageOf (at_node id (stage.project below.types fs)) below.types whole.types) whole) same extends)
+    (types ∙ ap (map (kind_of below.types)) same)))
+project_answer (Err e) names node bells along id columns copy input below is there same made extends types = tt
+
+pub single_answer : {E : Type 0} (r : Result Pipeline E) (names : Names) (node : NodeForm) (bells along : List ℕ) (id : ℕ) (step : NodeStep) (keys : List ℕ) (calls : List Call) (input : NodeForm) (below : Pipeline)
+    → node ≡ aggregate id step keys calls input → along ≡ bells → IsMadeFor names bells input below
+    → IfOk r (λ (whole : Pipeline). Extends below (IsStageOf (at_node id (stage.grouping below.types keys calls)) below.types whole.types) whole)
+    → IfOk r (λ (whole : Pipeline). whole.types ≡ map (type_at below.types) keys ++ map (call_kind below.types) calls) → IfOk r (IsMadeFor names along node)
+single_answer (Ok whole) names node bells along id step keys calls input below is there made extends types =
+    subst (λ n. IsMadeFor names along n whole) (sym is) (subst (λ bs. IsMadeFor names bs (aggregate id step keys calls input) whole) (sym there)
+    (single_made names bells id step keys calls input below whole made extends types))
+single_answer (Err e) names node bells along id step keys calls input below is there made extends types = tt
+
+pub probe_answer : {E : Type 0} (r : Result Pipeline E) (names : Names) (node : NodeForm) (bell : ℕ) (bells along : List ℕ) (id : ℕ) (kind : JoinKind) (on : List Pair) (filters : List DynamicFilter)
+    (left right : NodeForm) (below : Pipeline)
+    → node ≡ join id kind on filters left right → along ≡ bell ∷ bells → IsMadeFor names bells left below
+    → IfOk r (λ (whole : Pipeline). Extends below (ProbesFor names bell kind (map pair_view on)) whole)
+    → IfOk r (λ (whole : Pipeline). whole.types ≡ below.types ++ types_of (tree_of_run (run_of right))) → IfOk r (IsMadeFor names along node)
+probe_answer (Ok whole) names node bell bells along id kind on filters left right below is there made extends types =
+    subst (λ n. IsMadeFor names along n whole) (sym is) (probe_made names bell bells id kind on filters left right below whole made extends types along there)
+probe_answer (Err e) names node bell bells along id kind on filters left right below is there made extends types = tt
+
+-- what holds for all names, of an answer
+pub for_all : {E : Type 0} (r : Result Pipeline E) (A : Names → Type 0) (P : Names → Pipeline → Type 0) → ((names : Names) → A names → IfOk r (P names))
+    → IfOk r (λ (p : Pipeline). (names : Names) → A names → P names p)
+for_all (Ok p) A P h = λ names a. h names a
+for_all (Err e) A P h = tt
+
+pub at_names : {E : Type 0} (r : Result Pipeline E) (A : Names → Type 0) (P : Names → Pipeline → Type 0) → IfOk r (λ (p : Pipeline). (names : Names) → A names → P names p)
+    → (names : Names) → A names → IfOk r (P names)
+at_names (Ok p) A P h names a = h names a
+at_names (Err e) A P h names a = tt
+
+-- one more stage that stands as it was made, behind others that do
+pub fresh_behind : {E : Type 0} (r : Result Pipeline E) (below : Pipeline) (IsLast : Pipeline → Stage → Type 0) → map ghosts.as_made below.stages.items ≡ below.stages.items
+    → IfOk r (λ (p : Pipeline). Extends below (IsLast p) p) → IfOk r (λ (p : Pipeline). map ghosts.as_made p.stages.items ≡ p.stages.items)
+fresh_behind (Ok p) below IsLast fresh extends =
+    subst (λ (ss : List Stage). map ghosts.as_made ss ≡ ss) (sym extends.stages) (made-snoc below.stages.items extends.stage fresh extends.made)
+fresh_behind (Err e) below IsLast fresh extends = tt
+
+pub at_first : {E : Type 0} (r : Result Pipeline E) (P : ℕ → Pipeline → Type 0) → IfOk r (λ (p : Pipeline). (n : ℕ) → P n p) → IfOk r (P 0)
+at_first (Ok p) P h = h 0
+at_first (Err e) P h = tt

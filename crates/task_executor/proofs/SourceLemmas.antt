@@ -15,7 +15,7 @@ use Rattle.split_source.specs.Seats.{SeatState, numbers_of}
 use Rattle.split_source.specs.Splits.{rows_of, split_count, split_of}
 use Rattle.split_source.proofs.SplitLemmas.{all_splits}
 use Rattle.plan_runs.specs.Stops.{MayCome}
-use Rattle.task_executor.specs.Nets.{ReadsAlone}
+use Rattle.task_executor.specs.Reads.{ReadsAlone}
 
 -- the splits of all numbers, in any order, have the rows
 all_rows : (s : ScanState) (numbers : List ℕ) → 0 < s.size → SameWeights numbers (range_with_len 0 (split_count (length s.rows) s.size))

@@ -1,5 +1,5 @@
 -- The table that a plan scans, and the claims of its splits.
-use Rattle.std.proofs.Common.{Result, Ok, ◌≡◌, ◌-◌, ◌<◌, false, None, option_map, take, unwrap_or, ℕ, zero, suc, List, [], ◌∷◌, length, map, get_or, slice_get, slice_index_or, Some, refl, ap, sym, subst, ◌∙◌, arith}
+use Rattle.std.proofs.Common.{Result, Ok, ◌≡◌, ◌-◌, ◌<◌, option_map, take, unwrap_or, ℕ, zero, suc, List, [], ◌∷◌, length, map, get_or, slice_get, slice_index_or, Some, refl, ap, sym, subst, ◌∙◌, arith}
 use Rattle.std.proofs.lemmas.List.{length-map}
 use Rattle.std.proofs.Math.Seq.{take-nil}
 use Rattle.sql_values.specs.Cells.{cut}
@@ -21,20 +21,19 @@ use Rattle.plan_docs.specs.Nodes.{NodeForm, scan, values, remote, filter, projec
 use Rattle.plan_docs.specs.Plans.{FragmentForm, PlanForm}
 use Rattle.plan_reader.specs.Trees.{tree_of}
 use Rattle.tree_evaluator.specs.Fits.{FitsTables}
-use Rattle.stage_meanings.specs.Meanings.{AllMean}
-use Rattle.driver_loop.specs.Drivers.{DriverState}
-use Rattle.driver_loop.specs.contracts.stage.StageOperator.TheImpl.{ghosts}
-use Rattle.driver_loop.specs.declared.source.Source.{Source}
-use Rattle.driver_loop.specs.declared.stage.Stage.{Stage}
-use Rattle.driver_loop.specs.declared.target.Target.{Target}
 use Rattle.plan_pipelines.specs.Fragments.{IsOneFragment, run_of}
-use Rattle.plan_pipelines.specs.Built.{IsBuilt, PipelineSource, source_of}
+use Rattle.plan_pipelines.specs.Built.{AreRead, CanBeRead, IsBuilt, PipelineSource, source_of}
+use Rattle.split_source.specs.Seats.{ClaimsState}
+use Rattle.task_executor.specs.Sides.{sides_in}
+use Rattle.task_executor.specs.Wirings.{AddedClaims, AreClaimsFor, IsClaimFor}
+use Rattle.task_executor.proofs.ZipLemmas.{zip_append}
+use Rattle.std.specs.Prelude.{◌++◌, Err, OnOk}
+use Rattle.std.proofs.Common.{append_assoc}
 use Rattle.plan_runs.specs.RunPlans.{tree_of_run}
-use Rattle.plan_pipelines.specs.Sources.{IsPipeline, pipeline_of, source_rows, source_types}
+use Rattle.plan_nets.specs.Trees.{IsInOneTask, rows_of_source}
 use Rattle.plan_pipelines.proofs.FragmentLemmas.{fragment_runs}
-use Rattle.task_executor.specs.declared.pipeline.Pipeline.{Pipeline}
-use Rattle.task_executor.specs.Nets.{IsNetOf, Reads, ReadsAlone, RowsFit, rows_below}
-use Rattle.task_executor.specs.Pipelines.{CanFit, IsMadeFor, NoneLearns}
+use Rattle.task_executor.specs.Reads.{ReadsAlone, RowsFit, rows_below}
+use Rattle.task_executor.specs.Pipelines.{CanFit}
 use Rattle.task_executor.specs.Wirings.{root_in, rows_at}
 
 column_fits : (own : List SqlType) (column : ℕ) → ColumnFits own column (slice_index_or own column Boolean)
@@ -77,14 +76,14 @@ scan_reads tables n t columns s there is rows same size alone count =
     }
 
 -- the rows of a pipeline's source are those of what lies below its nodes
-pub source_is : (tables : List (List (List Value))) (root : NodeForm) → IsBuilt root → source_rows tables (run_of root) ≡ rows_below tables (source_of root)
+pub source_is : (tables : List (List (List Value))) (root : NodeForm) → IsBuilt root → rows_of_source tables (run_of root) ≡ rows_below tables (source_of root)
 source_is tables (scan id table columns types) built = refl
 source_is tables (values id types rows) built = refl
 source_is tables (remote id fragment) built = absurd built
 source_is tables (filter id predicate input) built = source_is tables input built
 source_is tables (project id columns input) built = source_is tables input built
-source_is tables (join id kind on filters left right) built = absurd built
-source_is tables (aggregate id step keys calls input) built = absurd built
+source_is tables (join id kind on filters left right) built = source_is tables left built.1
+source_is tables (aggregate id step keys calls input) built = source_is tables input built.1
 source_is tables (aggregate_final id input) built = absurd built
 source_is tables (sort id keys input) built = source_is tables input built
 source_is tables (top_n id step count keys input) built = source_is tables input built
@@ -93,21 +92,21 @@ source_is tables (limit id step count input) built = source_is tables input buil
 source_is tables (limit_final id input) built = absurd built
 source_is tables (union id left right) built = absurd built
 
-is_pipeline : (root : NodeForm) → IsBuilt root → IsPipeline (run_of root)
-is_pipeline (scan id table columns types) built = tt
-is_pipeline (values id types rows) built = tt
-is_pipeline (remote id fragment) built = absurd built
-is_pipeline (filter id predicate input) built = is_pipeline input built
-is_pipeline (project id columns input) built = is_pipeline input built
-is_pipeline (join id kind on filters left right) built = absurd built
-is_pipeline (aggregate id step keys calls input) built = absurd built
-is_pipeline (aggregate_final id input) built = absurd built
-is_pipeline (sort id keys input) built = is_pipeline input built
-is_pipeline (top_n id step count keys input) built = is_pipeline input built
-is_pipeline (top_n_final id input) built = absurd built
-is_pipeline (limit id step count input) built = is_pipeline input built
-is_pipeline (limit_final id input) built = absurd built
-is_pipeline (union id left right) built = absurd built
+pub in_one_task : (root : NodeForm) → IsBuilt root → IsInOneTask (run_of root)
+in_one_task (scan id table columns types) built = tt
+in_one_task (values id types rows) built = tt
+in_one_task (remote id fragment) built = absurd built
+in_one_task (filter id predicate input) built = in_one_task input built
+in_one_task (project id columns input) built = in_one_task input built
+in_one_task (join id kind on filters left right) built = (in_one_task left built.1, in_one_task right built.2)
+in_one_task (aggregate id step keys calls input) built = in_one_task input built.1
+in_one_task (aggregate_final id input) built = absurd built
+in_one_task (sort id keys input) built = in_one_task input built
+in_one_task (top_n id step count keys input) built = in_one_task input built
+in_one_task (top_n_final id input) built = absurd built
+in_one_task (limit id step count input) built = in_one_task input built
+in_one_task (limit_final id input) built = absurd built
+in_one_task (union id left right) built = absurd built
 
 -- rows of the plan that lie below a node fit where the node does
 pub rows_fit : (tables : List (List (List Value))) (root : NodeForm) → IsBuilt root → FitsTables (tree_of_run (run_of root)) tables → RowsFit (source_of root)
@@ -116,8 +115,8 @@ rows_fit tables (values id types rows) built fits = fits.1
 rows_fit tables (remote id fragment) built fits = absurd built
 rows_fit tables (filter id predicate input) built fits = rows_fit tables input built fits.1
 rows_fit tables (project id columns input) built fits = rows_fit tables input built fits.2
-rows_fit tables (join id kind on filters left right) built fits = absurd built
-rows_fit tables (aggregate id step keys calls input) built fits = absurd built
+rows_fit tables (join id kind on filters left right) built fits = rows_fit tables left built.1 fits.0
+rows_fit tables (aggregate id step keys calls input) built fits = rows_fit tables input built.1 fits.2
 rows_fit tables (aggregate_final id input) built fits = absurd built
 rows_fit tables (sort id keys input) built fits = rows_fit tables input built fits
 rows_fit tables (top_n id step count keys input) built fits = rows_fit tables input built fits
@@ -150,32 +149,35 @@ gave_none s none =
     let claims : claimed s ≡ [] = ap (λ ns. map (cut s.columns) (rows_of_splits s.size s.rows ns)) none in
     ap (λ (rows : List (List Value)). take (length rows - s.left) rows) claims ∙ take-nil (length {A = List Value} [] - s.left)
 
-pub ok_same : {A E : Type 0} (a b : A) → ◌≡◌ {A = Result A E} (Ok a) (Ok b) → a ≡ b
-ok_same a b same = cc
+-- where the sources of a node can be read, so can that of its pipeline
+pub first_read : (tables : List Table) (node : NodeForm) → IsBuilt node → AreRead tables node → CanBeRead tables (source_of node)
+first_read tables (scan id table columns types) built read = read
+first_read tables (values id types rows) built read = read
+first_read tables (remote id fragment) built read = absurd built
+first_read tables (filter id predicate input) built read = first_read tables input built read
+first_read tables (project id columns input) built read = first_read tables input built read
+first_read tables (join id kind on filters left right) built read = first_read tables left built.1 read.0
+first_read tables (aggregate id step keys calls input) built read = first_read tables input built.1 read
+first_read tables (aggregate_final id input) built read = absurd built
+first_read tables (sort id keys input) built read = first_read tables input built read
+first_read tables (top_n id step count keys input) built read = first_read tables input built read
+first_read tables (top_n_final id input) built read = absurd built
+first_read tables (limit id step count input) built read = first_read tables input built read
+first_read tables (limit_final id input) built read = absurd built
+first_read tables (union id left right) built read = absurd built
 
--- the driver of a plan, over its source and its stages
-pub net_is : (plan : PlanForm) (tables : List Table) (root found : NodeForm) (source : Source) (below : Pipeline) (target : Target) (d : DriverState)
-    → IsOneFragment plan root → IsBuilt root → found ≡ root_in plan → FitsTables (tree_of plan) (map rows_of tables)
-    → Reads source (rows_below (map rows_of tables) (source_of found)) → IsMadeFor found below
-    → d ≡ record { number = 0; source = source; stages = below.stages.items; target = target; work = 0; is_finished = false; fault = None }
-    → IsNetOf plan (map rows_of tables) d
-net_is plan tables root found s below target d one built is fits reads made same =
-    let here : found ≡ root = is ∙ root_is plan root one in
-    let own : IsMadeFor root below = subst (λ n. IsMadeFor n below) here made in
-    let rows = subst (λ n. Reads s (rows_below (map rows_of tables) (source_of n))) here reads in
-    let stages : d.stages ≡ below.stages.items = ap (λ (x : DriverState). x.stages) same in
-    let from : d.source ≡ s = ap (λ (x : DriverState). x.source) same in
-    record {
-      root = root;
-      one = one;
-      is_pipeline = is_pipeline root built;
-      fits = fits;
-      reads = subst (λ (x : Source). Reads x (source_rows (map rows_of tables) (run_of root))) (sym from)
-          (subst (Reads s) (sym (source_is (map rows_of tables) root built)) rows);
-      given = below.types;
-      means = subst (λ ss. AllMean ghosts ss (source_types (run_of root)) (pipeline_of (run_of root)) below.types) (sym stages) own.means;
-      made = subst (λ (ss : List Stage). map ghosts.as_made ss ≡ ss) (sym stages) own.made;
-      fixed = subst NoneLearns (sym stages) own.fixed;
-      going = ap (λ (x : DriverState). x.is_finished) same;
-      unfailed = ap (λ (x : DriverState). x.fault) same;
-    }
+pub source_read : (tables : List Table) (node : NodeForm) (source : PipelineSource) → source ≡ source_of node → IsBuilt node → AreRead tables node → CanBeRead tables source
+source_read tables node source same built read = subst (CanBeRead tables) (sym same) (first_read tables node built read)
+
+-- claims of the right sides of a join, behind one another
+pub join_claims : {E : Type 0} (r : Result (Unit {0}) E) (tables : List Table) (size : ℕ) (node left right : NodeForm) (old middle pushed new : List ClaimsState) (own : ClaimsState)
+    → sides_in node ≡ sides_in left ++ right ∷ sides_in right → AddedClaims tables size (sides_in left) old middle → pushed ≡ middle ++ own ∷ [] → IsClaimFor tables size right own
+    → OnOk r (AddedClaims tables size (sides_in right) pushed new) → OnOk r (AddedClaims tables size (sides_in node) old new)
+join_claims (Ok done) tables size node left right old middle pushed new own is first push claim last = record {
+  added = first.added ++ own ∷ last.added;
+  are = last.are ∙ ap (λ (cs : List ClaimsState). cs ++ last.added) (push ∙ ap (λ (cs : List ClaimsState). cs ++ own ∷ []) first.are)
+      ∙ append_assoc (old ++ first.added) (own ∷ []) last.added ∙ append_assoc old first.added (own ∷ last.added);
+  claims = subst (λ (ns : List NodeForm). AreClaimsFor tables size ns (first.added ++ own ∷ last.added)) (sym is)
+      (zip_append (IsClaimFor tables size) (sides_in left) (right ∷ sides_in right) first.added (own ∷ last.added) first.claims (claim, last.claims));
+}
+join_claims (Err e) tables size node left right old middle pushed new own is first push claim last = tt

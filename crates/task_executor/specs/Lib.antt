@@ -1,4 +1,8 @@
+pub mod Cells
+pub mod Reads
 pub mod Pipelines
+pub mod Sides
 pub mod Wirings
 pub mod Turns
 pub mod Nets
+pub mod Closing

@@ -1,16 +1,22 @@
 -- The stages of a pipeline, made for the nodes of a plan.
-use Rattle.std.specs.Prelude.{◌≡◌, List, [], ◌∷◌, ◌++◌, map}
+use Rattle.std.specs.Prelude.{◌≡◌, ℕ, List, [], ◌∷◌, ◌++◌, map}
+use Rattle.sql_values.specs.declared.types.SqlType.{SqlType}
 use Rattle.sql_values.specs.declared.value.Value.{Value}
+use Rattle.sql_values.specs.declared.relational.JoinKind.{JoinKind}
+use Rattle.hash_join.specs.Probing.{ProbeState}
 use Rattle.driver_loop.specs.declared.stage.Stage.{Stage}
+use Rattle.driver_loop.specs.declared.stage.Stage.TheVariants.{Probe}
 use Rattle.driver_loop.specs.contracts.stage.StageOperator.TheImpl.{ghosts}
 use Rattle.plan_docs.specs.Nodes.{NodeForm}
 use Rattle.plan_trees.specs.TreeTypes.{types_of}
-use Rattle.plan_runs.specs.RunPlans.{tree_of_run}
+use Rattle.plan_runs.specs.Nets as stage
+use Rattle.plan_runs.specs.RunPlans.{RunPlan, tree_of_run, scan, values, remote, filter, project, join, aggregate, aggregate_parts, sort, topn, topn_parts, limit, limit_parts, union}
 use Rattle.tree_evaluator.specs.Fits.{FitsTables}
-use Rattle.stage_meanings.specs.Meanings.{AllMean, Means}
-use Rattle.stage_meanings.specs.Pipelines.{NodeStage}
+use Rattle.stage_meanings.specs.Meanings.{Means}
+use Rattle.stage_meanings.specs.Pipelines.{NodeStage, at_node}
 use Rattle.plan_pipelines.specs.Fragments.{run_of}
-use Rattle.plan_pipelines.specs.Sources.{pipeline_of, source_types}
+use Rattle.plan_nets.specs.Operators.{EndsIn}
+use Rattle.task_executor.specs.Cells.{Names, cell_of}
 use Rattle.task_executor.specs.declared.pipeline.Pipeline.{Pipeline}
 
 -- there are tables that the node fits
@@ -22,21 +28,62 @@ pub record CanFit (node : NodeForm) : Type 0 where
 abbrev pub NeverLearns : Stage → Type 0
 NeverLearns stage = (later : Stage) → ghosts.may_learn stage later → ⊥
 
-abbrev pub NoneLearns : List Stage → Type 0
-NoneLearns [] = Unit {0}
-NoneLearns (stage ∷ stages) = NeverLearns stage × NoneLearns stages
+-- a stage, as it was made, is that of a node, and looks into no cell
+pub record IsStageOf (at : NodeStage) (between given : List SqlType) (made : Stage) : Type 0 where
+  pub means : Means ghosts made between (at ∷ []) given
+  pub fixed : NeverLearns made
+  pub apart : cell_of made ≡ []
+
+-- a stage, as it was made, looks rows up in the cell of this bell, for a join of these columns
+pub record ProbesFor (names : Names) (bell : ℕ) (kind : JoinKind) (on : List (ℕ × ℕ)) (made : Stage) : Type 0 where
+  pub op : ProbeState
+  pub types : List SqlType
+  pub is : made ≡ Probe op types
+  pub of_kind : op.kind ≡ kind
+  pub columns : op.on ≡ map (λ (pair : ℕ × ℕ). pair.0) on
+  pub rings : op.bell ≡ bell
+  pub cell : op.note.cell ≡ names bell
+
+-- a stage behind some that give rows of the types `between`
+pub record IsProbeOf (names : Names) (bell : ℕ) (kind : JoinKind) (on : List (ℕ × ℕ)) (right between given : List SqlType) (made : Stage) : Type 0 where
+  pub probes : ProbesFor names bell kind on made
+  pub types : between ++ right ≡ given
+
+-- the stages are those of the nodes from the source up to this one. The bells are those of the cells of its joins,
+-- from the node down
+abbrev pub Assembled : Names → RunPlan → List ℕ → List Stage → List SqlType → Type 0
+Assembled names (scan id table columns types) bells all given = (all ≡ []) × (types ≡ given)
+Assembled names (values id types rows) bells all given = (all ≡ []) × (types ≡ given)
+Assembled names (remote id output tasks input) bells all given = ⊥
+Assembled names (filter id predicate input) bells all given =
+    EndsIn (Assembled names input bells) (λ last between. IsStageOf (at_node id (stage.filter (types_of (tree_of_run input)) predicate)) between given (ghosts.as_made last)) all
+Assembled names (project id columns input) bells all given =
+    EndsIn (Assembled names input bells) (λ last between. IsStageOf (at_node id (stage.project (types_of (tree_of_run input)) columns)) between given (ghosts.as_made last)) all
+Assembled names (join id kind on left right) [] all given = ⊥
+Assembled names (join id kind on left right) (bell ∷ bells) all given =
+    EndsIn (Assembled names left bells) (λ last between. IsProbeOf names bell kind on (types_of (tree_of_run right)) between given (ghosts.as_made last)) all
+Assembled names (aggregate id keys calls input) bells all given =
+    EndsIn (Assembled names input bells) (λ last between. IsStageOf (at_node id (stage.grouping (types_of (tree_of_run input)) keys calls)) between given (ghosts.as_made last)) all
+Assembled names (aggregate_parts id source output tasks keys calls input) bells all given = ⊥
+Assembled names (sort id keys input) bells all given =
+    EndsIn (Assembled names input bells) (λ last between. IsStageOf (at_node id (stage.sort keys)) between given (ghosts.as_made last)) all
+Assembled names (topn id count keys input) bells all given =
+    EndsIn (Assembled names input bells) (λ last between. IsStageOf (at_node id (stage.topn count keys)) between given (ghosts.as_made last)) all
+Assembled names (topn_parts id source output tasks count keys input) bells all given = ⊥
+Assembled names (limit id count input) bells all given =
+    EndsIn (Assembled names input bells) (λ last between. IsStageOf (at_node id (stage.limit count)) between given (ghosts.as_made last)) all
+Assembled names (limit_parts id source output tasks count input) bells all given = ⊥
+Assembled names (union id left right) bells all given = ⊥
 
 -- the stages are those of the nodes from the source up to this one, as they were made
-pub record IsMadeFor (node : NodeForm) (pipeline : Pipeline) : Type 0 where
-  pub means : AllMean ghosts pipeline.stages.items (source_types (run_of node)) (pipeline_of (run_of node)) pipeline.types
+pub record IsMadeFor (names : Names) (bells : List ℕ) (node : NodeForm) (pipeline : Pipeline) : Type 0 where
+  pub stages : Assembled names (run_of node) bells pipeline.stages.items pipeline.types
   pub types : pipeline.types ≡ types_of (tree_of_run (run_of node))
   pub made : map ghosts.as_made pipeline.stages.items ≡ pipeline.stages.items
-  pub fixed : NoneLearns pipeline.stages.items
 
--- one more stage stands behind the others, as it was made, and means a stage of a node
-pub record Extends (below : Pipeline) (at : NodeStage) (pipeline : Pipeline) : Type 0 where
+-- one more stage stands behind the others, as it was made
+pub record Extends (below : Pipeline) (IsLast : Stage → Type 0) (pipeline : Pipeline) : Type 0 where
   pub stage : Stage
   pub stages : pipeline.stages.items ≡ below.stages.items ++ stage ∷ []
-  pub means : Means ghosts stage below.types (at ∷ []) pipeline.types
+  pub is : IsLast stage
   pub made : ghosts.as_made stage ≡ stage
-  pub fixed : NeverLearns stage

@@ -1,5 +1,5 @@
 -- What the drivers of a run share.
-use Rattle.std.specs.Prelude.{◌≡◌, ◌<◌, ◌≤◌, ◌^◌, ℕ, List, [], All, length, false, slice_get, unwrap_or, option_map}
+use Rattle.std.specs.Prelude.{◌≡◌, ◌<◌, ◌≤◌, ◌^◌, ℕ, List, [], ◌∷◌, ◌++◌, All, length, map, false, slice_get, unwrap_or, option_map}
 use Rattle.sql_values.specs.declared.table.Table.{Table}
 use Rattle.sql_values.specs.declared.value.Value.{Value}
 use Rattle.plan_docs.specs.Nodes.{NodeForm}
@@ -7,6 +7,10 @@ use Rattle.plan_docs.specs.Nodes as node
 use Rattle.plan_docs.specs.Plans.{PlanForm}
 use Rattle.split_source.specs.Splits.{split_count}
 use Rattle.plan_pipelines.specs.Built.{PipelineSource, from_plan, from_table, source_of}
+use Rattle.split_source.specs.Seats.{ClaimsState}
+use Rattle.hash_join.specs.Cells.{CellState}
+use Rattle.std.specs.List.{AllZip, range_with_len}
+use Rattle.task_executor.specs.Sides.{sides_in}
 use Rattle.task_executor.specs.declared.shape.Shape.{Shape}
 use Rattle.task_executor.specs.declared.wiring.Wiring.{Wiring}
 use Rattle.task_executor.specs.declared.below.Below.{Below}
@@ -36,11 +40,25 @@ abbrev pub splits_of : List Table → ℕ → PipelineSource → ℕ
 splits_of tables size (from_table place columns) = split_count (length (rows_at tables place)) size
 splits_of tables size (from_plan types rows) = 0
 
--- one seat, not handed out yet, claims the splits of the plan's source
+-- one seat, not handed out yet, claims the splits of the source of the node's pipeline
+pub record IsClaimFor (tables : List Table) (size : ℕ) (node : NodeForm) (claims : ClaimsState) : Type 0 where
+  pub fresh : claims.is_handed_out ≡ false
+  pub seats : claims.id.of.seats ≡ 1
+  pub count : claims.id.of.count ≡ splits_of tables size (source_of node)
+
+abbrev pub AreClaimsFor : List Table → ℕ → List NodeForm → List ClaimsState → Type 0
+AreClaimsFor tables size nodes claims = AllZip (IsClaimFor tables size) nodes claims
+
+-- claims of these nodes were appended
+pub record AddedClaims (tables : List Table) (size : ℕ) (nodes : List NodeForm) (old new : List ClaimsState) : Type 0 where
+  pub added : List ClaimsState
+  pub are : new ≡ old ++ added
+  pub claims : AreClaimsFor tables size nodes added
+
+-- claims for each pipeline, and a cell for the right side of each join, with its place as its bell
 pub record IsWiredFor (plan : PlanForm) (tables : List Table) (shape : Shape) (wiring : Wiring) : Type 0 where
-  pub fresh : wiring.claims.is_handed_out ≡ false
-  pub seats : wiring.claims.id.of.seats ≡ 1
-  pub count : wiring.claims.id.of.count ≡ splits_of tables shape.split (source_of (root_in plan))
+  pub claims : AreClaimsFor tables shape.split (root_in plan ∷ sides_in (root_in plan)) wiring.claims.items
+  pub cells : map (λ (cell : CellState). cell.bell) wiring.cells.items ≡ range_with_len 0 (length (sides_in (root_in plan)))
 
 -- the source that lies below a node
 abbrev pub below_view : Below → PipelineSource

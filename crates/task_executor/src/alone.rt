@@ -1,21 +1,22 @@
 //! A run on one thread.
-ghost use Rattle.std.specs.Prelude.{◌≡◌, List, [], ◌∷◌, None, true, false, IfOk, MatchResult};
+ghost use Rattle.std.specs.Prelude.{◌≡◌, ◌<◌, List, None, false, true, length, IfOk, MatchResult};
 ghost use Rattle.plan_docs.specs.Plans.{PlanForm};
 ghost use Rattle.plan_reader.specs.Trees.{tree_of};
 ghost use Rattle.plan_trees.specs.Allowed.{Allows};
 ghost use Rattle.operator_core.specs.Rows.{Row};
 ghost use Rattle.driver_loop.specs.Drivers.{DriverState};
-ghost use Rattle.task_executor.specs.Nets.{FailsFor, IsAlone, IsNetOf};
-ghost use Rattle.task_executor.specs.Turns.{IsAll, IsEnded, IsFailing, IsLater, IsSettled, IsStopped};
+ghost use Rattle.task_executor.specs.Cells.{AreNamed};
+ghost use Rattle.task_executor.specs.Nets.{FailsFor, IsNetOf};
+ghost use Rattle.task_executor.specs.Turns.{AreAlone, AreFailing, AreFinished, AreLater, AreUnfailed, IsFailing, IsLater};
 
+use crate::closing::close;
 use crate::net::Net;
 use crate::result::rows_of;
 use crate::shape::Shape;
 use crate::still_bells::StillBells;
-use driver_loop::{Driver, Pieces, RunFault, Stage, Turn};
+use driver_loop::{Driver, RunFault, Stage, Turn};
 use futures::task::{Doorbell, Solo};
 use operator_core::laws;
-use split_source::{ClaimSeat, settle_claims, stop_claims};
 use sql_values::{Memory, RowList};
 use std::alloc::Global;
 use std::marker::PhantomData;
@@ -30,7 +31,7 @@ pub struct RunDone {
 }
 
 /// Gives turns to the drivers of a net on this thread: first to those that the picks name, each modulo the
-/// number of drivers, and then to each that is not finished. A net has one driver, so each pick names it.
+/// number of drivers, and then to each that is not finished.
 pub fn run_alone<R>(
     rt: &R,
     alloc: Global,
@@ -44,44 +45,94 @@ where
         → MatchResult result (λ done. Allows (tree_of plan) tables done.rows)
         (FailsFor (tree_of plan) tables) }
 {
-    let Net { mut driver } = net;
+    laws::laws::<Stage<'_>>(PhantomData);
+    let Net { mut drivers } = net;
     let Ok(solo) = Solo::new(rt, Doorbell::spinning()) else {
         return Err(RunFault::Memory);
     };
-    match drive(rt, alloc, &solo, &mut driver, shape.quantum, picks.len()) {
-        Ok(()) => match settle(alloc, driver) {
+    match drive(rt, alloc, &solo, &mut drivers, shape.quantum, picks) {
+        Ok(()) => match finish(alloc, drivers) {
             Ok(rows) => Ok(RunDone { rows }),
             Err(Memory) => Err(RunFault::Memory),
         },
-        Err(fault) => Err(stop(alloc, driver, fault)),
+        Err(RunFault::Memory) => Err(RunFault::Memory),
+        Err(fault) => match close(alloc, drivers) {
+            Ok(_) => Err(fault),
+            Err(Memory) => Err(RunFault::Memory),
+        },
     }
 }
 
-/// Gives turns until the driver is finished: so many first, and then as many as it takes.
+/// Gives turns until each driver is finished: first to those that are picked, and then to each in turn.
 fn drive<R: Threads + Wait + Sync>(
     rt: &R,
     alloc: Global,
     solo: &Solo,
-    driver: &mut Driver<'_>,
+    drivers: &mut Vec<Driver<'_>>,
     quantum: u32,
-    picks: usize,
+    picks: &[u32],
 ) -> Result<(), RunFault>
-    requires { (driver.old.is_finished ≡ false) × (driver.old.fault ≡ None) }
-    ensures later { IsLater driver.old driver.new }
-    ensures done { MatchResult result (λ _. driver.new.is_finished ≡ true) (IsFailing driver.new) }
+    requires some { 0 < length drivers.old.items }
+    requires unfailed { AreUnfailed drivers.old.items }
+    ensures later { AreLater drivers.old.items drivers.new.items }
+    ensures done { MatchResult result (λ _. AreUnfailed drivers.new.items × AreFinished drivers.new.items)
+        (AreFailing drivers.new.items) }
 {
-    for _ in 0..picks {
-        if !driver.is_finished() {
-            give_turn(rt, alloc, solo, driver, quantum)?;
-        }
+    for pick in picks {
+        let place = *pick as usize % drivers.len();
+        serve(rt, alloc, solo, drivers, place, quantum)?;
     }
     for _ in rt.forever() {
-        if driver.is_finished() {
+        if are_finished(drivers) {
             break;
         }
-        give_turn(rt, alloc, solo, driver, quantum)?;
+        serve_all(rt, alloc, solo, drivers, quantum)?;
     }
     Ok(())
+}
+
+fn are_finished(drivers: &Vec<Driver<'_>>) -> bool
+    ensures { result ≡ true → AreFinished drivers.now.items }
+{
+    drivers.iter().all(|driver| driver.is_finished())
+}
+
+/// Gives a turn to each driver that is not finished.
+fn serve_all<R: Threads + Wait + Sync>(
+    rt: &R,
+    alloc: Global,
+    solo: &Solo,
+    drivers: &mut Vec<Driver<'_>>,
+    quantum: u32,
+) -> Result<(), RunFault>
+    requires { AreUnfailed drivers.old.items }
+    ensures later { AreLater drivers.old.items drivers.new.items }
+    ensures done { MatchResult result (λ _. AreUnfailed drivers.new.items) (AreFailing drivers.new.items) }
+{
+    for place in 0..drivers.len() {
+        serve(rt, alloc, solo, drivers, place, quantum)?;
+    }
+    Ok(())
+}
+
+/// Gives a turn to the driver at a place, unless it is finished.
+fn serve<R: Threads + Wait + Sync>(
+    rt: &R,
+    alloc: Global,
+    solo: &Solo,
+    drivers: &mut Vec<Driver<'_>>,
+    place: usize,
+    quantum: u32,
+) -> Result<(), RunFault>
+    requires there { place < length drivers.old.items }
+    requires unfailed { AreUnfailed drivers.old.items }
+    ensures later { AreLater drivers.old.items drivers.new.items }
+    ensures done { MatchResult result (λ _. AreUnfailed drivers.new.items) (AreFailing drivers.new.items) }
+{
+    if drivers[place].is_finished() {
+        return Ok(());
+    }
+    give_turn(rt, alloc, solo, &mut drivers[place], quantum)
 }
 
 /// Gives a turn. A driver that waits is asked again at its next one.
@@ -108,65 +159,18 @@ fn give_turn<R: Threads + Wait + Sync>(
     }
 }
 
-/// The rows of a driver that is finished, once its seat settled which splits it read.
-fn settle(alloc: Global, driver: Driver<'_>) -> Result<RowList, Memory>
-    requires finished { driver.is_finished ≡ true }
-    requires alone { IsAlone driver.source }
-    ensures { (plan : PlanForm) (tables : List (List Row)) (before : DriverState)
-        → IsNetOf plan tables before → IsLater before driver.entry
+/// The rows of the root's driver, where all are finished.
+fn finish(alloc: Global, drivers: Vec<Driver<'_>>) -> Result<RowList, Memory>
+    requires some { 0 < length drivers.items }
+    requires unfailed { AreUnfailed drivers.items }
+    requires finished { AreFinished drivers.items }
+    requires named { AreNamed drivers.items }
+    requires alone { AreAlone drivers.items }
+    ensures { (plan : PlanForm) (tables : List (List Row)) (before : List DriverState)
+        → IsNetOf plan tables before → AreLater before drivers.entry.items
         → IfOk result (λ rows. Allows (tree_of plan) tables rows) }
 {
-    driver.keeps();
-    let Pieces { claim, rows, .. } = driver.into_pieces();
-    settle_seat(alloc, claim)?;
-    rows_of(alloc, rows)
-}
-
-/// Settles which splits a seat drew, if there is one.
-fn settle_seat(alloc: Global, claim: Option<ClaimSeat<'_>>) -> Result<(), Memory>
-    requires all { IsAll claim }
-    requires ended { IsEnded claim }
-    ensures { IfOk result (λ _. IsSettled claim.entry) }
-{
-    if let Some(seat) = claim {
-        settle_claims(alone(alloc, seat)?);
-    }
-    Ok(())
-}
-
-/// The fault of a driver that failed, once its seat told which splits it read.
-fn stop(alloc: Global, driver: Driver<'_>, fault: RunFault) -> RunFault
-    requires failing { IsFailing driver fault }
-    requires alone { IsAlone driver.source }
-    ensures { (plan : PlanForm) (tables : List (List Row)) (before : DriverState)
-        → IsNetOf plan tables before → IsLater before driver.entry
-        → FailsFor (tree_of plan) tables result }
-{
-    laws::laws::<Stage>(PhantomData);
-    driver.keeps();
-    let Pieces { claim, .. } = driver.stop();
-    match stop_seat(alloc, claim) {
-        Ok(()) => fault,
-        Err(Memory) => RunFault::Memory,
-    }
-}
-
-/// Tells which splits a seat drew, if there is one.
-fn stop_seat(alloc: Global, claim: Option<ClaimSeat<'_>>) -> Result<(), Memory>
-    requires { IsAll claim }
-    ensures { IfOk result (λ _. IsStopped claim.entry) }
-{
-    if let Some(seat) = claim {
-        stop_claims(alone(alloc, seat)?);
-    }
-    Ok(())
-}
-
-/// One seat as a list.
-fn alone<'w>(alloc: Global, seat: ClaimSeat<'w>) -> Result<Vec<ClaimSeat<'w>>, Memory>
-    ensures { IfOk result (λ seats. seats.items ≡ seat.entry ∷ []) }
-{
-    let mut seats = Vec::with_capacity(alloc, 1)?;
-    seats.push(seat)?;
-    Ok(seats)
+    laws::laws::<Stage<'_>>(PhantomData);
+    let pages = close(alloc, drivers)?;
+    rows_of(alloc, pages)
 }

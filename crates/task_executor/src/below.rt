@@ -7,7 +7,7 @@ ghost use Rattle.task_executor.specs.Wirings.{below_view};
 use plan_reader::Node;
 use sql_values::{Places, RowList, Types};
 
-/// What lies below the nodes of a pipeline.
+/// What lies below the nodes of a pipeline, along inputs and left sides.
 #[derive(Clone, Copy, Debug)]
 pub(crate) enum Below<'p> {
     /// A table of the plan, by its place, and columns of it.
@@ -29,9 +29,9 @@ pub(crate) fn source_below(node: &Node) -> Below<'_>
         Node::Sort { input, .. } => source_below(input),
         Node::TopN { input, .. } => source_below(input),
         Node::Limit { input, .. } => source_below(input),
+        Node::Aggregate { input, .. } => source_below(input),
+        Node::Join { left, .. } => source_below(left),
         Node::Remote { .. }
-        | Node::Join { .. }
-        | Node::Aggregate { .. }
         | Node::AggregateFinal { .. }
         | Node::TopNFinal { .. }
         | Node::LimitFinal { .. }

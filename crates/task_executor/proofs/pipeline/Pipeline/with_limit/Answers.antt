@@ -1,6 +1,8 @@
-use Rattle.std.proofs.Common.{ap}
+use Rattle.std.proofs.Common.{ap, refl}
 use Rattle.driver_loop.specs.declared.stage.Stage.TheVariants.{Limit}
-use Rattle.task_executor.proofs.PipelineLemmas.{limit_means, never_learns}
+use Rattle.plan_runs.specs.Nets.{limit}
+use Rattle.stage_meanings.specs.Pipelines.{at_node}
+use Rattle.task_executor.proofs.PipelineLemmas.{limit_means, stage_is}
 use Rattle.task_executor.proofs.pipeline.Pipeline.with_limit.Goals as goal
 
 pub returns-clause-extends : goal.returns-clause-extends
@@ -10,7 +12,6 @@ returns-clause-extends c = λ id.
     record {
       stage = Limit op own;
       stages = c.in_ok-push.ensures.items;
-      means = limit_means op own id c.args.count c.args.self.types c.new.ensures.gives c.new.ensures.fails;
+      is = stage_is (at_node id (limit c.args.count)) c.args.self.types c.args.self.types (Limit op own) refl (limit_means op own id c.args.count c.args.self.types c.new.ensures.gives c.new.ensures.fails);
       made = ap (λ x. Limit x own) c.new.ensures.fresh.made;
-      fixed = never_learns (Limit op own);
     }

@@ -1,4 +1,4 @@
-use Rattle.std.proofs.Common.{◌∷◌, [], ◌∙◌, ap, map, subst, sym}
+use Rattle.std.proofs.Common.{◌∷◌, [], ◌∙◌, ap, map, refl, subst, sym}
 use Rattle.sql_exprs.specs.Forms.{form_view}
 use Rattle.sql_exprs.specs.Meaning.{kind_of}
 use Rattle.plan_runs.specs.Nets.{project}
@@ -6,7 +6,7 @@ use Rattle.row_ops.specs.contracts.filter_project.FilterProjectOperator.TheImpl.
 use Rattle.driver_loop.specs.declared.stage.Stage.TheVariants.{Filter}
 use Rattle.stage_meanings.specs.Meanings.{Means}
 use Rattle.stage_meanings.specs.Pipelines.{at_node}
-use Rattle.task_executor.proofs.PipelineLemmas.{filter_means, never_learns}
+use Rattle.task_executor.proofs.PipelineLemmas.{filter_means, stage_is}
 use Rattle.task_executor.proofs.pipeline.Pipeline.with_project.Goals as goal
 
 pub returns-clause-extends : goal.returns-clause-extends
@@ -18,9 +18,9 @@ returns-clause-extends c =
     record {
       stage = Filter op;
       stages = c.in_ok-push.ensures.items;
-      means = filter_means op c.args.self.types c.in_ok-given.given stage
+      is = stage_is (at_node c.args.id (project c.args.self.types forms)) c.args.self.types c.in_ok-given.given (Filter op) refl
+          (filter_means op c.args.self.types c.in_ok-given.given stage
           (subst (λ ts. Means ghosts op c.args.self.types stage ts) (sym given)
-          (subst (λ ts. Means ghosts op ts (at_node c.args.id (project ts forms) ∷ []) (map (kind_of ts) forms)) c.into_vec.ensures c.project_of.ensures.means));
+          (subst (λ ts. Means ghosts op ts (at_node c.args.id (project ts forms) ∷ []) (map (kind_of ts) forms)) c.into_vec.ensures c.project_of.ensures.means)));
       made = ap Filter c.project_of.ensures.fresh.made;
-      fixed = never_learns (Filter op);
     }

@@ -21,6 +21,8 @@ use std::test::Fail;
 use std::thread::Threads;
 use tree_evaluator::evaluate;
 
+mod aggregates;
+mod joins;
 mod orders;
 
 const WORDS: &str = "--plan p t=t";
@@ -48,12 +50,14 @@ fn named(alloc: Global, name: &str, text: &str) -> Result<NamedBytes, Fail> {
     })
 }
 
-/// The files `p`, `t` and `u`, of which one read fails (0: none).
+/// The files `p`, `t` and `u`, of which one read fails (0: none). Both tables are the text's, or its parts before
+/// and behind a `;`.
 fn files_of(alloc: Global, plan: &str, table: &str, failing: u32) -> Result<MemFiles, Fail> {
+    let (first, second) = table.split_once(";").unwrap_or((table, table));
     let mut held = Vec::new(alloc);
     held.push(named(alloc, "p", plan)?)?;
-    held.push(named(alloc, "t", table)?)?;
-    held.push(named(alloc, "u", table)?)?;
+    held.push(named(alloc, "t", first)?)?;
+    held.push(named(alloc, "u", second)?)?;
     Ok(MemFiles::new(held, Vec::from_slice(alloc, &[failing])?))
 }
 

@@ -25,17 +25,21 @@ fn plan(alloc: Global, is_wide: bool, root: &str) -> Result<String, Fail> {
 }
 
 #[derive(Drop)]
-struct Case<'c> {
-    root: &'c str,
-    table: &'c str,
-    told: &'c str,
+pub(super) struct Case<'c> {
+    pub root: &'c str,
+    pub table: &'c str,
+    pub told: &'c str,
 }
 
 /// The parts of a line.
-fn case_of(line: &str) -> Option<Case<'_>> {
-    let (root, rest) = line.split_once('|')?;
-    let (table, told) = rest.split_once('|')?;
-    Some(Case {
+pub(super) fn case_of(line: &str) -> Result<Case<'_>, Fail> {
+    let Some((root, rest)) = line.split_once('|') else {
+        return Err(Fail::new("no table"));
+    };
+    let Some((table, told)) = rest.split_once('|') else {
+        return Err(Fail::new("no answer"));
+    };
+    Ok(Case {
         root: root.trim(),
         table: table.trim(),
         told: told.trim(),
@@ -85,16 +89,14 @@ const WIDE: &str = "\
 #[test]
 fn rows_come_in_order_and_are_counted(rt: HostRuntime) -> Result<(), Fail> {
     for line in NARROW.lines() {
-        if let Some(case) = case_of(line) {
-            let is = told(&rt, false, &case)?;
-            assert_eq!(rt; is.as_str().trim(), case.told, "{line}");
-        }
+        let case = case_of(line)?;
+        let is = told(&rt, false, &case)?;
+        assert_eq!(rt; is.as_str().trim(), case.told, "{line}");
     }
     for line in WIDE.lines() {
-        if let Some(case) = case_of(line) {
-            let is = told(&rt, true, &case)?;
-            assert_eq!(rt; is.as_str().trim(), case.told, "{line}");
-        }
+        let case = case_of(line)?;
+        let is = told(&rt, true, &case)?;
+        assert_eq!(rt; is.as_str().trim(), case.told, "{line}");
     }
     Ok(())
 }

@@ -71,12 +71,15 @@ fn groups_are_aggregated(rt: HostRuntime) -> Result<(), Fail> {
 const STACKED: &str = "\
 {'id':1,'op':'topn','step':'SINGLE','count':4,'keys':[{'column':0,'order':'ASC'}],'input':\
 {'id':2,'op':'aggregate','step':'SINGLE','keys':[0],'calls':[{'name':'count_all'},{'name':'sum','column':1},{'name':'avg','column':2}],'input':\
-{'id':3,'op':'project','columns':[{'col':0},{'call':'+','args':[{'col':1},{'col':4}]},{'col':2}],'input':\
+{'id':3,'op':'project','columns':[{'col':0},{'call':'+','args':[{'col':1},{'col':5}]},{'col':2}],'input':\
 {'id':4,'op':'join','kind':'LEFT','on':[[0,0]],'left':\
-{'id':5,'op':'filter','predicate':{'call':'<>','args':[{'col':1},{'lit':'4','type':'bigint'}]},'input':T,},'right':\
+{'id':5,'op':'filter','predicate':{'call':'<>','args':[{'col':1},{'lit':'4','type':'bigint'}]},'input':\
+{'id':10,'op':'join','kind':'INNER','on':[[0,0]],'left':T,,'right':\
+{'id':11,'op':'values','types':['varchar'],'rows':[['g0'],['g1'],['g2'],['g4'],['g5'],['g6'],[null]]}}},'right':\
 {'id':6,'op':'aggregate','step':'SINGLE','keys':[0],'calls':[{'name':'max','column':1}],'input':\
-{'id':7,'op':'limit','step':'SINGLE','count':100,'input':\
-{'id':8,'op':'scan','table':'t','columns':['g','v','d']}}}}}}}";
+{'id':7,'op':'limit','step':'SINGLE','count':50,'input':\
+{'id':12,'op':'sort','keys':[{'column':1,'order':'DESC'},{'column':2,'order':'ASC'},{'column':0,'order':'ASC'}],'input':\
+{'id':8,'op':'scan','table':'t','columns':['g','v','d']}}}}}}}}";
 
 /// Groups `g` of 0 to 6, each of which has numbers and nulls.
 fn many_rows(alloc: Global) -> Result<String, Fail> {
@@ -99,7 +102,7 @@ fn every_cutting_gives_the_groups_of_the_plain_evaluator(rt: HostRuntime) -> Res
     let (plan, table) = (plan(alloc, STACKED, "g,n,s,a")?, many_rows(alloc)?);
     let lists: [&[u32]; 3] = [&[], &[0, 0, 0, 1, 0], &[1, 1, 1, 1, 3]];
     for picks in lists {
-        for size in [1u32, 2, 7, 8192] {
+        for size in [1u32, 2, 3, 5, 7, 64, 8192] {
             let words = format!(in alloc;
                 "--plan p --split {size} --page {size} --quantum {size} t=t"
             )?;

@@ -75,28 +75,34 @@ fn rows_are_joined(rt: HostRuntime) -> Result<(), Fail> {
     Ok(())
 }
 
-/// Whether a run under these words and picks gives what the plain evaluator gives.
-fn are_same<R: Threads + Wait + Sync + RandomSource + AllocGlobal>(
+/// Whether a run under these words and picks gives this text, and the plain evaluator too.
+fn give<R: Threads + Wait + Sync + RandomSource + AllocGlobal>(
     rt: &R,
     words: &str,
     plan: &str,
     tables: &str,
     picks: &[u32],
+    want: &str,
 ) -> Result<bool, Fail> {
     match both_texts(rt, words, plan, tables, picks)? {
-        Some((text, plain)) => Ok(text == plain),
+        Some((text, plain)) => {
+            Ok(text.as_slice() == want.as_bytes() && plain.as_slice() == want.as_bytes())
+        }
         None => Ok(false),
     }
 }
 
 /// A join whose right side is a join, under a join.
 const NESTED: &str = "\
-{'id':1,'op':'project','columns':[{'col':0},{'col':3},{'col':5},{'col':7}],'input':\
+{'id':1,'op':'project','columns':[{'col':0},{'col':3},{'col':5},{'col':6}],'input':\
 {'id':2,'op':'join','kind':'LEFT','on':[[0,0]],'left':\
 {'id':3,'op':'filter','predicate':{'call':'>','args':[{'col':0},{'lit':'1','type':'bigint'}]},'input':\
 {'id':4,'op':'join','kind':'INNER','on':[[0,0]],'left':T,,'right':U,}},'right':\
 {'id':5,'op':'join','kind':'INNER','on':[[1,1]],'left':V,,'right':\
 {'id':6,'op':'values','types':['bigint','varchar'],'rows':[['1','b'],['2','c'],['3','b'],[null,null]]}}}}";
+
+const NESTED_TEXT: &str = "a,b,c,d\n\
+2,p,b,1\n2,p,b,3\n2,r,b,1\n2,r,b,3\n3,q,c,2\n2,p,b,1\n2,p,b,3\n2,r,b,1\n2,r,b,3\n4,u,\\N,\\N\n4,v,\\N,\\N\n";
 
 #[test]
 fn every_cutting_and_every_list_of_picks_gives_the_same(rt: HostRuntime) -> Result<(), Fail> {
@@ -115,20 +121,29 @@ fn every_cutting_and_every_list_of_picks_gives_the_same(rt: HostRuntime) -> Resu
             let words = format!(in alloc;
                 "--plan p --split {size} --page {size} --quantum {size} t=t u=u"
             )?;
-            assert!(rt; are_same(&rt, &words, &plan, tables, picks)?);
+            assert!(rt; give(&rt, &words, &plan, tables, picks, NESTED_TEXT)?);
         }
     }
     Ok(())
 }
 
-/// Tables of three rows and of so many rows of the key 7.
-fn many_partners(alloc: Global, count: u32) -> Result<String, Fail> {
-    let mut text = String::from_str(alloc, "k,x\n7,a\n8,b\n7,c\n;k,y\n")?;
+/// So many lines of the key 7, each behind these words.
+fn many_lines(alloc: Global, words: &str, count: u32) -> Result<String, Fail> {
+    let mut text = String::new(alloc);
     for n in 0..count {
-        let line = format!(in alloc; "7,{n}\n")?;
+        let line = format!(in alloc; "{words}7,{n}\n")?;
         text.push_str(line.as_str())?;
     }
     Ok(text)
+}
+
+/// A row of the left table beside so many partners, or beside none.
+fn partnered(alloc: Global, words: &str, count: u32) -> Result<String, Fail> {
+    if count == 0 {
+        Ok(format!(in alloc; "{words}\\N,\\N\n")?)
+    } else {
+        many_lines(alloc, words, count)
+    }
 }
 
 #[test]
@@ -137,9 +152,15 @@ fn long_lists_of_partners_are_cut(rt: HostRuntime) -> Result<(), Fail> {
     let root = "{'id':1,'op':'join','kind':'LEFT','on':[[0,0]],'left':T,,'right':U,}";
     let plan = plan(alloc, root)?;
     for count in [0u32, 1, 5000] {
-        let tables = many_partners(alloc, count)?;
+        let right = many_lines(alloc, "", count)?;
+        let tables = format!(in alloc; "k,x\n7,a\n8,b\n7,c\n;k,y\n{right}")?;
+        let (first, last) = (
+            partnered(alloc, "7,a,", count)?,
+            partnered(alloc, "7,c,", count)?,
+        );
+        let want = format!(in alloc; "a,b,c,d\n{first}8,b,\\N,\\N\n{last}")?;
         let words = "--plan p --page 300 --split 999 t=t u=u";
-        assert!(rt; are_same(&rt, words, &plan, &tables, &[])?);
+        assert!(rt; give(&rt, words, &plan, &tables, &[], &want)?);
     }
     Ok(())
 }

@@ -48,9 +48,6 @@ kept_given : (target : Target) → IsResult target → rows_kept target ≡ rows
 kept_given (Build b) is = absurd is
 kept_given (Kept rows own) is = refl
 
-notes_of_all : (drivers : List DriverState) → List CellNote
-notes_of_all drivers = flat_map (λ (d : DriverState). flat_map note_of_stage d.stages) drivers
-
 module _ (plan : PlanForm) (tables : Tables) (laws : IsLawful ghosts) (before drivers : List DriverState) (rows : List Row)
     (net : IsNetOf plan tables before) (later : AreLater before drivers) (whole : AreWholeDrivers drivers) (still : AreStill drivers rows) where
   abbrev run : RunPlan

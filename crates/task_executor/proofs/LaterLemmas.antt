@@ -1,8 +1,9 @@
 -- What turns keep of drivers, and of what they run.
 use Rattle.std.proofs.Common.{◌≡◌, inl, inr, ℕ, List, [], ◌∷◌, ◌++◌, None, map, refl, ap, sym, subst, ◌∙◌}
-use Rattle.std.proofs.lemmas.List.Elements.{All-cons, All-head, All-nil, All-tail}
+use Rattle.std.proofs.lemmas.List.Elements.{All-head, All-tail}
 use Rattle.sql_values.specs.declared.types.SqlType.{SqlType}
 use Rattle.sql_values.specs.declared.relational.JoinKind.{JoinKind}
+use Rattle.bag_laws.proofs.TopLemmas.{All-back, All-front}
 use Rattle.operator_core.specs.Stages.{AllCameFrom, CameFrom}
 use Rattle.hash_join.specs.Probing.{ProbeState}
 use Rattle.plan_runs.specs.RunPlans.{RunPlan, tree_of_run, scan, values, remote, filter, project, join, aggregate, aggregate_parts, sort, topn, topn_parts, limit, limit_parts, union}
@@ -195,16 +196,6 @@ module _ (names : Names) where
   nothing_later [] (e ∷ now) none later = absurd later
   nothing_later (d ∷ drivers) now none later = absurd cc
 
-  whole_front : (front back : List DriverState) → AreWholeDrivers (front ++ back) → AreWholeDrivers front
-  whole_front [] back whole = All-nil (λ (d : DriverState). IsWhole d.fault)
-  whole_front (d ∷ front) back whole =
-      All-cons (λ (e : DriverState). IsWhole e.fault) d front (All-head (λ (e : DriverState). IsWhole e.fault) d (front ++ back) whole)
-      (whole_front front back (All-tail (λ (e : DriverState). IsWhole e.fault) d (front ++ back) whole))
-
-  whole_back : (front back : List DriverState) → AreWholeDrivers (front ++ back) → AreWholeDrivers back
-  whole_back [] back whole = whole
-  whole_back (d ∷ front) back whole = whole_back front back (All-tail (λ (e : DriverState). IsWhole e.fault) d (front ++ back) whole)
-
   pub sides_on : (tables : Tables) (run : RunPlan) (bells : List ℕ) (before now : List DriverState) → AreSides names tables run bells before → AreLater before now → AreWholeDrivers now
       → AreSides names tables run bells now
   sides_on tables (scan id table columns types) bells before now sides later whole = nothing_later before now sides later
@@ -217,7 +208,7 @@ module _ (names : Names) where
       let a = zip-append sides.before (sides.side ∷ sides.behind) now (subst (λ (ds : List DriverState). AreLater ds now) sides.are later) in
       let c = zip-cons sides.side sides.behind a.second a.seconds in
       let all = subst AreWholeDrivers a.are whole in
-      let rest = subst AreWholeDrivers c.are (whole_back a.first a.second all) in
+      let rest = subst AreWholeDrivers c.are (All-back (λ (d : DriverState). IsWhole d.fault) a.first a.second all) in
       let one : IsWhole c.first.fault = All-head (λ (d : DriverState). IsWhole d.fault) c.first c.rest rest in
       let (own, runs, builds, behind) = sides.right in
       record {
@@ -225,7 +216,7 @@ module _ (names : Names) where
         side = c.first;
         behind = c.rest;
         are = a.are ∙ ap (λ (ds : List DriverState). a.first ++ ds) c.are;
-        left = sides_on tables left bells sides.before a.first sides.left a.firsts (whole_front a.first a.second all);
+        left = sides_on tables left bells sides.before a.first sides.left a.firsts (All-front (λ (d : DriverState). IsWhole d.fault) a.first a.second all);
         right = (
           own,
           runs_on tables right own sides.side c.first runs c.is one,

@@ -8,6 +8,7 @@ use Rattle.std.proofs.lemmas.List.Elements.{All-cons, All-head, All-nil, All-tai
 use Rattle.sql_values.specs.declared.table.Table.{Table}
 use Rattle.sql_values.specs.declared.types.SqlType.{SqlType}
 use Rattle.sql_values.specs.declared.relational.JoinKind.{JoinKind}
+use Rattle.bag_laws.proofs.TopLemmas.{All-back, All-front}
 use Rattle.hash_join.specs.Cells.{CellState}
 use Rattle.split_source.specs.Seats.{ClaimsState}
 use Rattle.driver_loop.specs.Drivers.{DriverState}
@@ -182,14 +183,6 @@ wired_is plan tables shape wiring root claims none sides own n is empty added fi
           ∙ ap (λ (r : NodeForm). length (sides_in r)) is);
     }
 
-all_front : (P : CellState → Type 0) (front back : List CellState) → All P (front ++ back) → All P front
-all_front P [] back all = All-nil P
-all_front P (cell ∷ front) back all = All-cons P cell front (All-head P cell (front ++ back) all) (all_front P front back (All-tail P cell (front ++ back) all))
-
-all_back : (P : CellState → Type 0) (front back : List CellState) → All P (front ++ back) → All P back
-all_back P [] back all = all
-all_back P (cell ∷ front) back all = all_back P front back (All-tail P cell (front ++ back) all)
-
 -- cells of a join: those of its left side, its own, and those of its right side
 pub record CellsAt (cells front tail : List CellState) (cell : CellState) (count : ℕ) : Type 0 where
   pub are : cells ≡ front ++ cell ∷ tail
@@ -206,13 +199,13 @@ module _ (cells front tail : List CellState) (cell : CellState) (count : ℕ) (a
   bells_level = length-map front (λ (c : CellState). c.bell) ∙ at.level
 
   pub front_named : (names : Names) → All (IsNamed names) cells → All (IsNamed names) front
-  front_named names all = all_front (IsNamed names) front (cell ∷ tail) (subst (All (IsNamed names)) at.are all)
+  front_named names all = All-front (IsNamed names) front (cell ∷ tail) (subst (All (IsNamed names)) at.are all)
 
   pub cell_named : (names : Names) → All (IsNamed names) cells → IsNamed names cell
-  cell_named names all = All-head (IsNamed names) cell tail (all_back (IsNamed names) front (cell ∷ tail) (subst (All (IsNamed names)) at.are all))
+  cell_named names all = All-head (IsNamed names) cell tail (All-back (IsNamed names) front (cell ∷ tail) (subst (All (IsNamed names)) at.are all))
 
   pub tail_named : (names : Names) → All (IsNamed names) cells → All (IsNamed names) tail
-  tail_named names all = All-tail (IsNamed names) cell tail (all_back (IsNamed names) front (cell ∷ tail) (subst (All (IsNamed names)) at.are all))
+  tail_named names all = All-tail (IsNamed names) cell tail (All-back (IsNamed names) front (cell ∷ tail) (subst (All (IsNamed names)) at.are all))
 
 -- there is a cell for the join itself
 pub room_for_join : (cells count : ℕ) (node left right : NodeForm) → cells ≡ length (sides_in node) → sides_in node ≡ sides_in left ++ right ∷ sides_in right → count ≡ length (sides_in left) → count < cells

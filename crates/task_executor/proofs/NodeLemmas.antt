@@ -32,8 +32,3 @@ pub right_falls : (node : NodeForm) (id : ℕ) (kind : JoinKind) (on : List Pair
 right_falls node id kind on filters left right t is all =
     let same : 1 + (nodes_in left + nodes_in right) ≡ t = sym (ap nodes_in is) ∙ all in
     omega (arith, same)
-
-pub input_falls : (node input : NodeForm) (t : ℕ) → nodes_in node ≡ 1 + nodes_in input → nodes_in node ≡ t → nodes_in input < t
-input_falls node input t one all =
-    let same : 1 + nodes_in input ≡ t = sym one ∙ all in
-    omega (arith, same)

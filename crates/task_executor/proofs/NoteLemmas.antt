@@ -1,11 +1,11 @@
 -- The notes of drivers that were taken apart.
-use Rattle.std.proofs.Common.{◌≡◌, ◌<◌, ◌+◌, ℕ, zero, suc, List, [], ◌∷◌, ◌++◌, Bool, true, length, get_or, take, refl, ap, sym, subst, ◌∙◌, arith, length-append, append-nil, append_assoc}
+use Rattle.std.proofs.Common.{◌≡◌, ◌<◌, ◌+◌, ℕ, zero, suc, List, [], ◌∷◌, ◌++◌, length, get_or, take, refl, ap, sym, subst, ◌∙◌, arith, append-nil, append_assoc}
 use Rattle.std.specs.Prelude.{All, flat_map, map, slice_set}
 use Rattle.std.proofs.lemmas.Grind.{flat_map-append}
 use Rattle.std.proofs.lemmas.List.{map-append, set-get_or}
 use Rattle.std.proofs.lemmas.List.Elements.{All-append, All-cons, All-head, All-nil, All-tail}
+use Rattle.bag_laws.proofs.TopLemmas.{All-back, All-front}
 use Rattle.driver_loop.specs.Drivers.{DriverState}
-use Rattle.driver_loop.specs.Ends.{is_build}
 use Rattle.driver_loop.specs.Turns.{note_of_stage, note_of_target}
 use Rattle.driver_loop.specs.declared.pieces.CellNote.{CellNote}
 use Rattle.driver_loop.specs.declared.stage.Stage.{Stage}
@@ -13,37 +13,11 @@ use Rattle.driver_loop.specs.declared.stage.Stage.TheVariants.{Filter, Limit, Pr
 use Rattle.driver_loop.specs.declared.target.Target.{Target}
 use Rattle.driver_loop.specs.declared.target.Target.TheVariants.{Build, Result}
 use Rattle.task_executor.specs.Cells.{AreNamed, AreOfCells, Follows, Names, cell_of, cells_of, target_cell}
-use Rattle.task_executor.specs.Closing.{IsOneIf, WereTaken, builds_of, looks_of}
+use Rattle.task_executor.specs.Closing.{WereTaken, builds_of, looks_of}
 use Rattle.task_executor.specs.Turns.{IsStill}
 use Rattle.task_executor.specs.declared.closing.Notes.{Notes}
 use Rattle.driver_loop.specs.Ends.{rows_kept}
 use Rattle.operator_core.specs.Rows.{Row}
-
--- what stands behind a list is one item
-pub snoc_same : (xs ys : List CellNote) (x y : CellNote) → xs ++ x ∷ [] ≡ ys ++ y ∷ [] → (xs ≡ ys) × (x ≡ y)
-snoc_same [] [] x y same = let first : x ≡ y = cc in (refl, first)
-snoc_same [] (b ∷ ys) x y same = absurd (omega (arith, ap (λ (l : List CellNote). length l) same, length-append ys (y ∷ [])))
-snoc_same (a ∷ xs) [] x y same = absurd (omega (arith, ap (λ (l : List CellNote). length l) same, length-append xs (x ∷ [])))
-snoc_same (a ∷ xs) (b ∷ ys) x y same =
-    let first : a ≡ b = cc in
-    let rest : xs ++ x ∷ [] ≡ ys ++ y ∷ [] = cc in
-    let r = snoc_same xs ys x y rest in
-    ((λ i. first i ∷ r.0 i), r.1)
-
--- a target that builds has one note, and another none
-pub one_if : (t : Target) (is : Bool) → is ≡ is_build t → IsOneIf is (note_of_target t)
-one_if (Result rows own) is same = subst (λ (b : Bool). IsOneIf b []) (sym same) refl
-one_if (Build b) is same = subst (λ (x : Bool). IsOneIf x (record { bell = b.bell; note = b.note } ∷ [])) (sym same) (record { bell = b.bell; note = b.note }, refl)
-
--- the last note was taken off
-pub popped : (stages target all rest : List CellNote) (own : CellNote) → IsOneIf true target → all ≡ stages ++ target → all ≡ rest ++ own ∷ [] → (rest ≡ stages) × (own ∷ [] ≡ target)
-popped stages target all rest own one notes pop =
-    let s = snoc_same rest stages own one.0 (sym pop ∙ notes ∙ ap (λ (t : List CellNote). stages ++ t) one.1) in
-    (s.0, ap (λ (n : CellNote). n ∷ []) s.1 ∙ sym one.1)
-
-pub none_popped : (stages target all : List CellNote) → IsOneIf true target → all ≡ stages ++ target → all ≡ [] → ⊥
-none_popped stages target all one notes none =
-    omega (arith, ap (λ (l : List CellNote). length l) (sym none ∙ notes), length-append stages target, ap (λ (l : List CellNote). length l) one.1)
 
 -- the cells of notes are those of their stages and targets
 abbrev pub cell_noted : CellNote → ℕ × ℕ
@@ -71,14 +45,6 @@ named_notes names (n ∷ notes) all =
     All-cons (λ (m : CellNote). m.note.cell ≡ names m.bell) n notes (All-head (λ (c : ℕ × ℕ). c.1 ≡ names c.0) (cell_noted n) (map cell_noted notes) all)
     (named_notes names notes (All-tail (λ (c : ℕ × ℕ). c.1 ≡ names c.0) (cell_noted n) (map cell_noted notes) all))
 
-front_of : (P : ℕ × ℕ → Type 0) (xs ys : List (ℕ × ℕ)) → All P (xs ++ ys) → All P xs
-front_of P [] ys all = All-nil P
-front_of P (x ∷ xs) ys all = All-cons P x xs (All-head P x (xs ++ ys) all) (front_of P xs ys (All-tail P x (xs ++ ys) all))
-
-back_of : (P : ℕ × ℕ → Type 0) (xs ys : List (ℕ × ℕ)) → All P (xs ++ ys) → All P ys
-back_of P [] ys all = all
-back_of P (x ∷ xs) ys all = back_of P xs ys (All-tail P x (xs ++ ys) all)
-
 module _ (names : Names) where
   abbrev Holds : ℕ × ℕ → Type 0
   Holds c = c.1 ≡ names c.0
@@ -92,16 +58,16 @@ module _ (names : Names) where
   looks_named (d ∷ ds) all =
       append_named (flat_map note_of_stage d.stages) (looks_of ds)
       (named_notes names (flat_map note_of_stage d.stages) (subst (All Holds) (sym (stages_noted d.stages))
-      (front_of Holds (flat_map cell_of d.stages) (target_cell d.target) (front_of Holds (cells_of d) (flat_map cells_of ds) all))))
-      (looks_named ds (back_of Holds (cells_of d) (flat_map cells_of ds) all))
+      (All-front Holds (flat_map cell_of d.stages) (target_cell d.target) (All-front Holds (cells_of d) (flat_map cells_of ds) all))))
+      (looks_named ds (All-back Holds (cells_of d) (flat_map cells_of ds) all))
 
   builds_named : (ds : List DriverState) → All Holds (flat_map cells_of ds) → All (λ (n : CellNote). n.note.cell ≡ names n.bell) (builds_of ds)
   builds_named [] all = All-nil (λ (n : CellNote). n.note.cell ≡ names n.bell)
   builds_named (d ∷ ds) all =
       append_named (note_of_target d.target) (builds_of ds)
       (named_notes names (note_of_target d.target) (subst (All Holds) (sym (target_noted d.target))
-      (back_of Holds (flat_map cell_of d.stages) (target_cell d.target) (front_of Holds (cells_of d) (flat_map cells_of ds) all))))
-      (builds_named ds (back_of Holds (cells_of d) (flat_map cells_of ds) all))
+      (All-back Holds (flat_map cell_of d.stages) (target_cell d.target) (All-front Holds (cells_of d) (flat_map cells_of ds) all))))
+      (builds_named ds (All-back Holds (cells_of d) (flat_map cells_of ds) all))
 
 one_of_cells : (names : Names) (look : CellNote) (builds : List CellNote) → look.note.cell ≡ names look.bell → All (λ (n : CellNote). n.note.cell ≡ names n.bell) builds
     → All (λ (build : CellNote). build.bell ≡ look.bell → build.note.cell ≡ look.note.cell) builds
@@ -148,14 +114,6 @@ pub all_compared : (looks own builds now : List CellNote) (k : ℕ) (n : CellNot
     → All (λ (look : CellNote). All (Follows look) builds) (take k looks) → All (Follows n) now → All (λ (look : CellNote). All (Follows look) builds) (take (k + 1) looks)
 all_compared looks own builds now k n same are lt at front follows =
     next_more (λ (look : CellNote). All (Follows look) builds) looks k n lt (at ∙ ap (λ (ns : List CellNote). get_or ns k n) same) front (subst (All (Follows n)) are follows)
-
--- no driver was taken apart yet
-pub taken_none : (notes : Notes) → WereTaken [] notes notes []
-taken_none notes = record {
-  each = All-nil IsStill;
-  kept = record { looks = sym (append-nil notes.looks.items); builds = sym (append-nil notes.builds.items) };
-  gave = refl;
-}
 
 -- one more was
 pub taken_more : (done : List DriverState) (d : DriverState) (old mid new : Notes) (rows pushed : List (List Row)) (own : List Row) → WereTaken done old mid rows → IsStill d

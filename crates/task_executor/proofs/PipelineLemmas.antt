@@ -1,7 +1,7 @@
 -- The stages of a pipeline, one more behind the others.
 use Rattle.std.proofs.Common.{Box, Global, Vec, Result, Ok, Err, IfOk, ◌≡◌, ◌↔◌, ◌<◌, ℕ, List, [], ◌∷◌, ◌++◌, length, map, take, ap, sym, subst, ◌∙◌, arith}
 use Rattle.std.proofs.lemmas.List.{length-append, length-map, map-append}
-use Rattle.std.specs.Prelude.{◌+◌, IsTrue}
+use Rattle.std.specs.Prelude.{◌+◌}
 use Rattle.sql_values.specs.declared.types.SqlType.{SqlType}
 use Rattle.sql_values.specs.declared.value.Value.{Value}
 use Rattle.sql_values.specs.declared.fail.Fail.{Fail}
@@ -23,7 +23,6 @@ use Rattle.plan_trees.specs.TreeTypes.{call_kind, types_of}
 use Rattle.sql_functions.specs.CallTypes.{type_at}
 use Rattle.sql_values.specs.declared.relational.Call.{Call}
 use Rattle.sql_values.specs.declared.relational.JoinKind.{JoinKind}
-use Rattle.accumulators.specs.Limits.{are_allowed}
 use Rattle.aggregation.specs.declared.single.SingleAgg.{SingleAgg as SingleState}
 use Rattle.aggregation.specs.contracts.single.SingleAggOperator.TheImpl.{ghosts as single_ghosts}
 use Rattle.hash_join.specs.Probing.{ProbeState}
@@ -216,13 +215,6 @@ filter_below id predicate input can = some_types (tree_of_run (run_of input)) ca
 
 pub project_some : (id : ℕ) (columns : List Form) (input : NodeForm) → CanFit (project id columns input) → 0 < length columns
 project_some id columns input can = can.fits.0
-
-pub single_some : (id : ℕ) (step : NodeStep) (keys : List ℕ) (calls : List Call) (input : NodeForm) → CanFit (aggregate id step keys calls input) → 0 < length keys + length calls
-single_some id step keys calls input can = can.fits.0
-
-pub single_allowed : (id : ℕ) (step : NodeStep) (keys : List ℕ) (calls : List Call) (input : NodeForm) → CanFit (aggregate id step keys calls input)
-    → IsTrue (are_allowed (types_of (tree_of_run (run_of input))) calls)
-single_allowed id step keys calls input can = can.fits.1
 
 -- the node's form
 pub view_filter : (id : ℕ) (predicate : Expr) (input : Box Node Global) → node_view (declared.Filter id predicate input) ≡ filter id (form_view predicate) (node_view input.value)

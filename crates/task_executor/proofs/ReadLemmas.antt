@@ -1,5 +1,5 @@
 -- What sources read, gave and have left, after some turns.
-use Rattle.std.proofs.Common.{◌≡◌, ◌<◌, ℕ, List, [], ◌∷◌, ◌++◌, true, Option, length, map, refl, ap, sym, subst, ◌∙◌, arith}
+use Rattle.std.proofs.Common.{◌≡◌, ◌<◌, ℕ, List, [], ◌∷◌, ◌++◌, true, length, map, refl, ap, sym, subst, ◌∙◌, arith}
 use Rattle.std.specs.Prelude.{All}
 use Rattle.std.proofs.lemmas.List.{append-nil, append_cancel_left}
 use Rattle.std.proofs.lemmas.List.Elements.{All-cons, All-nil}
@@ -14,7 +14,7 @@ use Rattle.driver_loop.specs.Ends.{IsBegun, IsDrained, claim_of, has_ended, rows
 use Rattle.driver_loop.specs.declared.source.Source.{Source}
 use Rattle.driver_loop.specs.declared.source.Source.TheVariants.{Scan, Rows}
 use Rattle.task_executor.specs.Reads.{IsAlone, Reads, ReadsAlone}
-use Rattle.task_executor.specs.Turns.{IsAll, IsStopped}
+use Rattle.task_executor.specs.Turns.{IsStopped}
 use Rattle.task_executor.proofs.SourceLemmas.{gave_some}
 
 -- a scan is that of its net, later on
@@ -76,14 +76,6 @@ reads_on rows (Rows values) (Rows now) same reads = ap scanned_rows same ∙ rea
 pub alone_of : (source : Source) (rows : List Row) → Reads source rows → IsAlone source
 alone_of (Scan scan) rows reads = reads.alone
 alone_of (Rows values) rows reads = tt
-
--- the seat of a source that is alone is the only one
-all_of : (source : Source) → IsAlone source → IsAll (claim_of source)
-all_of (Scan scan) alone = (scan.seat.claims, alone)
-all_of (Rows values) alone = tt
-
-pub alone_all : (source : Source) (claim : Option SeatState) → claim ≡ claim_of source → IsAlone source → IsAll claim
-alone_all source claim same alone = subst IsAll (sym same) (all_of source alone)
 
 none_behind : (given rest rows : List Row) → given ++ rest ≡ rows → given ≡ rows → rest ≡ []
 none_behind given rest rows is same = append_cancel_left given rest [] (is ∙ sym same ∙ sym (append-nil given))

@@ -36,6 +36,7 @@ fn put_row(
     for (kind, text) in types.iter().zip(row.split(' ')) {
         match parse_value(alloc, *kind, text) {
             Ok(value) if text != "-" => builder.put(value.as_ref())?,
+            Err(_) if text != "-" => return Err(Memory),
             _ => builder.put(ValueRef::Null)?,
         };
     }

@@ -161,4 +161,5 @@ fn laws_hold_of_a_list_of_stages(rt: HostRuntime) {
     laws::finished(&stages);
     laws::can_go_on(&stages);
     laws::failure(&stages);
+    assert!(rt; !stages[0].is_finished() && !stages[1].is_finished());
 }

@@ -93,6 +93,7 @@ fn a_page_goes_through_the_stages(rt: HostRuntime) -> Result<(), Memory> {
     assert_eq!(rt; put(&mut stages, page(alloc, &[1, 2])?), None);
     assert_eq!(rt; put(&mut stages, page(alloc, &[3])?), Some(0));
     assert_eq!(rt; told(drain(&mut stages)), None);
+    assert_eq!(rt; stages.len(), 2);
     if stages.len() == 2 {
         assert!(rt; move_page(&mut stages, 0) == Ok(2));
     }
@@ -104,6 +105,7 @@ fn a_page_goes_through_the_stages(rt: HostRuntime) -> Result<(), Memory> {
 #[test]
 fn the_end_passes_from_stage_to_stage(rt: HostRuntime) -> Result<(), Memory> {
     let mut stages = stages(rt.alloc())?;
+    assert_eq!(rt; stages.len(), 2);
     if stages.len() == 2 {
         pass_end(&mut stages, 1, true);
     }
@@ -122,6 +124,7 @@ fn the_rows_before_a_failure_go_on(rt: HostRuntime) -> Result<(), Memory> {
     let alloc = rt.alloc();
     let mut stages = stages(alloc)?;
     assert_eq!(rt; put(&mut stages, page(alloc, &[1, 0, 2])?), Some(5));
+    assert_eq!(rt; stages.len(), 2);
     if stages.len() == 2 {
         assert!(rt; move_page(&mut stages, 0) == Ok(1));
     }

@@ -31,7 +31,7 @@ pub enum Status {
         column: u32,
         why: u8,
     },
-    /// An expression failed on a row.
+    /// An expression failed on a row, or an aggregate on a group.
     ExprFailed {
         node: u32,
         kind: Fail,

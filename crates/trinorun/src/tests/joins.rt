@@ -127,6 +127,26 @@ fn every_cutting_and_every_list_of_picks_gives_the_same(rt: HostRuntime) -> Resu
     Ok(())
 }
 
+#[test]
+fn picks_change_no_row(rt: HostRuntime) -> Result<(), Fail> {
+    let root = "{'id':1,'op':'join','kind':'INNER','on':[[0,0]],'left':T,,'right':U,}";
+    let plan = plan(rt.alloc(), root)?;
+    let tables = "k,x\n1,a\n1,b\n\\N,c\n2,d\n;k,y\n1,p\n1,q\n\\N,r\n3,s\n";
+    let want = "a,b,c,d\n1,a,1,p\n1,a,1,q\n1,b,1,p\n1,b,1,q\n";
+    assert!(rt; give(&rt, "--plan p t=t u=u", &plan, tables, &[], want)?);
+    assert!(rt;
+        give(
+            &rt,
+            "--plan p t=t u=u",
+            &plan,
+            tables,
+            &[0, 0, 0, 1, 0],
+            want
+        )?
+    );
+    Ok(())
+}
+
 /// So many lines of the key 7, each behind these words.
 fn many_lines(alloc: Global, words: &str, count: u32) -> Result<String, Fail> {
     let mut text = String::new(alloc);

@@ -102,6 +102,31 @@ fn rows_come_in_order_and_are_counted(rt: HostRuntime) -> Result<(), Fail> {
 }
 
 #[test]
+fn picks_change_no_order(rt: HostRuntime) -> Result<(), Fail> {
+    let root = "{'id':1,'op':'sort','keys':[{'column':0,'order':'DESC'}],'input':SCAN}";
+    let plan = plan(rt.alloc(), false, root)?;
+    let lists: [&[u32]; 2] = [&[], &[0, 0, 0]];
+    for picks in lists {
+        let Some((text, _)) = both_texts(&rt, WORDS, plan.as_str(), "a\n1\n\\N\n3\n", picks)? else {
+            return Ok(assert!(rt; false));
+        };
+        assert!(rt; text.as_slice() == "a\n3\n1\n\\N\n".as_bytes());
+    }
+    Ok(())
+}
+
+#[test]
+fn a_top_n_chooses_among_ties(rt: HostRuntime) -> Result<(), Fail> {
+    let root =
+        "{'id':1,'op':'topn','step':'SINGLE','count':2,'keys':[{'column':0,'order':'ASC'}],'input':SCAN}";
+    let plan = plan(rt.alloc(), true, root)?;
+    let answer = answer_of(&rt, WORDS, plan.as_str(), "a,c\n2,y\n1,x\n2,z\n", (0, 0))?;
+    let (one, other) = ("0|a,c\n1,x\n2,y\n|", "0|a,c\n1,x\n2,z\n|");
+    assert!(rt; answer.as_str() == one || answer.as_str() == other);
+    Ok(())
+}
+
+#[test]
 fn a_sorted_result_that_cannot_be_written_whole(rt: HostRuntime) -> Result<(), Fail> {
     let root = "{'id':1,'op':'sort','keys':[{'column':0,'order':'DESC'}],'input':SCAN}";
     let plan = plan(rt.alloc(), false, root)?;

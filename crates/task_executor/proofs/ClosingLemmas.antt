@@ -33,7 +33,7 @@ use Rattle.plan_nets.proofs.FitLemmas.{fits_widths, front_of_source, source_fits
 use Rattle.plan_nets.proofs.OperatorLemmas.{fails_of}
 use Rattle.plan_nets.proofs.StoppedLemmas.{net_fails, side_fails as side_of_net_fails}
 use Rattle.plan_nets.proofs.WholeLemmas.{nets_give}
-use Rattle.task_executor.specs.Cells.{Follows}
+use Rattle.task_executor.specs.Cells.{LearnedFrom}
 use Rattle.task_executor.specs.Nets.{FailsFor, IsNetOf}
 use Rattle.task_executor.specs.Sides.{AreSides, IsResult, RunsPipeline}
 use Rattle.task_executor.specs.Turns.{AreFailing, AreFinished, AreLater, AreStill, AreWholeDrivers, IsStill}
@@ -59,13 +59,13 @@ module _ (plan : PlanForm) (tables : Tables) (laws : IsLawful ghosts) (before dr
   run_fits : FitsTables (tree_of_run run) tables
   run_fits = subst (λ (t : TreeForm). FitsTables t tables) same_tree net.fits
 
-  follow : (d e : DriverState) → In drivers d → In drivers e → (look build : CellNote) → In (flat_map note_of_stage d.stages) look → In (note_of_target e.target) build → Follows look build
+  follow : (d e : DriverState) → In drivers d → In drivers e → (look build : CellNote) → In (flat_map note_of_stage d.stages) look → In (note_of_target e.target) build → LearnedFrom look build
   follow d e at there look build own mine =
       let looks = flat_map (λ (x : DriverState). flat_map note_of_stage x.stages) drivers in
       let builds = flat_map (λ (x : DriverState). note_of_target x.target) drivers in
-      let one : All (Follows look) builds = all_in (λ (l : CellNote). All (Follows l) builds) looks look still.follow
+      let one : All (LearnedFrom look) builds = all_in (λ (l : CellNote). All (LearnedFrom l) builds) looks look still.follow
       (in_flat (λ (x : DriverState). flat_map note_of_stage x.stages) drivers d look at own) in
-      all_in (Follows look) builds build one (in_flat (λ (x : DriverState). note_of_target x.target) drivers e build there mine)
+      all_in (LearnedFrom look) builds build one (in_flat (λ (x : DriverState). note_of_target x.target) drivers e build there mine)
 
   module _ (main : DriverState) (sides : List DriverState) (are : drivers ≡ main ∷ sides) (runs : RunsPipeline net.names tables run net.bells main) (result : IsResult main.target)
       (built : AreSides net.names tables run net.bells sides) where

@@ -17,14 +17,14 @@ use Rattle.driver_loop.specs.Ends.{has_ended, rows_taken}
 use Rattle.driver_loop.specs.Turns.{note_of_stage, note_of_target}
 use Rattle.driver_loop.specs.contracts.stage.StageOperator.TheImpl.{ghosts}
 use Rattle.driver_loop.specs.declared.pieces.CellNote.{CellNote}
-use Rattle.task_executor.specs.Cells.{Follows, Names}
+use Rattle.task_executor.specs.Cells.{LearnedFrom, Names}
 use Rattle.task_executor.specs.Sides.{AreSides}
 use Rattle.task_executor.specs.Turns.{IsStill}
 use Rattle.task_executor.proofs.MemberLemmas.{In, in_back, in_either, in_front}
 use Rattle.task_executor.proofs.StandLemmas.{Side, side_stands}
 
 module _ (names : Names) (tables : Tables) (laws : IsLawful ghosts) (all : List DriverState) (still : All IsStill all)
-    (follow : (d e : DriverState) → In all d → In all e → (look build : CellNote) → In (flat_map note_of_stage d.stages) look → In (note_of_target e.target) build → Follows look build)
+    (follow : (d e : DriverState) → In all d → In all e → (look build : CellNote) → In (flat_map note_of_stage d.stages) look → In (note_of_target e.target) build → LearnedFrom look build)
     (node : ℕ) (kind : Fail) where
   -- a pipeline of a right side fails so
   pub record SideFails (run : RunPlan) : Type 0 where

@@ -29,7 +29,7 @@ use Rattle.plan_pipelines.specs.Built.{AreRead, CanBeRead, IsBuilt, PipelineSour
 use Rattle.plan_pipelines.proofs.FragmentLemmas.{fragment_runs}
 use Rattle.plan_pipelines.specs.Fragments.{IsOneFragment, run_of}
 use Rattle.task_executor.specs.Cells.{IsNamed, Names}
-use Rattle.task_executor.specs.Nets.{IsNetOf}
+use Rattle.task_executor.specs.Nets.{AreNumbered, IsNetOf}
 use Rattle.task_executor.specs.Pipelines.{Assembled, IsMadeFor}
 use Rattle.task_executor.specs.Reads.{Reads, rows_below}
 use Rattle.task_executor.specs.Sides.{AddedSides, AreSides, BuildsFor, IsResult, RunsPipeline, bells_along, sides_in}
@@ -134,8 +134,8 @@ module _ (names : Names) (tables : Tables) where
 pub net_is : (plan : PlanForm) (tables : Tables) (root found : NodeForm) (names : Names) (bells : List ℕ) (main : DriverState) (drivers : List DriverState)
     → IsOneFragment plan root → IsBuilt root → found ≡ root_in plan → FitsTables (tree_of plan) tables
     → RunsPipeline names tables (run_of found) (bells_along found bells) main → IsResult main.target
-    → AddedSides names tables (run_of found) (bells_along found bells) (main ∷ []) drivers → IsNetOf plan tables drivers
-net_is plan tables root found names bells main drivers one built is fits runs result added =
+    → AddedSides names tables (run_of found) (bells_along found bells) (main ∷ []) drivers → AreNumbered drivers → IsNetOf plan tables drivers
+net_is plan tables root found names bells main drivers one built is fits runs result added numbers =
     let here : found ≡ root = is ∙ root_is plan root one in
     record {
       root = root;
@@ -150,6 +150,7 @@ net_is plan tables root found names bells main drivers one built is fits runs re
       runs = subst (λ (n : NodeForm). RunsPipeline names tables (run_of n) (bells_along n bells) main) here runs;
       result = result;
       built = subst (λ (n : NodeForm). AreSides names tables (run_of n) (bells_along n bells) added.added) here added.sides;
+      numbers = numbers;
     }
 
 range-suc : (a n : ℕ) → range_with_len a (suc n) ≡ range_with_len a n ++ (a + n) ∷ []
@@ -163,6 +164,17 @@ range-snoc n =
     let one : n + 1 ≡ suc n = omega arith in
     let same : 0 + n ≡ n = omega arith in
     ap (range_with_len 0) one ∙ range-suc 0 n ∙ ap (λ (x : ℕ). range_with_len 0 n ++ x ∷ []) same
+
+-- the numbers of drivers are those of their places
+pub first_number : (none pushed : List DriverState) (main : DriverState) → none ≡ [] → pushed ≡ none ++ main ∷ [] → main.number ≡ 0 → AreNumbered pushed
+first_number none pushed main empty push zero =
+    subst AreNumbered (sym (push ∙ ap (λ (ds : List DriverState). ds ++ main ∷ []) empty)) (ap (λ (n : ℕ). n ∷ []) zero)
+
+pub next_number : (drivers pushed : List DriverState) (d : DriverState) → AreNumbered drivers → pushed ≡ drivers ++ d ∷ [] → d.number ≡ length drivers → AreNumbered pushed
+next_number drivers pushed d before push own =
+    let level : length pushed ≡ length drivers + 1 = ap length push ∙ length-append drivers (d ∷ []) in
+    ap (map (λ (e : DriverState). e.number)) push ∙ map-append (λ (e : DriverState). e.number) drivers (d ∷ [])
+    ∙ (λ i. before i ++ own i ∷ []) ∙ sym (range-snoc (length drivers)) ∙ ap (range_with_len 0) (sym level)
 
 -- one more cell behind others
 pub one_cell_more : (cells pushed : List CellState) (cell : CellState) (bell : ℕ) → map (λ (c : CellState). c.bell) cells ≡ range_with_len 0 bell → pushed ≡ cells ++ cell ∷ [] → cell.bell ≡ bell
@@ -301,8 +313,8 @@ pub net_made : (plan : PlanForm) (tables : List Table) (views : Tables) (root fo
     → ((names : Names) → All (IsNamed names) cells → IsMadeFor names (bells_along found (map (λ (cell : CellState). cell.bell) cells)) found below)
     → IsResult main.target → none ≡ [] → pushed ≡ none ++ main ∷ []
     → ((names : Names) → All (IsNamed names) cells → AddedSides names views (run_of found) (bells_along found (map (λ (cell : CellState). cell.bell) cells)) pushed drivers)
-    → IsNetOf plan views drivers
-net_made plan tables views root found cells own below source from main none pushed drivers one built is fits same bells of_source reads from_is of_stages made result empty push added =
+    → AreNumbered drivers → IsNetOf plan views drivers
+net_made plan tables views root found cells own below source from main none pushed drivers one built is fits same bells of_source reads from_is of_stages made result empty push added numbers =
     let rung = map (λ (cell : CellState). cell.bell) cells in
     let here : found ≡ root = is ∙ root_is plan root one in
     let names = names_in cells in
@@ -314,7 +326,7 @@ net_made plan tables views root found cells own below source from main none push
     (subst (λ (s : Source). Reads s (rows_below views (source_of found))) (sym of_source) (subst (λ (f : PipelineSource). Reads source (rows_below views f)) from_is reads))
     of_stages (made names named) in
     net_is plan views root found names rung main drivers one built is fits runs result
-    (subst (λ (ds : List DriverState). AddedSides names views (run_of found) (bells_along found rung) ds drivers) (push ∙ ap (λ (ds : List DriverState). ds ++ main ∷ []) empty) (added names named))
+    (subst (λ (ds : List DriverState). AddedSides names views (run_of found) (bells_along found rung) ds drivers) (push ∙ ap (λ (ds : List DriverState). ds ++ main ∷ []) empty) (added names named)) numbers
 
 -- what the root of a plan that is built reads
 pub root_read : (plan : PlanForm) (tables : List Table) (root found : NodeForm) (source : PipelineSource) → IsOneFragment plan root → IsBuilt root → AreRead tables root → found ≡ root_in plan

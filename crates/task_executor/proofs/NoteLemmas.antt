@@ -12,7 +12,7 @@ use Rattle.driver_loop.specs.declared.stage.Stage.{Stage}
 use Rattle.driver_loop.specs.declared.stage.Stage.TheVariants.{Filter, Limit, Probe, Single, Sort, TopN}
 use Rattle.driver_loop.specs.declared.target.Target.{Target}
 use Rattle.driver_loop.specs.declared.target.Target.TheVariants.{Build, Result}
-use Rattle.task_executor.specs.Cells.{AreNamed, AreOfCells, Follows, Names, cell_of, cells_of, target_cell}
+use Rattle.task_executor.specs.Cells.{AreNamed, AreOfCells, LearnedFrom, Names, cell_of, cells_of, target_cell}
 use Rattle.task_executor.specs.Closing.{WereTaken, builds_of, looks_of}
 use Rattle.task_executor.specs.Turns.{IsStill}
 use Rattle.task_executor.specs.declared.closing.Notes.{Notes}
@@ -105,15 +105,15 @@ next_more P notes k n lt at front own =
     let one : suc k ≡ k + 1 = omega arith in
     subst (λ (m : ℕ). All P (take m notes)) one (one_more P notes k n lt at front own)
 
-pub compared : (look own : CellNote) (builds now : List CellNote) (k : ℕ) (n : CellNote) → own ≡ look → now ≡ builds → k < length builds → n ≡ get_or now k n → All (Follows look) (take k builds) → Follows own n
-    → All (Follows look) (take (k + 1) builds)
+pub compared : (look own : CellNote) (builds now : List CellNote) (k : ℕ) (n : CellNote) → own ≡ look → now ≡ builds → k < length builds → n ≡ get_or now k n → All (LearnedFrom look) (take k builds) → LearnedFrom own n
+    → All (LearnedFrom look) (take (k + 1) builds)
 compared look own builds now k n same are lt at front follows =
-    next_more (Follows look) builds k n lt (at ∙ ap (λ (ns : List CellNote). get_or ns k n) are) front (subst (λ (l : CellNote). Follows l n) same follows)
+    next_more (LearnedFrom look) builds k n lt (at ∙ ap (λ (ns : List CellNote). get_or ns k n) are) front (subst (λ (l : CellNote). LearnedFrom l n) same follows)
 
 pub all_compared : (looks own builds now : List CellNote) (k : ℕ) (n : CellNote) → own ≡ looks → now ≡ builds → k < length looks → n ≡ get_or own k n
-    → All (λ (look : CellNote). All (Follows look) builds) (take k looks) → All (Follows n) now → All (λ (look : CellNote). All (Follows look) builds) (take (k + 1) looks)
+    → All (λ (look : CellNote). All (LearnedFrom look) builds) (take k looks) → All (LearnedFrom n) now → All (λ (look : CellNote). All (LearnedFrom look) builds) (take (k + 1) looks)
 all_compared looks own builds now k n same are lt at front follows =
-    next_more (λ (look : CellNote). All (Follows look) builds) looks k n lt (at ∙ ap (λ (ns : List CellNote). get_or ns k n) same) front (subst (All (Follows n)) are follows)
+    next_more (λ (look : CellNote). All (LearnedFrom look) builds) looks k n lt (at ∙ ap (λ (ns : List CellNote). get_or ns k n) same) front (subst (All (LearnedFrom n)) are follows)
 
 -- one more was
 pub taken_more : (done : List DriverState) (d : DriverState) (old mid new : Notes) (rows pushed : List (List Row)) (own : List Row) → WereTaken done old mid rows → IsStill d

@@ -43,7 +43,7 @@ use Rattle.driver_loop.specs.declared.stage.Stage.{Stage}
 use Rattle.driver_loop.specs.declared.stage.Stage.TheVariants.{Filter, Limit, Probe, Single, Sort, TopN}
 use Rattle.driver_loop.specs.declared.target.Target.{Target}
 use Rattle.driver_loop.specs.declared.target.Target.TheVariants.{Build, Result}
-use Rattle.task_executor.specs.Cells.{Follows, Names}
+use Rattle.task_executor.specs.Cells.{LearnedFrom, Names}
 use Rattle.task_executor.specs.Pipelines.{Assembled, IsProbeOf, IsStageOf}
 use Rattle.task_executor.specs.Sides.{AreSides, BuildsFor, RunsPipeline}
 use Rattle.task_executor.specs.Turns.{IsStill}
@@ -105,10 +105,10 @@ source_known None rows is = absurd cc
 source_known (Some source) rows is = (source, refl, cc)
 
 module _ (names : Names) (tables : Tables) (laws : IsLawful ghosts) (all : List DriverState) (still : All IsStill all)
-    (follow : (d e : DriverState) → In all d → In all e → (look build : CellNote) → In (flat_map note_of_stage d.stages) look → In (note_of_target e.target) build → Follows look build) where
+    (follow : (d e : DriverState) → In all d → In all e → (look build : CellNote) → In (flat_map note_of_stage d.stages) look → In (note_of_target e.target) build → LearnedFrom look build) where
   -- no stage knows a source that its builder does not
   abbrev LooksFollow : List Stage → Type 0
-  LooksFollow stages = (look : CellNote) → In (flat_map note_of_stage stages) look → (e : DriverState) → In all e → (build : CellNote) → In (note_of_target e.target) build → Follows look build
+  LooksFollow stages = (look : CellNote) → In (flat_map note_of_stage stages) look → (e : DriverState) → In all e → (build : CellNote) → In (note_of_target e.target) build → LearnedFrom look build
 
   follow_front : (before : List Stage) (last : Stage) (stages : List Stage) → stages ≡ before ++ last ∷ [] → LooksFollow stages → LooksFollow before
   follow_front before last stages are looks look at =
@@ -155,7 +155,7 @@ module _ (names : Names) (tables : Tables) (laws : IsLawful ghosts) (all : List 
     rows_are = ap rows_given s.build.is
 
     knows_of : (raw : ProbeState) → raw.bell ≡ bell
-        → ((build : CellNote) → In (note_of_target side.target) build → Follows (record { bell = raw.bell; note = raw.note }) build)
+        → ((build : CellNote) → In (note_of_target side.target) build → LearnedFrom (record { bell = raw.bell; note = raw.note }) build)
         → (source : IndexedRows) → raw.note.known ≡ Some source → (side.is_finished ≡ true) × (source ≡ s.build.build.source)
     knows_of raw rings follows source known =
         let b = s.build.build in
@@ -164,7 +164,7 @@ module _ (names : Names) (tables : Tables) (laws : IsLawful ghosts) (all : List 
         s.build.known source (follows own at (s.build.rings ∙ sym rings) source known)
 
     source_of : (raw : ProbeState) → raw.bell ≡ bell
-        → ((build : CellNote) → In (note_of_target side.target) build → Follows (record { bell = raw.bell; note = raw.note }) build)
+        → ((build : CellNote) → In (note_of_target side.target) build → LearnedFrom (record { bell = raw.bell; note = raw.note }) build)
         → (source : IndexedRows) → raw.note.known ≡ Some source → IsSourceOf (map (λ (pair : ℕ × ℕ). pair.1) on) (types_of (tree_of_run right)) source
     source_of raw rings follows source known =
         let same = (knows_of raw rings follows source known).1 in
@@ -184,7 +184,7 @@ module _ (names : Names) (tables : Tables) (laws : IsLawful ghosts) (all : List 
 
   module _ (id bell : ℕ) (kind : JoinKind) (on : List (ℕ × ℕ)) (left right : RunPlan) (between : List SqlType) (side : DriverState) (behind : List DriverState) (s : Side right bell on side behind) where
     raw_probes : (raw : ProbeState) (types : List SqlType) → raw.kind ≡ kind → raw.on ≡ map (λ (pair : ℕ × ℕ). pair.0) on → raw.bell ≡ bell
-        → ((build : CellNote) → In (note_of_target side.target) build → Follows (record { bell = raw.bell; note = raw.note }) build)
+        → ((build : CellNote) → In (note_of_target side.target) build → LearnedFrom (record { bell = raw.bell; note = raw.note }) build)
         → Probes ghosts (Probe raw types) (rows_known raw.note.known) kind on (width_of (tree_of_run left)) (types_of (tree_of_run right))
     raw_probes raw types of_kind columns rings follows =
         let keys = map (λ (pair : ℕ × ℕ). pair.1) on in
@@ -196,7 +196,7 @@ module _ (names : Names) (tables : Tables) (laws : IsLawful ghosts) (all : List 
         record { waits = r.waits; unknown = r.unknown; gives = r.gives; fits = r.fits; calm = r.calm }
 
     raw_looks : (last : Stage) (raw : ProbeState) (types given : List SqlType) → last ≡ Probe raw types → raw.kind ≡ kind → raw.on ≡ map (λ (pair : ℕ × ℕ). pair.0) on → raw.bell ≡ bell
-        → ((build : CellNote) → In (note_of_target side.target) build → Follows (record { bell = raw.bell; note = raw.note }) build)
+        → ((build : CellNote) → In (note_of_target side.target) build → LearnedFrom (record { bell = raw.bell; note = raw.note }) build)
         → between ++ types_of (tree_of_run right) ≡ given → Looks id kind on left right last between given side
     raw_looks last raw types given is of_kind columns rings follows same = record {
       noted = rows_known raw.note.known;

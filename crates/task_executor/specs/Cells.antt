@@ -38,11 +38,11 @@ abbrev pub AreNamed : List DriverState → Type 0
 AreNamed drivers = (names : Names) × All (λ (c : ℕ × ℕ). c.1 ≡ names c.0) (flat_map cells_of drivers)
 
 -- whoever publishes in the cell knows what one who looks into it knows
-abbrev pub Follows : CellNote → CellNote → Type 0
-Follows look build = build.bell ≡ look.bell → (source : IndexedRows) → look.note.known ≡ Some source → build.note.known ≡ Some source
+abbrev pub LearnedFrom : CellNote → CellNote → Type 0
+LearnedFrom look build = build.bell ≡ look.bell → (source : IndexedRows) → look.note.known ≡ Some source → build.note.known ≡ Some source
 
-abbrev pub AllFollow : List CellNote → List CellNote → Type 0
-AllFollow looks builds = All (λ look. All (Follows look) builds) looks
+abbrev pub AllLearnedFrom : List CellNote → List CellNote → Type 0
+AllLearnedFrom looks builds = All (λ look. All (LearnedFrom look) builds) looks
 
 -- notes with the same bell are of one cell
 abbrev pub AreOfCells : List CellNote → List CellNote → Type 0

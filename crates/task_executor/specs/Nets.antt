@@ -1,5 +1,6 @@
 -- The net of a plan over its tables, and what a run of it says.
-use Rattle.std.specs.Prelude.{◌≡◌, ℕ, List, ◌∷◌, All, None, false}
+use Rattle.std.specs.Prelude.{◌≡◌, ℕ, List, ◌∷◌, All, None, false, length, map}
+use Rattle.std.specs.List.{range_with_len}
 use Rattle.operator_core.specs.Rows.{Row}
 use Rattle.driver_loop.specs.Drivers.{DriverState}
 use Rattle.driver_loop.specs.declared.run_fault.RunFault.{RunFault}
@@ -20,6 +21,10 @@ pub record IsNew (d : DriverState) : Type 0 where
   pub going : d.is_finished ≡ false
   pub unfailed : d.fault ≡ None
 
+-- each driver has the number of its place
+abbrev pub AreNumbered : List DriverState → Type 0
+AreNumbered drivers = map (λ d. d.number) drivers ≡ range_with_len 0 (length drivers)
+
 -- the drivers run the plan over the tables: the first one the pipeline of the root, whose rows are kept, and the
 -- others those of the right sides of joins, each of which publishes its rows where the join looks
 pub record IsNetOf (plan : PlanForm) (tables : List (List Row)) (drivers : List DriverState) : Type 0 where
@@ -35,6 +40,7 @@ pub record IsNetOf (plan : PlanForm) (tables : List (List Row)) (drivers : List 
   pub runs : RunsPipeline names tables (run_of root) bells main
   pub result : IsResult main.target
   pub built : AreSides names tables (run_of root) bells sides
+  pub numbers : AreNumbered drivers
 
 -- why a run gave no rows: an expression of the tree may fail so, or memory was wanting
 abbrev pub FailsFor : TreeForm → List (List Row) → RunFault → Type 0

@@ -12,7 +12,7 @@ use Rattle.driver_loop.specs.declared.run_fault.RunFault.TheVariants.{ExprFailed
 use Rattle.operator_core.specs.Rows.{Row}
 use Rattle.operator_core.specs.Stages.{AllCameFrom}
 use Rattle.driver_loop.specs.Turns.{note_of_stage, note_of_target}
-use Rattle.task_executor.specs.Cells.{AllFollow}
+use Rattle.task_executor.specs.Cells.{AllLearnedFrom}
 use Rattle.task_executor.specs.Reads.{IsAlone}
 
 -- the driver is the other one, after some turns: its parts were made so, and its stages may have learned since
@@ -71,5 +71,5 @@ pub record IsStill (d : DriverState) : Type 0 where
 -- drivers that were stopped, and the rows of the first of them
 pub record AreStill (drivers : List DriverState) (rows : List Row) : Type 0 where
   pub each : All IsStill drivers
-  pub follow : AllFollow (flat_map (λ (d : DriverState). flat_map note_of_stage d.stages) drivers) (flat_map (λ (d : DriverState). note_of_target d.target) drivers)
+  pub follow : AllLearnedFrom (flat_map (λ (d : DriverState). flat_map note_of_stage d.stages) drivers) (flat_map (λ (d : DriverState). note_of_target d.target) drivers)
   pub first : (main : DriverState) (others : List DriverState) → drivers ≡ main ∷ others → rows ≡ rows_kept main.target

@@ -78,15 +78,33 @@ fn drive<R: Threads + Wait + Sync>(
     ensures done { MatchResult result (λ _. AreUnfailed drivers.new.items × AreFinished drivers.new.items)
         (AreFailing drivers.new.items) }
 {
-    for pick in picks {
-        let place = *pick as usize % drivers.len();
-        serve(rt, alloc, solo, drivers, place, quantum)?;
-    }
+    serve_picked(rt, alloc, solo, drivers, quantum, picks)?;
     for _ in rt.forever() {
         if are_finished(drivers) {
             break;
         }
         serve_all(rt, alloc, solo, drivers, quantum)?;
+    }
+    Ok(())
+}
+
+/// Gives a turn to each driver that is picked, unless it is finished. A pick counts round and round.
+fn serve_picked<R: Threads + Wait + Sync>(
+    rt: &R,
+    alloc: Global,
+    solo: &Solo,
+    drivers: &mut Vec<Driver<'_>>,
+    quantum: u32,
+    picks: &[u32],
+) -> Result<(), RunFault>
+    requires some { 0 < length drivers.old.items }
+    requires unfailed { AreUnfailed drivers.old.items }
+    ensures later { AreLater drivers.old.items drivers.new.items }
+    ensures done { MatchResult result (λ _. AreUnfailed drivers.new.items) (AreFailing drivers.new.items) }
+{
+    for pick in picks {
+        let place = *pick as usize % drivers.len();
+        serve(rt, alloc, solo, drivers, place, quantum)?;
     }
     Ok(())
 }

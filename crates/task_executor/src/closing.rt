@@ -1,9 +1,9 @@
 //! The end of a run: its drivers are taken apart, and what they tell of each other is compared.
 ghost use Rattle.std.specs.Prelude.{◌≡◌, ◌<◌, ◌++◌, ◌∷◌, [], List, true, length, flat_map, All, IfOk, OnOk};
-ghost use Rattle.driver_loop.specs.Drivers.{DriverState, IsWhole};
+ghost use Rattle.driver_loop.specs.Drivers.{IsWhole};
 ghost use Rattle.driver_loop.specs.Ends.{rows_kept};
 ghost use Rattle.driver_loop.specs.Turns.{note_of_stage, note_of_target};
-ghost use Rattle.task_executor.specs.Cells.{AllFollow, AreNamed, AreOfCells, Follows};
+ghost use Rattle.task_executor.specs.Cells.{AllLearnedFrom, AreNamed, AreOfCells, LearnedFrom};
 ghost use Rattle.task_executor.specs.Closing.{HaveKept, IsOneIf, WereTaken};
 ghost use Rattle.task_executor.specs.Reads.{IsAlone};
 ghost use Rattle.task_executor.specs.Turns.{AreAlone, AreStill, AreWholeDrivers, IsAll, IsStill, IsStopped};
@@ -128,7 +128,7 @@ fn alone<'w>(alloc: Global, seat: ClaimSeat<'w>) -> Result<Vec<ClaimSeat<'w>>, M
 /// Whether those who publish know all that those who look into the same cells know.
 fn all_follow(looks: &mut Vec<CellNote>, builds: &mut Vec<CellNote>) -> bool
     requires { AreOfCells looks.old.items builds.old.items }
-    ensures { result ≡ true → AllFollow looks.old.items builds.old.items }
+    ensures { result ≡ true → AllLearnedFrom looks.old.items builds.old.items }
 {
     for place in 0..looks.len() {
         if !all_follow_one(&mut looks[place], builds) {
@@ -144,7 +144,7 @@ fn all_follow_one(look: &mut CellNote, builds: &mut Vec<CellNote>) -> bool
         builds.old.items }
     ensures look { look.new ≡ look.old }
     ensures builds { builds.new.items ≡ builds.old.items }
-    ensures follow { result ≡ true → All (Follows look.old) builds.old.items }
+    ensures follow { result ≡ true → All (LearnedFrom look.old) builds.old.items }
 {
     for place in 0..builds.len() {
         if !follows(look, &mut builds[place]) {
@@ -159,7 +159,7 @@ fn follows(look: &mut CellNote, build: &mut CellNote) -> bool
     requires { build.old.bell ≡ look.old.bell → build.old.note.cell ≡ look.old.note.cell }
     ensures look { look.new ≡ look.old }
     ensures build { build.new ≡ build.old }
-    ensures follows { result ≡ true → Follows look.old build.old }
+    ensures follows { result ≡ true → LearnedFrom look.old build.old }
 {
     if build.bell != look.bell {
         return true;

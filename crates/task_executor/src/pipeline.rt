@@ -19,12 +19,12 @@ ghost use Rattle.task_executor.specs.Pipelines.{CanFit, Extends, IsMadeFor, IsSt
 ghost use Rattle.task_executor.specs.Sides.{bells_along, sides_in};
 
 use crate::sides::count_sides;
-use crate::types::{append_types, kinds_of, types_of_node};
+use crate::types::{kinds_of, types_of_node};
 use driver_loop::Stage;
 use hash_join::{LookupCell, ProbeOp};
 use operator_core::Operator;
 use plan_reader::{Node, Pair, copy_exprs};
-use plan_trees::{append_call_types, append_key_types};
+use plan_trees::{append_call_types, append_key_types, append_types};
 use row_ops::LimitOp;
 use sql_exprs::{Expr, copy_expr};
 use sql_values::{Call, JoinKind, KeySpec, Memory, SqlType, Types};

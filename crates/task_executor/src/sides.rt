@@ -1,17 +1,15 @@
 //! The drivers of the right sides of joins.
 ghost use Rattle.std.specs.Prelude.{◌≡◌, ◌<◌, ◌+◌, ℕ, List, [], ◌∷◌, false, None, length, map, All, IfOk, OnOk};
 ghost use Rattle.hash_join.specs.Cells.{CellState};
-ghost use Rattle.driver_loop.specs.Drivers.{DriverState};
 ghost use Rattle.plan_docs.specs.Nodes.{node_view};
 ghost use Rattle.plan_pipelines.specs.Built.{AreRead, IsBuilt};
 ghost use Rattle.plan_pipelines.specs.Fragments.{run_of};
 ghost use Rattle.plan_runs.specs.RunPlans.{tree_of_run};
-ghost use Rattle.plan_trees.specs.TreeForms.{pair_view};
 ghost use Rattle.plan_trees.specs.TreeTypes.{types_of};
 ghost use Rattle.tree_evaluator.specs.Fits.{FitsTables, TablesFit};
 ghost use Rattle.tree_evaluator.specs.Stops.{rows_of};
 ghost use Rattle.task_executor.specs.Cells.{IsNamed, Names};
-ghost use Rattle.task_executor.specs.Nets.{IsNew};
+ghost use Rattle.task_executor.specs.Nets.{AreNumbered, IsNew};
 ghost use Rattle.task_executor.specs.Sides.{AddedSides, BuildsFor, RunsPipeline, bells_along, sides_in};
 ghost use Rattle.task_executor.specs.Wirings.{AreClaimsFor, AreFew, IsClaimFor, IsShape};
 
@@ -80,7 +78,9 @@ pub(crate) fn add_sides<'w>(
     requires cells { length cells.now ≡ length (sides_in (node_view node.now)) }
     requires claims { AreClaimsFor tables.now shape.now.split (sides_in (node_view node.now)) claims.old }
     requires fresh { All IsNew drivers.old.items }
+    requires numbers { AreNumbered drivers.old.items }
     ensures fresh { OnOk result (All IsNew drivers.new.items) }
+    ensures numbers { OnOk result (AreNumbered drivers.new.items) }
     ensures sides { OnOk result ((names : Names) → All (IsNamed names) cells.now
         → AddedSides names (map rows_of tables.now) (run_of (node_view node.now))
         (bells_along (node_view node.now) (map (λ (cell : CellState). cell.bell) cells.now))
@@ -138,7 +138,7 @@ pub(crate) fn add_sides<'w>(
     }
 }
 
-/// The driver of the right side of a join on these columns, which publishes in the cell.
+/// The driver of this number, that of the right side of a join on these columns, which publishes in the cell.
 fn side_driver<'w>(
     alloc: Global,
     tables: &'w [Table],
@@ -159,6 +159,7 @@ fn side_driver<'w>(
     requires cells { length cells.now ≡ length (sides_in (node_view right.now)) }
     requires claims { IsClaimFor tables.now shape.now.split (node_view right.now) claims.old }
     ensures fresh { IfOk result IsNew }
+    ensures number { IfOk result (λ d. d.number ≡ number.entry) }
     ensures runs { IfOk result (λ d. (names : Names) → All (IsNamed names) cells.now
         → RunsPipeline names (map rows_of tables.now) (run_of (node_view right.now))
         (bells_along (node_view right.now) (map (λ (cell : CellState). cell.bell) cells.now)) d) }

@@ -6,8 +6,7 @@ use std::alloc::Global;
 use std::sync::Wait;
 use std::thread::Threads;
 
-/// Bells at which nobody is parked: a driver that waits is asked again in its order. The nets that are built
-/// have no edge and no cell, so that no bell ever rings.
+/// Bells at which nobody is parked: a driver that waits is asked again in its order, so a ring wakes nobody.
 #[derive(Drop)]
 pub(crate) struct StillBells {
     pub(crate) alloc: Global,

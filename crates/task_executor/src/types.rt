@@ -1,5 +1,5 @@
 //! The types of the rows of nodes.
-ghost use Rattle.std.specs.Prelude.{◌≡◌, ◌++◌, map, IfOk, OnOk};
+ghost use Rattle.std.specs.Prelude.{◌≡◌, map, IfOk};
 ghost use Rattle.sql_exprs.specs.Forms.{form_view};
 ghost use Rattle.sql_exprs.specs.Meaning.{kind_of};
 ghost use Rattle.plan_docs.specs.Nodes.{node_view};
@@ -8,7 +8,7 @@ ghost use Rattle.plan_runs.specs.RunPlans.{tree_of_run};
 ghost use Rattle.plan_trees.specs.TreeTypes.{types_of};
 
 use plan_reader::Node;
-use plan_trees::{append_call_types, append_key_types};
+use plan_trees::{append_call_types, append_key_types, append_types};
 use sql_exprs::{Expr, kind_of};
 use sql_values::{Memory, SqlType, Types};
 use std::alloc::Global;
@@ -57,16 +57,6 @@ fn copy_types(alloc: Global, types: &[SqlType]) -> Result<Types, Memory>
     ensures { IfOk result (λ copy. copy ≡ types.now) }
 {
     Ok(Types::of(Vec::from_slice(alloc, types)?))
-}
-
-/// Appends types.
-pub(crate) fn append_types(types: &mut Types, more: &[SqlType]) -> Result<(), Memory>
-    ensures { OnOk result (types.new ≡ types.old ++ more.now) }
-{
-    for kind in more {
-        types.push(*kind)?;
-    }
-    Ok(())
 }
 
 /// The types of the values of these columns.

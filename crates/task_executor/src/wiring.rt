@@ -2,10 +2,9 @@
 ghost use Rattle.std.specs.Prelude.{◌≡◌, ◌<◌, ◌++◌, List, [], ◌∷◌, false, IfOk, OnOk, length, map};
 ghost use Rattle.std.specs.List.{range_with_len};
 ghost use Rattle.hash_join.specs.Cells.{CellState};
-ghost use Rattle.plan_docs.specs.Nodes.{NodeForm, node_view};
+ghost use Rattle.plan_docs.specs.Nodes.{node_view};
 ghost use Rattle.plan_docs.specs.Plans.{plan_view};
 ghost use Rattle.plan_pipelines.specs.Built.{AreRead, CanBeRead, IsBuilt, IsRunnable};
-ghost use Rattle.split_source.specs.Seats.{ClaimsState};
 ghost use Rattle.split_source.specs.Seats.{AreAllOf, new_seat};
 ghost use Rattle.task_executor.specs.Sides.{sides_in};
 ghost use Rattle.task_executor.specs.Wirings.{AddedClaims, AreFew, IsClaimFor, IsShape, IsWiredFor, below_view, root_in, splits_of};

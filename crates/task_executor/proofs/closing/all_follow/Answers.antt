@@ -2,7 +2,7 @@ use Rattle.std.proofs.Common.{◌≤◌, ◌∙◌, List, ap, arith, length, ref
 use Rattle.std.specs.Prelude.{All}
 use Rattle.std.proofs.lemmas.List.{take_all}
 use Rattle.driver_loop.specs.declared.pieces.CellNote.{CellNote}
-use Rattle.task_executor.specs.Cells.{Follows}
+use Rattle.task_executor.specs.Cells.{LearnedFrom}
 use Rattle.task_executor.proofs.NoteLemmas.{all_compared, same_at}
 use Rattle.task_executor.proofs.closing.all_follow.Goals as goal
 
@@ -20,4 +20,4 @@ loop-place-preserved c =
 pub returns : goal.returns
 returns c = λ e.
     let past : length c.args.looks.now.items ≤ c.loop-place.place = omega (arith, c.loop-place-test.false, c.len-place-end.ensures, c.args.looks.now.ok.0) in
-    subst (All (λ (look : CellNote). All (Follows look) c.args.builds.now.items)) (take_all c.loop-place.place c.args.looks.now.items past) c.loop-place.invariant.front
+    subst (All (λ (look : CellNote). All (LearnedFrom look) c.args.builds.now.items)) (take_all c.loop-place.place c.args.looks.now.items past) c.loop-place.invariant.front

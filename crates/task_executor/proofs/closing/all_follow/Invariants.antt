@@ -1,6 +1,6 @@
 use Rattle.std.proofs.Common.{◌≡◌, take}
 use Rattle.std.specs.Prelude.{All}
-use Rattle.task_executor.specs.Cells.{Follows}
+use Rattle.task_executor.specs.Cells.{LearnedFrom}
 use Rattle.driver_loop.specs.declared.pieces.CellNote.{CellNote}
 use Rattle.task_executor.proofs.closing.all_follow.Given as goal
 
@@ -8,5 +8,5 @@ abbrev pub invariant-loop-place : goal.invariant-loop-place
 invariant-loop-place l = record {
   looks : l.looks.items ≡ l.fn.looks.items;
   builds : l.builds.items ≡ l.fn.builds.items;
-  front : All (λ (look : CellNote). All (Follows look) l.fn.builds.items) (take l.place l.fn.looks.items);
+  front : All (λ (look : CellNote). All (LearnedFrom look) l.fn.builds.items) (take l.place l.fn.looks.items);
 }

@@ -2,7 +2,7 @@ use Rattle.std.proofs.Common.{◌≤◌, ◌∙◌, List, ap, arith, length, ref
 use Rattle.std.specs.Prelude.{All}
 use Rattle.std.proofs.lemmas.List.{take_all}
 use Rattle.driver_loop.specs.declared.pieces.CellNote.{CellNote}
-use Rattle.task_executor.specs.Cells.{Follows}
+use Rattle.task_executor.specs.Cells.{LearnedFrom}
 use Rattle.task_executor.proofs.NoteLemmas.{compared, same_at}
 use Rattle.task_executor.proofs.closing.all_follow_one.Goals as goal
 
@@ -21,4 +21,4 @@ loop-place-preserved c =
 pub returns-clause-follow : goal.returns-clause-follow
 returns-clause-follow c = λ e.
     let past : length c.args.builds.now.items ≤ c.loop-place.place = omega (arith, c.loop-place-test.false, c.len-place-end.ensures, c.args.builds.now.ok.0) in
-    subst (All (Follows c.args.look.now)) (take_all c.loop-place.place c.args.builds.now.items past) c.loop-place.invariant.front
+    subst (All (LearnedFrom c.args.look.now)) (take_all c.loop-place.place c.args.builds.now.items past) c.loop-place.invariant.front

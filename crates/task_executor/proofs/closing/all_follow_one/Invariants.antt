@@ -1,11 +1,11 @@
 use Rattle.std.proofs.Common.{◌≡◌, take}
 use Rattle.std.specs.Prelude.{All}
-use Rattle.task_executor.specs.Cells.{Follows}
+use Rattle.task_executor.specs.Cells.{LearnedFrom}
 use Rattle.task_executor.proofs.closing.all_follow_one.Given as goal
 
 abbrev pub invariant-loop-place : goal.invariant-loop-place
 invariant-loop-place l = record {
   look : l.look ≡ l.fn.look;
   builds : l.builds.items ≡ l.fn.builds.items;
-  front : All (Follows l.fn.look) (take l.place l.fn.builds.items);
+  front : All (LearnedFrom l.fn.look) (take l.place l.fn.builds.items);
 }

@@ -14,7 +14,7 @@ use Rattle.task_executor.specs.Cells.{IsNamed, Names}
 use Rattle.task_executor.specs.Nets.{IsNew}
 use Rattle.task_executor.specs.Sides.{AddedSides, bells_along, sides_in}
 use Rattle.task_executor.specs.Wirings.{IsClaimFor}
-use Rattle.task_executor.proofs.NetLemmas.{cells_at, front_claims, joined_sides, own_claims, room_for_join, same_sides, tail_claims, tail_level}
+use Rattle.task_executor.proofs.NetLemmas.{cells_at, front_claims, joined_sides, next_number, own_claims, room_for_join, same_sides, tail_claims, tail_level}
 use Rattle.task_executor.proofs.NodeLemmas.{left_falls, right_falls}
 use Rattle.task_executor.proofs.PipelineLemmas.{view_aggregate, view_filter, view_join, view_limit, view_project, view_sort, view_topn}
 use Rattle.task_executor.proofs.ZipLemmas.{zip_length}
@@ -190,7 +190,7 @@ add_sides-requires-in-Join t c =
                     c.split_at.ensures.front_len ∙ counted,
                     (
                       front_claims c.args.tables.now c.args.shape.now.split (node_view c.args.node.now) left right c.args.claims.now c.split_at_mut-left_claims.result.0.now c.in_ok-count-in-Join.count is counted c.requires.claims c.split_at_mut-left_claims.ensures.front,
-                      c.requires.fresh,
+                      (c.requires.fresh, c.requires.numbers),
                     ),
                   ),
                 ),
@@ -228,7 +228,10 @@ add_sides-requires-in-Join-2 t c =
                     tail_level (length c.args.cells.now) c.in_ok-count-in-Join.count (length c.split_at.result.1.now) (length c.in-Some.cells.now) (node_view c.args.node.now) left right c.requires.cells is counted c.split_at.ensures.back_len c.in-Some.ensures.cases.1,
                     (
                       tail_claims c.args.tables.now c.args.shape.now.split (node_view c.args.node.now) left right c.args.claims.now c.split_at_mut-left_claims.result.1.now c.in-Some-split_first_mut.claims.now c.in-Some-split_first_mut.own.now c.in_ok-count-in-Join.count is counted c.requires.claims c.split_at_mut-left_claims.ensures.back c.in-Some-split_first_mut.ensures.cases.0,
-                      subst (All IsNew) (sym c.in_ok-push-in-Join.ensures.items) (All-append IsNew c.add_sides-in-Join.new.drivers.items (c.in_ok-side-in-Join.side ∷ []) c.in_ok-add_sides-in-Join.ensures.fresh (All-cons IsNew c.in_ok-side-in-Join.side [] c.in_ok-side-in-Join.ensures.fresh (All-nil IsNew))),
+                      (
+                        subst (All IsNew) (sym c.in_ok-push-in-Join.ensures.items) (All-append IsNew c.add_sides-in-Join.new.drivers.items (c.in_ok-side-in-Join.side ∷ []) c.in_ok-add_sides-in-Join.ensures.fresh (All-cons IsNew c.in_ok-side-in-Join.side [] c.in_ok-side-in-Join.ensures.fresh (All-nil IsNew))),
+                        next_number c.add_sides-in-Join.new.drivers.items c.push.new.self.items c.in_ok-side-in-Join.side c.in_ok-add_sides-in-Join.ensures.numbers c.in_ok-push-in-Join.ensures.items c.in_ok-side-in-Join.ensures.number,
+                      ),
                     ),
                   ),
                 ),

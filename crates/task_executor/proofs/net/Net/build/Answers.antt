@@ -5,7 +5,7 @@ use Rattle.plan_docs.specs.Plans.{plan_view}
 use Rattle.tree_evaluator.specs.Stops.{rows_of}
 use Rattle.task_executor.specs.Sides.{IsResult}
 use Rattle.task_executor.specs.Wirings.{below_view}
-use Rattle.task_executor.proofs.NetLemmas.{net_made, root_cells, root_fits_run, root_read}
+use Rattle.task_executor.proofs.NetLemmas.{first_number, net_made, root_cells, root_fits_run, root_read}
 use Rattle.task_executor.proofs.WiringLemmas.{root_fits, root_rows_fit}
 use Rattle.task_executor.proofs.net.Net.build.Goals as goal
 
@@ -40,6 +40,10 @@ add_sides-requires-clause-cells c =
     root_cells (plan_view c.args.plan.now) (node_view c.root_of-root.result.now) c.as_slice-cells.result.now c.args.wiring.now.cells.items c.root_of-root.ensures c.as_slice-cells.ensures.value
     c.requires.wired.cells
 
+pub add_sides-requires-clause-numbers : goal.add_sides-requires-clause-numbers
+add_sides-requires-clause-numbers c =
+    first_number c.new-drivers.result.items c.push.new.self.items c.in_ok-new.field-0 c.new-drivers.ensures.items c.in_ok-push.ensures.items (ap (λ (d : DriverState). d.number) c.in_ok-new.ensures)
+
 pub invariant_of-result : goal.invariant_of-result
 invariant_of-result c =
     let r = c.requires.runnable in
@@ -52,7 +56,7 @@ invariant_of-result c =
           c.args.wiring.now.cells.items c.in_ok-pipeline.pipeline c.in_ok-source.source (below_view c.source_below.result) main c.new-drivers.result.items c.push.new.self.items
           c.add_sides.new.drivers.items r.one r.built c.root_of-root.ensures c.requires.fits c.as_slice-cells.ensures.value c.requires.wired.cells
           (ap (λ (d : DriverState). d.source) made) c.in_ok-source.ensures.reads c.source_below.ensures (ap (λ (d : DriverState). d.stages) made) c.in_ok-pipeline.ensures.made
-          (subst IsResult (sym (ap (λ (d : DriverState). d.target) made)) tt) c.new-drivers.ensures.items c.in_ok-push.ensures.items c.in_ok-add_sides.ensures.sides;
+          (subst IsResult (sym (ap (λ (d : DriverState). d.target) made)) tt) c.new-drivers.ensures.items c.in_ok-push.ensures.items c.in_ok-add_sides.ensures.sides c.in_ok-add_sides.ensures.numbers;
       fresh = c.in_ok-add_sides.ensures.fresh;
     }
 
@@ -65,4 +69,4 @@ returns c =
     c.args.wiring.now.cells.items c.in_ok-pipeline.pipeline c.in_ok-source.source (below_view c.source_below.result) main c.new-drivers.result.items c.push.new.self.items
     c.add_sides.new.drivers.items r.one r.built c.root_of-root.ensures c.requires.fits c.as_slice-cells.ensures.value c.requires.wired.cells
     (ap (λ (d : DriverState). d.source) made) c.in_ok-source.ensures.reads c.source_below.ensures (ap (λ (d : DriverState). d.stages) made) c.in_ok-pipeline.ensures.made
-    (subst IsResult (sym (ap (λ (d : DriverState). d.target) made)) tt) c.new-drivers.ensures.items c.in_ok-push.ensures.items c.in_ok-add_sides.ensures.sides
+    (subst IsResult (sym (ap (λ (d : DriverState). d.target) made)) tt) c.new-drivers.ensures.items c.in_ok-push.ensures.items c.in_ok-add_sides.ensures.sides c.in_ok-add_sides.ensures.numbers

@@ -1,6 +1,5 @@
 ghost use Rattle.std.specs.Prelude.{◌≡◌, ◌++◌, [], true, false, IfOk, OnErr, MatchOption};
 ghost use Rattle.relations.specs.Sorts.{IsBeginning};
-ghost use Rattle.row_ops.specs.ValueRows.{rows_left};
 
 use col_pages::Page;
 use operator_core::Operator;

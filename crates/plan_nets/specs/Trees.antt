@@ -9,7 +9,7 @@ use Rattle.plan_runs.specs.RunPlans.{RunPlan, tree_of_run, scan, values, remote,
 use Rattle.plan_runs.specs.Spreads.{Tables}
 use Rattle.stage_meanings.specs.Pipelines.{NodeStage, at_node}
 
--- no node reads another fragment or two pipelines, and each does the whole of its operator
+-- no node reads another fragment or is a union, and each does the whole of its operator
 abbrev pub IsInOneTask : RunPlan → Type 0
 IsInOneTask (scan id table columns types) = Unit {0}
 IsInOneTask (values id types rows) = Unit {0}

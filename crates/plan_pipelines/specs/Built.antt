@@ -9,7 +9,8 @@ use Rattle.plan_docs.specs.Nodes as node
 use Rattle.plan_docs.specs.Plans.{PlanForm}
 use Rattle.plan_pipelines.specs.Fragments.{IsOneFragment}
 
--- scans and constant rows, and operators over these: each the whole of its operator, and no join with filters
+-- scans and constant rows, and operators over these: aggregates of whole groups, and no join with filters. That a top n
+-- and a limit are whole, too, is said of their fragment.
 abbrev pub IsBuilt : NodeForm → Type 0
 IsBuilt (node.scan id table columns types) = Unit {0}
 IsBuilt (node.values id types rows) = Unit {0}

@@ -167,8 +167,8 @@ range-snoc n =
 
 -- the numbers of drivers are those of their places
 pub first_number : (none pushed : List DriverState) (main : DriverState) → none ≡ [] → pushed ≡ none ++ main ∷ [] → main.number ≡ 0 → AreNumbered pushed
-first_number none pushed main empty push zero =
-    subst AreNumbered (sym (push ∙ ap (λ (ds : List DriverState). ds ++ main ∷ []) empty)) (ap (λ (n : ℕ). n ∷ []) zero)
+first_number none pushed main empty push first =
+    subst AreNumbered (sym (push ∙ ap (λ (ds : List DriverState). ds ++ main ∷ []) empty)) (ap (λ (n : ℕ). n ∷ []) first)
 
 pub next_number : (drivers pushed : List DriverState) (d : DriverState) → AreNumbered drivers → pushed ≡ drivers ++ d ∷ [] → d.number ≡ length drivers → AreNumbered pushed
 next_number drivers pushed d before push own =

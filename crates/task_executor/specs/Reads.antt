@@ -12,7 +12,7 @@ use Rattle.page_judges.specs.Typed.{AllFit}
 use Rattle.plan_trees.specs.Allowed.{scanned}
 use Rattle.plan_pipelines.specs.Built.{PipelineSource, from_plan, from_table}
 
--- the scan reads the source's rows of a pipeline by a seat that is the only one
+-- the scan reads the rows of a pipeline's source by a seat that is the only one
 pub record ReadsAlone (scan : ScanState) (rows : List Row) : Type 0 where
   pub alone : AreAllOf scan.seat.claims (scan.seat ∷ [])
   pub size : 0 < scan.size

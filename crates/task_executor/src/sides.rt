@@ -159,7 +159,7 @@ fn side_driver<'w>(
     requires cells { length cells.now ≡ length (sides_in (node_view right.now)) }
     requires claims { IsClaimFor tables.now shape.now.split (node_view right.now) claims.old }
     ensures fresh { IfOk result IsNew }
-    ensures number { IfOk result (λ d. d.number ≡ number.entry) }
+    ensures number { IfOk result (λ d. d.number ≡ number) }
     ensures runs { IfOk result (λ d. (names : Names) → All (IsNamed names) cells.now
         → RunsPipeline names (map rows_of tables.now) (run_of (node_view right.now))
         (bells_along (node_view right.now) (map (λ (cell : CellState). cell.bell) cells.now)) d) }

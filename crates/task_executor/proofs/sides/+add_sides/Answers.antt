@@ -230,7 +230,7 @@ add_sides-requires-in-Join-2 t c =
                       tail_claims c.args.tables.now c.args.shape.now.split (node_view c.args.node.now) left right c.args.claims.now c.split_at_mut-left_claims.result.1.now c.in-Some-split_first_mut.claims.now c.in-Some-split_first_mut.own.now c.in_ok-count-in-Join.count is counted c.requires.claims c.split_at_mut-left_claims.ensures.back c.in-Some-split_first_mut.ensures.cases.0,
                       (
                         subst (All IsNew) (sym c.in_ok-push-in-Join.ensures.items) (All-append IsNew c.add_sides-in-Join.new.drivers.items (c.in_ok-side-in-Join.side ∷ []) c.in_ok-add_sides-in-Join.ensures.fresh (All-cons IsNew c.in_ok-side-in-Join.side [] c.in_ok-side-in-Join.ensures.fresh (All-nil IsNew))),
-                        next_number c.add_sides-in-Join.new.drivers.items c.push.new.self.items c.in_ok-side-in-Join.side c.in_ok-add_sides-in-Join.ensures.numbers c.in_ok-push-in-Join.ensures.items c.in_ok-side-in-Join.ensures.number,
+                        next_number c.add_sides-in-Join.new.drivers.items c.push.new.self.items c.in_ok-side-in-Join.side c.in_ok-add_sides-in-Join.ensures.numbers c.in_ok-push-in-Join.ensures.items (omega (arith, c.in_ok-side-in-Join.ensures.number, c.len.ensures, c.add_sides-in-Join.new.drivers.ok.0)),
                       ),
                     ),
                   ),

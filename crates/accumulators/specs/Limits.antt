@@ -21,7 +21,7 @@ abbrev pub greatest : SqlType → ℕ
 greatest (type.Decimal p s) = 10 ^ p - 1
 greatest kind = 2 ^ 63
 
--- decimals of so few digits that sums stay within 38
+-- bigints, and decimals of so few digits that sums stay within 38
 abbrev pub is_short : SqlType → Bool
 is_short (type.Decimal p s) = nat_le p 18
 is_short kind = is_bigint kind

@@ -1,11 +1,11 @@
 -- A group with the rows of a part, what its partial row tells, and that it is one.
 use Rattle.std.proofs.Common.{◌≡◌, ℕ, ◌+◌, ◌^◌, ◌<◌, ◌≤◌, zero, suc, List, [], ◌∷◌, ◌++◌, length, get_or, drop, take, map, refl, ap, sym, subst, ◌∙◌, arith, drop_at, ◌⊎◌, inl, inr}
-use Rattle.std.specs.Prelude.{All, Bool, IsTrue, flat_map, replicate, sum_by, Result, Ok, Err, OnOk, OnErr, nat_abs, nat_le, int_le, pos, ◌&&◌, true, if◌then◌else◌}
+use Rattle.std.specs.Prelude.{All, Bool, IsTrue, flat_map, replicate, sum_by, Err, nat_abs, nat_le, int_le, pos, ◌&&◌, true, if◌then◌else◌}
 use Rattle.std.specs.List.{list_all}
 use Rattle.std.proofs.lemmas.Bool.{and_from, and_parts, cases_lt, le-leb, lt-leb}
-use Rattle.std.proofs.lemmas.List.{append_assoc, drop-map, drop-replicate, length-map, map-append, replicate-append-replicate, take-append-drop, take-map, take-replicate, take_more}
+use Rattle.std.proofs.lemmas.List.{append_assoc, drop-replicate, length-map, map-append, replicate-append-replicate, take-replicate, take_more}
 use Rattle.std.proofs.lemmas.List.Sums.{sum_by-append, sum_by-cons}
-use Rattle.std.proofs.lemmas.List.Elements.{All-cons, All-head, All-nil, All-tail}
+use Rattle.std.proofs.lemmas.List.Elements.{All-cons, All-head, All-nil, All-same, All-tail}
 use Rattle.sql_values.specs.declared.types.SqlType.{SqlType}
 use Rattle.sql_values.specs.declared.value.Value.{Value}
 use Rattle.sql_values.specs.declared.value.Value.TheVariants.{Null}
@@ -20,12 +20,12 @@ use Rattle.relations.specs.Aggregates.{all_values, most_rows, within_rows}
 use Rattle.relations.specs.Partials.{call_columns, call_from, call_width, calls_from, merged, merged_calls, overfull, partial_of, results_from, rows_in, with_rows}
 use Rattle.relations.proofs.PartialLemmas.{beyond_most, within_most}
 use Rattle.accumulators.specs.Columns.{columns_of, kind_in}
-use Rattle.accumulators.specs.Kept.{IsBegun, Kept, added_row, kept_of_none, all_columns, calls_of, kinds_of, merged_each, outcome_from, outcome_in}
+use Rattle.accumulators.specs.Kept.{Kept, added_row, kept_of_none, all_columns, calls_of, kinds_of, merged_each, outcome_from, outcome_in}
 use Rattle.accumulators.specs.Limits.{CanAdd, CanMergeEach, IsKept, takes_row, are_all_columns, are_columns, are_null, is_partial, is_row_count}
 use Rattle.accumulators.specs.Groups.{Group, IsGroup, all_outcomes, empty_group, group_kept, with_part, with_row}
 use Rattle.accumulators.proofs.ColumnLemmas.{calls-merged, columns-merged, columns_of_row, first, first_two, kinds-merged, rows-merged, width-columns}
 use Rattle.accumulators.proofs.CellLemmas.{behind_first, first_cell}
-use Rattle.accumulators.proofs.KeptLemmas.{all-more, begun-kept, columns-can_merge, columns-kept, row-can_add, row-kept}
+use Rattle.accumulators.proofs.KeptLemmas.{columns-can_merge, columns-kept, row-can_add, row-kept}
 
 -- how many rows a group's partial row tells
 pub rows-told : (calls : List Call) (rows : ℕ) (columns : List Value) → rows ≤ 2 ^ 63 → rows_in (with_rows calls rows columns) ≡ rows
@@ -255,30 +255,11 @@ module _ (calls : List Call) (kinds : List SqlType) (row : List Value) (first ro
       ∙ ap (λ (b : Bool). if b then are_all_columns (rows_in part) calls kinds (drop 1 part) else are_null calls (drop 1 part)) (sym (lt-leb (rows_in part) most_rows (omega (arith, many, rows-here)))))
 
 -- whatever was merged in, the calls and what they add are the same
-begun-stays : {X : Type 0} (f : Kept → X) (aimed before now : List Kept) → map f aimed ≡ map f before → IsBegun aimed before now → map f now ≡ map f before
-begun-stays f aimed before now same (n, e) =
-    ap (map f) e ∙ map-append f (take n aimed) (drop n before)
-    ∙ (λ i. sym (take-map f n aimed) i ++ sym (drop-map f n before) i)
-    ∙ ap (λ xs. take n xs ++ drop n (map f before)) same
-    ∙ take-append-drop n (map f before)
+pub merge-stays : (ks now : List Kept) (columns : List Value) → now ≡ merged_each ks columns → (calls_of now ≡ calls_of ks) × (kinds_of now ≡ kinds_of ks)
+merge-stays ks now columns e = (ap calls_of e ∙ calls-merged ks columns, ap kinds_of e ∙ kinds-merged ks columns)
 
-stays : {X E : Type 0} (f : Kept → X) (aimed before now : List Kept) (r : Result (Unit {0}) E) → map f aimed ≡ map f before → OnOk r (now ≡ aimed) → OnErr r (IsBegun aimed before now) → map f now ≡ map f before
-stays f aimed before now (Ok u) same ok err = ap (map f) ok ∙ same
-stays f aimed before now (Err e) same ok err = begun-stays f aimed before now same err
-
-pub merge-stays : {E : Type 0} (ks now : List Kept) (columns : List Value) (r : Result (Unit {0}) E) → OnOk r (now ≡ merged_each ks columns) → OnErr r (IsBegun (merged_each ks columns) ks now)
-    → (calls_of now ≡ calls_of ks) × (kinds_of now ≡ kinds_of ks)
-merge-stays ks now columns r ok err = (
-  stays (λ (k : Kept). k.call) (merged_each ks columns) ks now r (calls-merged ks columns) ok err,
-  stays (λ (k : Kept). k.kind) (merged_each ks columns) ks now r (kinds-merged ks columns) ok err,
-)
-
-pub add-stays : {E : Type 0} (ks now : List Kept) (row : List Value) (r : Result (Unit {0}) E) → OnOk r (now ≡ map (added_row row) ks) → OnErr r (IsBegun (map (added_row row) ks) ks now)
-    → (calls_of now ≡ calls_of ks) × (kinds_of now ≡ kinds_of ks)
-add-stays ks now row r ok err =
-    let e : map (added_row row) ks ≡ merged_each ks (columns_of_row row ks) = rows-merged row ks in
-    merge-stays ks now (columns_of_row row ks) r
-    (subst (λ (xs : List Kept). OnOk r (now ≡ xs)) e ok) (subst (λ (xs : List Kept). OnErr r (IsBegun xs ks now)) e err)
+pub add-stays : (ks now : List Kept) (row : List Value) → now ≡ map (added_row row) ks → (calls_of now ≡ calls_of ks) × (kinds_of now ≡ kinds_of ks)
+add-stays ks now row e = merge-stays ks now (columns_of_row row ks) (e ∙ rows-merged row ks)
 
 same-few : (ks now : List Kept) → calls_of now ≡ calls_of ks → length ks ≤ 2 ^ 20 → length now ≤ 2 ^ 20
 same-few ks now same few = omega (arith, few, ap length same, length-map ks (λ (k : Kept). k.call), length-map now (λ (k : Kept). k.call))
@@ -293,60 +274,37 @@ module _ (a : ℕ) (ks now : List Kept) (g : Group) (view : group_kept a ks ≡ 
   pub can-add : (row : List Value) → a + 1 ≤ most_rows → IsTrue (takes_row g.calls g.kinds row) → All (CanAdd row) ks
   can-add row few h = row-can_add a row ks few (is.all_kept (omega (arith, few))) (takes-view row h)
 
-  after-adding : {E : Type 0} (row : List Value) (r : Result (Unit {0}) E) → a + 1 ≤ most_rows → IsTrue (takes_row g.calls g.kinds row)
-      → OnOk r (now ≡ map (added_row row) ks) → OnErr r (IsBegun (map (added_row row) ks) ks now) → All (IsKept (a + 1)) now
-  after-adding row (Ok u) few h ok err =
-      subst (λ (xs : List Kept). All (IsKept (a + 1)) xs) (sym ok) (row-kept a row ks (is.all_kept (omega (arith, few))) (takes-view row h))
-  after-adding row (Err e) few h ok err =
-      let own = is.all_kept (omega (arith, few)) in
-      begun-kept (a + 1) (map (added_row row) ks) ks now (row-kept a row ks own (takes-view row h)) (all-more a (a + 1) ks (omega arith) own) err
-
-  pub group-added : {E : Type 0} (row : List Value) (r : Result (Unit {0}) E) (rows : ℕ) → rows ≡ a + 1 → a + 1 ≤ most_rows → IsTrue (takes_row g.calls g.kinds row)
-      → OnOk r (now ≡ map (added_row row) ks) → OnErr r (IsBegun (map (added_row row) ks) ks now) → IsGroup rows now
-  group-added row r rows e few h ok err = record {
+  pub group-added : (row : List Value) (rows : ℕ) → rows ≡ a + 1 → a + 1 ≤ most_rows → IsTrue (takes_row g.calls g.kinds row) → now ≡ map (added_row row) ks → IsGroup rows now
+  group-added row rows e few h ok = record {
     few = omega (arith, e, few);
-    few_calls = same-few ks now (add-stays ks now row r ok err).0 is.few_calls;
-    all_kept = λ less. subst (λ (n : ℕ). All (IsKept n) now) (sym e) (after-adding row r few h ok err);
+    few_calls = same-few ks now (add-stays ks now row ok).0 is.few_calls;
+    all_kept = λ less. subst (λ (n : ℕ). All (IsKept n) now) (sym e)
+        (All-same (IsKept (a + 1)) now (map (added_row row) ks) ok (row-kept a row ks (is.all_kept (omega (arith, few))) (takes-view row h)));
   }
 
-  pub view-added : {E : Type 0} (row : List Value) (r : Result (Unit {0}) E) (rows : ℕ) → rows ≡ a + 1 → a + 1 ≤ most_rows
-      → OnOk r (now ≡ map (added_row row) ks) → OnOk r (group_kept rows now ≡ with_row g row)
-  view-added row (Ok u) rows e few ok =
+  pub view-added : (row : List Value) (rows : ℕ) → rows ≡ a + 1 → a + 1 ≤ most_rows → now ≡ map (added_row row) ks → group_kept rows now ≡ with_row g row
+  view-added row rows e few ok =
       (λ i. group_kept (e i) (ok i)) ∙ sym (row-added a ks row few (is.all_kept (omega (arith, few)))) ∙ ap (λ (x : Group). with_row x row) view
-  view-added row (Err x) rows e few ok = tt
 
   pub can-merge : (part columns : List Value) → columns ≡ drop 1 part → a + rows_in part ≤ most_rows → IsTrue (is_partial g.calls g.kinds part) → CanMergeEach ks columns
   can-merge part columns e few h =
       subst (λ (cs : List Value). CanMergeEach ks cs) (sym e)
       (columns-can_merge a (rows_in part) ks (drop 1 part) few (is.all_kept (omega (arith, few))) (columns-of (calls_of ks) (kinds_of ks) part (omega (arith, few)) (part-view part h)))
 
-  after-merging : {E : Type 0} (part : List Value) (r : Result (Unit {0}) E) → a + rows_in part ≤ most_rows → IsTrue (is_partial g.calls g.kinds part)
-      → OnOk r (now ≡ merged_each ks (drop 1 part)) → OnErr r (IsBegun (merged_each ks (drop 1 part)) ks now) → All (IsKept (a + rows_in part)) now
-  after-merging part (Ok u) few h ok err =
-      subst (λ (xs : List Kept). All (IsKept (a + rows_in part)) xs) (sym ok)
-      (columns-kept a (rows_in part) ks (drop 1 part) (is.all_kept (omega (arith, few))) (columns-of (calls_of ks) (kinds_of ks) part (omega (arith, few)) (part-view part h)))
-  after-merging part (Err e) few h ok err =
-      let own = is.all_kept (omega (arith, few)) in
-      begun-kept (a + rows_in part) (merged_each ks (drop 1 part)) ks now
-      (columns-kept a (rows_in part) ks (drop 1 part) own (columns-of (calls_of ks) (kinds_of ks) part (omega (arith, few)) (part-view part h)))
-      (all-more a (a + rows_in part) ks (omega arith) own) err
-
-  pub group-merged : {E : Type 0} (part columns : List Value) (r : Result (Unit {0}) E) (rows : ℕ) → columns ≡ drop 1 part → rows ≡ a + rows_in part → a + rows_in part ≤ most_rows → IsTrue (is_partial g.calls g.kinds part)
-      → OnOk r (now ≡ merged_each ks columns) → OnErr r (IsBegun (merged_each ks columns) ks now) → IsGroup rows now
-  group-merged part columns r rows c e few h ok err = record {
+  pub group-merged : (part columns : List Value) (rows : ℕ) → columns ≡ drop 1 part → rows ≡ a + rows_in part → a + rows_in part ≤ most_rows → IsTrue (is_partial g.calls g.kinds part)
+      → now ≡ merged_each ks columns → IsGroup rows now
+  group-merged part columns rows c e few h ok = record {
     few = omega (arith, e, few);
-    few_calls = same-few ks now (merge-stays ks now columns r ok err).0 is.few_calls;
+    few_calls = same-few ks now (merge-stays ks now columns ok).0 is.few_calls;
     all_kept = λ less. subst (λ (n : ℕ). All (IsKept n) now) (sym e)
-        (after-merging part r few h
-        (subst (λ (cs : List Value). OnOk r (now ≡ merged_each ks cs)) c ok)
-        (subst (λ (cs : List Value). OnErr r (IsBegun (merged_each ks cs) ks now)) c err));
+        (All-same (IsKept (a + rows_in part)) now (merged_each ks (drop 1 part)) (ok ∙ ap (merged_each ks) c)
+        (columns-kept a (rows_in part) ks (drop 1 part) (is.all_kept (omega (arith, few))) (columns-of (calls_of ks) (kinds_of ks) part (omega (arith, few)) (part-view part h))));
   }
 
-  pub view-merged : {E : Type 0} (part columns : List Value) (r : Result (Unit {0}) E) (rows : ℕ) → columns ≡ drop 1 part → rows ≡ a + rows_in part → a + rows_in part ≤ most_rows
-      → OnOk r (now ≡ merged_each ks columns) → OnOk r (group_kept rows now ≡ with_part g part)
-  view-merged part columns (Ok u) rows c e few ok =
+  pub view-merged : (part columns : List Value) (rows : ℕ) → columns ≡ drop 1 part → rows ≡ a + rows_in part → a + rows_in part ≤ most_rows → now ≡ merged_each ks columns
+      → group_kept rows now ≡ with_part g part
+  view-merged part columns rows c e few ok =
       (λ i. group_kept (e i) ((ok ∙ ap (merged_each ks) c) i)) ∙ sym (part-merged a ks part few (is.all_kept (omega (arith, few)))) ∙ ap (λ (x : Group). with_part x part) view
-  view-merged part columns (Err x) rows c e few ok = tt
 
   pub view-fits : IsTrue (is_partial g.calls g.kinds g.partial)
   view-fits = ap (λ (x : Group). is_partial x.calls x.kinds x.partial) (sym view) ∙ group-partial a ks is.few is.all_kept

@@ -1,8 +1,8 @@
 -- What is kept stays within its bounds as cells and columns are merged in.
-use Rattle.std.proofs.Common.{◌≡◌, ℕ, ◌+◌, ◌*◌, ◌≤◌, List, [], ◌∷◌, ◌++◌, length, take, drop, map, refl, ap, sym, ◌∙◌, arith, add-mul, mul-le-mul}
+use Rattle.std.proofs.Common.{◌≡◌, ℕ, ◌+◌, ◌*◌, ◌≤◌, List, [], ◌∷◌, length, drop, map, refl, ap, sym, ◌∙◌, arith, add-mul}
 use Rattle.std.specs.Prelude.{All, pos, nat_abs, ◌&&◌, filter, IsTrue}
 use Rattle.std.proofs.lemmas.Bool.{and_from, and_parts, le-leb, leb-true}
-use Rattle.std.proofs.lemmas.List.Elements.{All-append, All-cons, All-drop, All-head, All-nil, All-same, All-tail, All-take, All-weaker}
+use Rattle.std.proofs.lemmas.List.Elements.{All-cons, All-head, All-nil, All-tail}
 use Rattle.sql_values.specs.declared.types.SqlType.{SqlType}
 use Rattle.sql_values.specs.declared.value.Value.{Value}
 use Rattle.sql_values.specs.declared.value.Value.TheVariants.{Null, Bigint}
@@ -14,7 +14,7 @@ use Rattle.relations.specs.Aggregates.{most_rows}
 use Rattle.relations.specs.Equality.{is_present}
 use Rattle.relations.specs.Partials.{added_counts, added_sums, call_width, merged_call}
 use Rattle.accumulators.specs.Columns.{added, column_of, columns_of, count_in, magnitude, sum_cell, summand}
-use Rattle.accumulators.specs.Kept.{IsBegun, Kept, added_row, calls_of, kinds_of, merged_each, merged_kept}
+use Rattle.accumulators.specs.Kept.{Kept, added_row, calls_of, kinds_of, merged_each, merged_kept}
 use Rattle.accumulators.specs.Limits.{CanAdd, CanMerge, CanMergeEach, IsKept, are_all_columns, are_columns, are_sum_and_count, counts_sum, greatest, is_count, is_number_of, is_sum, takes_cell, takes_row}
 use Rattle.accumulators.proofs.LimitLemmas.{count-fits, count_is, count_within, counts_sum-added, magnitude-added, sum_cell-fits, sum_is, sum_within, summand-cell}
 use Rattle.accumulators.proofs.CellLemmas.{counts_added, one_sum, sums_added}
@@ -77,30 +77,6 @@ kept-merged a b k columns h l = record {
   width = width-merged k.call k.columns columns;
   within = columns-fit a b k.kind k.call k.columns columns h.within l;
 }
-
--- more rows are allowed
-times-more : (a b g : ℕ) → a ≤ b → a * g ≤ b * g
-times-more a b g more = let same : g ≤ g = omega arith in mul-le-mul more same
-
-count-more : (a b : ℕ) (v : Value) → a ≤ b → IsTrue (is_count a v) → IsTrue (is_count b v)
-count-more a b v more h = ap (is_count b) (sym (count_is a v h)) ∙ count-fits b (count_in v) (omega (arith, count_within a v h))
-
-sum-more : (x y : ℕ) (v : Value) → x ≤ y → IsTrue (is_sum x v) → IsTrue (is_sum y v)
-sum-more x y v more h = ap (is_sum y) (sym (sum_is x v h)) ∙ sum_cell-fits y (summand v) (omega (arith, sum_within x v h))
-
-columns-more : (a b : ℕ) (kind : SqlType) (call : Call) (p : List Value) → a ≤ b → IsTrue (are_columns a kind call p) → IsTrue (are_columns b kind call p)
-columns-more a b kind CountAll p more h = refl
-columns-more a b kind (Count column) p more h = count-more a b (cell p 0) more h
-columns-more a b kind (Sum column) p more h = sum-more (a * greatest kind) (b * greatest kind) (cell p 0) (times-more a b (greatest kind) more) h
-columns-more a b kind (Min column) p more h = refl
-columns-more a b kind (Max column) p more h = refl
-columns-more a b kind (Avg column) p more h =
-    let parts = sum_parts a (greatest kind) (cell p 0) (cell p 1) h in
-    sum_whole b (greatest kind) (cell p 0) (cell p 1) (count-more a b (cell p 1) more parts.0)
-    (sum-more (a * greatest kind) (b * greatest kind) (cell p 0) (times-more a b (greatest kind) more) parts.1) parts.2
-
-pub kept-more : (a b : ℕ) (k : Kept) → a ≤ b → IsKept a k → IsKept b k
-kept-more a b k more h = record { width = h.width; within = columns-more a b k.kind k.call k.columns more h.within }
 
 -- one cell that a call can take
 one_counted : (v : Value) → length (filter is_present (v ∷ [])) ≤ 1
@@ -168,12 +144,3 @@ columns-kept a b (k ∷ ks) columns all h =
     All-cons (IsKept (a + b)) (merged_kept k columns) (merged_each ks rest)
     (kept-merged a b k columns (All-head (IsKept a) k ks all) parts.0)
     (columns-kept a b ks rest (All-tail (IsKept a) k ks all) parts.1)
-
-pub all-more : (a b : ℕ) (ks : List Kept) → a ≤ b → All (IsKept a) ks → All (IsKept b) ks
-all-more a b ks more all = All-weaker (IsKept a) (IsKept b) (λ k. kept-more a b k more) ks all
-
--- where some are as they are to be and the others as they were
-pub begun-kept : (rows : ℕ) (aimed before now : List Kept) → All (IsKept rows) aimed → All (IsKept rows) before → IsBegun aimed before now → All (IsKept rows) now
-begun-kept rows aimed before now h k (n, e) =
-    All-same (IsKept rows) now (take n aimed ++ drop n before) e
-    (All-append (IsKept rows) (take n aimed) (drop n before) (All-take (IsKept rows) n aimed h) (All-drop (IsKept rows) n before k))

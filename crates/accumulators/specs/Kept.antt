@@ -1,5 +1,5 @@
 -- What a group keeps of one call: its columns of the group's partial row.
-use Rattle.std.specs.Prelude.{◌≡◌, ℕ, List, [], ◌∷◌, ◌++◌, map, take, drop, flat_map, pos, Ok}
+use Rattle.std.specs.Prelude.{ℕ, List, [], ◌∷◌, map, drop, flat_map, pos, Ok}
 use Rattle.sql_values.specs.declared.types.SqlType.{SqlType}
 use Rattle.sql_values.specs.declared.value.Value.{Value}
 use Rattle.sql_values.specs.declared.value.Value.TheVariants.{Bigint}
@@ -58,7 +58,3 @@ outcome_from kind rows columns (Avg column) = average_from (cell columns 0) (cel
 -- the result in a group of so many rows
 abbrev pub outcome_in : ℕ → Kept → Outcome
 outcome_in rows kept = within_rows rows (outcome_from kept.kind rows kept.columns kept.call)
-
--- some of the first are as they are to be, the others as they were
-abbrev pub IsBegun : List Kept → List Kept → List Kept → Type 0
-IsBegun aimed before now = (n : ℕ) × (now ≡ take n aimed ++ drop n before)

@@ -1,4 +1,4 @@
-ghost use Rattle.std.specs.Prelude.{◌≡◌, ◌≤◌, ◌^◌, [], List, IfOk, IsTrue, OnOk, map, nat_abs, drop};
+ghost use Rattle.std.specs.Prelude.{◌≡◌, ◌≤◌, ◌^◌, [], List, IfOk, IsTrue, OnOk, OnErr, map, nat_abs, drop};
 ghost use Rattle.sql_values.specs.declared.types.SqlType.{SqlType};
 ghost use Rattle.sql_values.specs.Cells.{lent_value};
 ghost use Rattle.sql_values.specs.Order.{number_in};
@@ -9,8 +9,8 @@ ghost use Rattle.accumulators.specs.Limits.{are_allowed, is_partial, is_row_coun
 
 use crate::call_state::CallState;
 use crate::call_states::{
-    add_each, all_results, are_each_null, begin_each, empty_states, merge_each, push_all_columns,
-    push_all_nulls, take_row,
+    add_each, all_results, are_each_null, begin_each, empty_states, firsts_of_part, firsts_of_row,
+    merge_each, push_all_columns, push_all_nulls, take_row,
 };
 use crate::limits::MOST_ROWS;
 use sql_exprs::Cells;
@@ -21,7 +21,7 @@ use std::marker::Model;
 /// The most calls of a group, so that 32 bits count the columns of a partial row.
 const MOST_CALLS: usize = 1_048_576;
 
-/// The state of one group. After an answer `Memory` of `add` or `merge` it is not used again.
+/// The state of one group.
 #[derive(Debug, Drop)]
 pub struct Accumulator {
     alloc: Global,
@@ -63,17 +63,22 @@ impl Accumulator {
         take_row(&self.states, cells)
     }
 
-    /// Takes one more row.
+    /// Takes one more row. Where memory is wanting the group is as it was.
     pub fn add<C: Cells>(&mut self, cells: &C) -> Result<(), Memory>
         requires { IsTrue (takes_row self.old.calls self.old.kinds (C.values cells.now)) }
         ensures ok { OnOk result (self.new ≡ with_row self.old (C.values cells.now)) }
+        ensures err { OnErr result (self.new ≡ self.old) }
         ensures same { (self.new.calls ≡ self.old.calls) × (self.new.kinds ≡ self.old.kinds) }
     {
-        self.rows = (self.rows + 1).min(MOST_ROWS + 1);
-        if MOST_ROWS < self.rows {
+        let rows = (self.rows + 1).min(MOST_ROWS + 1);
+        if MOST_ROWS < rows {
+            self.rows = rows;
             return Ok(());
         }
-        add_each(self.alloc, &mut self.states, cells)
+        let firsts = firsts_of_row(self.alloc, &self.states, cells)?;
+        self.rows = rows;
+        add_each(&mut self.states, cells, firsts);
+        Ok(())
     }
 
     /// Whether what a row has from a column on is a partial row that the group can take. It is asked of cells
@@ -93,10 +98,12 @@ impl Accumulator {
         are_each_null(&self.states, cells, first + 1)
     }
 
-    /// Takes the rows of another part of the group, by their partial row.
+    /// Takes the rows of another part of the group, by their partial row. Where memory is wanting the group is as it
+    /// was.
     pub fn merge(&mut self, part: &Row) -> Result<(), Memory>
         requires { IsTrue (is_partial self.old.calls self.old.kinds part.now) }
         ensures ok { OnOk result (self.new ≡ with_part self.old part.now) }
+        ensures err { OnErr result (self.new ≡ self.old) }
         ensures same { (self.new.calls ≡ self.old.calls) × (self.new.kinds ≡ self.old.kinds) }
     {
         self.merge_cells(part, 0)
@@ -107,14 +114,19 @@ impl Accumulator {
         requires near { first ≤ 2 ^ 31 }
         requires takes { IsTrue (is_partial self.old.calls self.old.kinds (drop first (C.values cells.now))) }
         ensures ok { OnOk result (self.new ≡ with_part self.old (drop first (C.values cells.now))) }
+        ensures err { OnErr result (self.new ≡ self.old) }
         ensures same { (self.new.calls ≡ self.old.calls) × (self.new.kinds ≡ self.old.kinds) }
     {
         let more = row_count(cells.cell(first));
-        self.rows = self.rows.saturating_add(more).min(MOST_ROWS + 1);
-        if MOST_ROWS < self.rows {
+        let rows = self.rows.saturating_add(more).min(MOST_ROWS + 1);
+        if MOST_ROWS < rows {
+            self.rows = rows;
             return Ok(());
         }
-        merge_each(self.alloc, &mut self.states, cells, first + 1)
+        let firsts = firsts_of_part(self.alloc, &self.states, cells, first + 1)?;
+        self.rows = rows;
+        merge_each(&mut self.states, cells, first + 1, firsts);
+        Ok(())
     }
 
     /// The group's partial row.

@@ -1,14 +1,15 @@
-ghost use Rattle.std.specs.Prelude.{◌≡◌, ◌++◌, ◌∷◌, [], ◌≤◌, IsTrue, OnOk, OnErr, MatchResult, drop, ◌<◌, ◌-◌, ◌^◌};
-ghost use Rattle.sql_values.specs.Cells.{lent_value};
+ghost use Rattle.std.specs.Prelude.{◌≡◌, ◌++◌, ◌∷◌, [], ◌≤◌, IsTrue, OnOk, MatchResult, drop, length, ◌<◌, ◌-◌, ◌^◌};
+ghost use Rattle.sql_values.specs.Cells.{cell, lent_value};
 ghost use Rattle.sql_functions.specs.CallTypes.{type_at as type_of};
 ghost use Rattle.sql_functions.specs.Outcomes.{FailsBy};
 ghost use Rattle.relations.specs.Aggregates.{most_rows};
 ghost use Rattle.relations.specs.Partials.{call_width};
 ghost use Rattle.accumulators.specs.Columns.{column_of, columns_of};
+ghost use Rattle.accumulators.specs.Firsts.{BeginWith, kept_first};
 ghost use Rattle.accumulators.specs.Kept.{added_cell, kept_of_none, merged_kept, outcome_from, outcome_in};
 ghost use Rattle.accumulators.specs.Limits.{CanMerge, IsKept, are_columns, can_add, takes_cell};
 
-use crate::firsts::keep_first;
+use crate::firsts::{keep_first, push_first};
 use crate::limits::{MOST_ROWS, are_sum_and_count, greatest, is_count, is_number_of, is_sum};
 use crate::sums::{
     add_cell, add_count, add_sum, average_result, count_cell, sum_result, sum_value,
@@ -16,6 +17,7 @@ use crate::sums::{
 use sql_exprs::Cells;
 use sql_values::{Call, EvalFault, Fail, Memory, Order, SqlType, Value, ValueRef};
 use std::alloc::Global;
+use std::collections::VecDeque;
 use std::marker::Model;
 
 /// What a group keeps of one call.
@@ -161,58 +163,73 @@ impl CallState {
         }
     }
 
-    /// Takes one more cell.
+    /// Appends a copy of the cell at a place, where it becomes the call's least or greatest.
+    pub fn push_first<C: Cells>(
+        &self,
+        alloc: Global,
+        cells: &C,
+        place: u32,
+        firsts: &mut VecDeque<Value>,
+    ) -> Result<(), Memory>
+        ensures { OnOk result (firsts.new.items
+            ≡ firsts.old.items ++ kept_first self.now (cell (C.values cells.now) place)) }
+    {
+        match &self.held {
+            Held::CountAll => Ok(()),
+            Held::Count { .. } => Ok(()),
+            Held::Sum { .. } => Ok(()),
+            Held::Min { least, .. } => {
+                push_first(alloc, Order::Ascending, least, cells.cell(place), firsts)
+            }
+            Held::Max { most, .. } => {
+                push_first(alloc, Order::Descending, most, cells.cell(place), firsts)
+            }
+            Held::Avg { .. } => Ok(()),
+        }
+    }
+
+    /// Takes one more cell. Where it becomes the least or greatest, its copy is taken from the front.
     #[tactic(auto, using(crate::proofs::HeldRules::adding))]
-    pub fn add(&mut self, alloc: Global, cell: ValueRef<'_>) -> Result<(), Memory>
-        requires { CanMerge self.old (columns_of self.old.call (lent_value cell ∷ [])) }
-        ensures ok { OnOk result (self.new ≡ added_cell self.old (lent_value cell.entry)) }
-        ensures err { OnErr result (self.new ≡ self.old) }
+    pub fn add(&mut self, cell: ValueRef<'_>, firsts: &mut VecDeque<Value>)
+        requires can { CanMerge self.old (columns_of self.old.call (lent_value cell ∷ [])) }
+        requires firsts { BeginWith (kept_first self.old (lent_value cell)) firsts.old.items }
+        ensures value { self.new ≡ added_cell self.old (lent_value cell.entry) }
+        ensures rest { firsts.new.items ≡ drop (length (kept_first self.old (lent_value cell.entry))) firsts.old.items }
     {
         match &mut self.held {
-            Held::CountAll => Ok(()),
-            Held::Count { count, .. } => {
-                count_cell(count, cell);
-                Ok(())
-            }
-            Held::Sum { sum, .. } => {
-                add_cell(sum, cell);
-                Ok(())
-            }
-            Held::Min { least, .. } => keep_first(alloc, Order::Ascending, least, cell),
-            Held::Max { most, .. } => keep_first(alloc, Order::Descending, most, cell),
+            Held::CountAll => {}
+            Held::Count { count, .. } => count_cell(count, cell),
+            Held::Sum { sum, .. } => add_cell(sum, cell),
+            Held::Min { least, .. } => keep_first(Order::Ascending, least, cell, firsts),
+            Held::Max { most, .. } => keep_first(Order::Descending, most, cell, firsts),
             Held::Avg { sum, count, .. } => {
                 add_cell(sum, cell);
                 count_cell(count, cell);
-                Ok(())
             }
         }
     }
 
-    /// Merges the columns in that a row has from a place on.
+    /// Merges the columns in that a row has from a place on. What becomes the least or greatest is taken from the
+    /// front.
     #[tactic(auto, using(crate::proofs::CellRules::from_place))]
-    pub fn merge<C: Cells>(&mut self, alloc: Global, cells: &C, place: u32) -> Result<(), Memory>
+    pub fn merge<C: Cells>(&mut self, cells: &C, place: u32, firsts: &mut VecDeque<Value>)
         requires place { place < 2 ^ 32 - 1 }
         requires can { CanMerge self.old (drop place (C.values cells.now)) }
-        ensures ok { OnOk result (self.new ≡ merged_kept self.old (drop place (C.values cells.now))) }
-        ensures err { OnErr result (self.new ≡ self.old) }
+        requires firsts { BeginWith (kept_first self.old (cell (C.values cells.now) place)) firsts.old.items }
+        ensures value { self.new ≡ merged_kept self.old (drop place (C.values cells.now)) }
+        ensures rest { firsts.new.items
+            ≡ drop (length (kept_first self.old (cell (C.values cells.now) place))) firsts.old.items }
     {
         let first = cells.cell(place);
         match &mut self.held {
-            Held::CountAll => Ok(()),
-            Held::Count { count, .. } => {
-                add_count(count, first);
-                Ok(())
-            }
-            Held::Sum { sum, .. } => {
-                add_sum(sum, first);
-                Ok(())
-            }
-            Held::Min { least, .. } => keep_first(alloc, Order::Ascending, least, first),
-            Held::Max { most, .. } => keep_first(alloc, Order::Descending, most, first),
+            Held::CountAll => {}
+            Held::Count { count, .. } => add_count(count, first),
+            Held::Sum { sum, .. } => add_sum(sum, first),
+            Held::Min { least, .. } => keep_first(Order::Ascending, least, first, firsts),
+            Held::Max { most, .. } => keep_first(Order::Descending, most, first, firsts),
             Held::Avg { sum, count, .. } => {
                 add_sum(sum, first);
                 add_count(count, cells.cell(place + 1));
-                Ok(())
             }
         }
     }

@@ -1,10 +1,11 @@
-ghost use Rattle.std.specs.Prelude.{◌≡◌, ◌≤◌, ◌++◌, All, IfOk, IsTrue, OnOk, OnErr, drop, flat_map, map, replicate, sum_by, take, length, ◌^◌, ◌+◌, ◌<◌};
+ghost use Rattle.std.specs.Prelude.{◌≡◌, ◌≤◌, ◌++◌, All, IfOk, IsTrue, OnOk, drop, flat_map, map, replicate, sum_by, take, length, ◌^◌, ◌+◌, ◌<◌};
 ghost use Rattle.sql_values.specs.declared.value.Value.TheVariants as value_is;
 ghost use Rattle.std.specs.List.{list_all};
 ghost use Rattle.sql_functions.specs.Truth.{is_null as is_null_value};
 ghost use Rattle.relations.specs.Aggregates.{most_rows};
 ghost use Rattle.relations.specs.Partials.{call_width};
-ghost use Rattle.accumulators.specs.Kept.{IsBegun, added_row, all_columns, calls_of, kept_of_none, kinds_of, merged_each, outcome_in};
+ghost use Rattle.accumulators.specs.Firsts.{part_firsts, row_firsts};
+ghost use Rattle.accumulators.specs.Kept.{added_row, all_columns, calls_of, kept_of_none, kinds_of, merged_each, outcome_in};
 ghost use Rattle.accumulators.specs.Limits.{CanAdd, CanMergeEach, IsKept, are_all_columns, are_allowed, are_null, takes_row};
 ghost use Rattle.accumulators.specs.Groups.{AllAnswer, all_outcomes};
 
@@ -13,6 +14,7 @@ use sql_exprs::Cells;
 use sql_functions::is_null;
 use sql_values::{Call, EvalFault, Memory, SqlType, Value};
 use std::alloc::Global;
+use std::collections::VecDeque;
 
 /// What is kept of no row, for calls over rows of these types.
 pub fn empty_states(
@@ -42,43 +44,73 @@ pub fn take_row<C: Cells>(states: &[CallState], cells: &C) -> bool
     true
 }
 
-/// Takes one more row.
-pub fn add_each<C: Cells>(
+/// Copies of the cells of a row that become a call's least or greatest, in the order of the calls.
+pub fn firsts_of_row<C: Cells>(
     alloc: Global,
-    states: &mut Vec<CallState>,
+    states: &[CallState],
     cells: &C,
-) -> Result<(), Memory>
-    requires { All (CanAdd (C.values cells.now)) states.old.items }
-    ensures ok { OnOk result (states.new.items ≡ map (added_row (C.values cells.now)) states.old.items) }
-    ensures err { OnErr result (IsBegun
-        (map (added_row (C.values cells.now)) states.old.items) states.old.items states.new.items) }
+) -> Result<VecDeque<Value>, Memory>
+    ensures { IfOk result (λ v. v.items ≡ row_firsts (C.values cells.now) states.now) }
 {
-    for state in states.iter_mut() {
-        state.add(alloc, cells.cell(state.column()))?;
+    let mut firsts = VecDeque::new(alloc);
+    for state in states {
+        state.push_first(alloc, cells, state.column(), &mut firsts)?;
     }
-    Ok(())
+    Ok(firsts)
 }
 
-/// Merges columns in, which stand one behind the other in a row, from a place on.
-pub fn merge_each<C: Cells>(
+/// Takes one more row, with the copies that were made of its cells.
+pub fn add_each<C: Cells>(states: &mut Vec<CallState>, cells: &C, firsts: VecDeque<Value>)
+    requires can { All (CanAdd (C.values cells.now)) states.old.items }
+    requires firsts { firsts.items ≡ row_firsts (C.values cells.now) states.old.items }
+    ensures { states.new.items ≡ map (added_row (C.values cells.now)) states.old.items }
+{
+    let mut left = firsts;
+    for state in states.iter_mut() {
+        state.add(cells.cell(state.column()), &mut left);
+    }
+}
+
+/// Copies of the columns that become a call's least or greatest, of those that stand from a place on.
+pub fn firsts_of_part<C: Cells>(
     alloc: Global,
+    states: &[CallState],
+    cells: &C,
+    first: u32,
+) -> Result<VecDeque<Value>, Memory>
+    requires few { length states.now ≤ 2 ^ 20 }
+    requires near { first ≤ 2 ^ 31 + 1 }
+    ensures { IfOk result (λ v. v.items ≡ part_firsts (C.values cells.now) first states.now) }
+{
+    let mut place = first;
+    let mut firsts = VecDeque::new(alloc);
+    for state in states {
+        state.push_first(alloc, cells, place, &mut firsts)?;
+        place += state.width();
+    }
+    Ok(firsts)
+}
+
+/// Merges columns in, which stand one behind the other in a row, from a place on, with the copies that were made
+/// of them.
+pub fn merge_each<C: Cells>(
     states: &mut Vec<CallState>,
     cells: &C,
     first: u32,
-) -> Result<(), Memory>
+    firsts: VecDeque<Value>,
+)
     requires few { length states.old.items ≤ 2 ^ 20 }
     requires near { first ≤ 2 ^ 31 + 1 }
     requires can { CanMergeEach states.old.items (drop first (C.values cells.now)) }
-    ensures ok { OnOk result (states.new.items ≡ merged_each states.old.items (drop first (C.values cells.now))) }
-    ensures err { OnErr result (IsBegun (merged_each states.old.items (drop first (C.values cells.now)))
-        states.old.items states.new.items) }
+    requires firsts { firsts.items ≡ part_firsts (C.values cells.now) first states.old.items }
+    ensures { states.new.items ≡ merged_each states.old.items (drop first (C.values cells.now)) }
 {
     let mut place = first;
+    let mut left = firsts;
     for state in states.iter_mut() {
-        state.merge(alloc, cells, place)?;
+        state.merge(cells, place, &mut left);
         place += state.width();
     }
-    Ok(())
 }
 
 /// Whether a row has the columns of the calls from a place on, of a group of so many rows.

@@ -7,6 +7,9 @@
 //!
 //! Sums are held at 128 bits, which no sum that a group may have can pass, and are judged in the result alone.
 //!
+//! What a row or a part changes in a least or greatest is copied before the group changes (`specs/Firsts.antt`), so
+//! that a group which wants memory is as it was.
+//!
 //! - `accumulator`: the group
 //! - `call_state`, `call_states`: what a group keeps of one call, and of all. `specs/Columns.antt` says which
 //!   columns the cells of a group make, `specs/Kept.antt` how cells and columns are merged in

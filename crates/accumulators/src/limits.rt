@@ -3,6 +3,7 @@ ghost use Rattle.sql_values.specs.Cells.{lent_value};
 ghost use Rattle.accumulators.specs.Limits.{are_sum_and_count as are_sum_and_count_of, counts_sum as counts_sum_of, greatest as greatest_of, is_count as is_count_of, is_number_of as is_number_of_type, is_short, is_sum as is_sum_of};
 
 use crate::sums::{count_in, summand};
+use scalar_texts::power_of_ten;
 use sql_values::{SqlType, ValueRef};
 
 /// The most rows that a group may have.
@@ -16,7 +17,7 @@ pub fn greatest(kind: SqlType) -> u128
     ensures small { result ≤ 2 ^ 63 }
 {
     match kind {
-        SqlType::Decimal { p, .. } => 10u128.pow(u32::from(p)) - 1,
+        SqlType::Decimal { p, .. } => power_of_ten(p) - 1,
         _ => 9_223_372_036_854_775_808,
     }
 }

@@ -3,4 +3,4 @@ use Rattle.decimals.proofs.MagnitudeLemmas.{power_positive}
 use Rattle.accumulators.proofs.limits.greatest.Goals as goal
 
 pub overflow_sub-result : goal.overflow_sub-result
-overflow_sub-result c = let some : 0 < 10 ^ c.from.result = power_positive c.from.result in omega arith
+overflow_sub-result c = let some : 0 < 10 ^ c.in-Decimal.p = power_positive c.in-Decimal.p in omega arith

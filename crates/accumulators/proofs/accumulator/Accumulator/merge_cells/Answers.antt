@@ -15,7 +15,7 @@ merge_each-requires-clause-can g c =
     let columns = drop (c.args.first + 1) (g.C.Cells.values c.args.cells.now) in
     let behind : columns ≡ drop 1 part = behind_first (g.C.Cells.values c.args.cells.now) c.args.first in
     let more : c.row_count-more.result ≡ rows_in part = c.row_count-more.ensures.number ∙ ap (λ v. nat_abs (number_in v)) (c.cell.ensures ∙ first_cell (g.C.Cells.values c.args.cells.now) c.args.first) in
-    let few : s.rows + rows_in part ≤ most_rows = omega (arith, more, c.saturating_add.ensures, c.min-self-inside.ensures, c.if-self-gt-MOST_ROWS.false) in
+    let few : s.rows + rows_in part ≤ most_rows = omega (arith, more, c.saturating_add.ensures, c.min-rows.ensures, c.if-rows-gt-MOST_ROWS.false) in
     can-merge s.rows s.states.items s.states.items c.args.self.now c.self.view_is c.self.invariant part columns behind few c.requires.takes
 
 pub invariant_of-self-2 : goal.invariant_of-self-2
@@ -25,10 +25,10 @@ invariant_of-self-2 g c =
     let columns = drop (c.args.first + 1) (g.C.Cells.values c.args.cells.now) in
     let behind : columns ≡ drop 1 part = behind_first (g.C.Cells.values c.args.cells.now) c.args.first in
     let more : c.row_count-more.result ≡ rows_in part = c.row_count-more.ensures.number ∙ ap (λ v. nat_abs (number_in v)) (c.cell.ensures ∙ first_cell (g.C.Cells.values c.args.cells.now) c.args.first) in
-    let few : s.rows + rows_in part ≤ most_rows = omega (arith, more, c.saturating_add.ensures, c.min-self-inside.ensures, c.if-self-gt-MOST_ROWS.false) in
-    let rows : c.min-self-inside.result ≡ s.rows + rows_in part = omega (arith, more, c.saturating_add.ensures, c.min-self-inside.ensures, c.if-self-gt-MOST_ROWS.false) in
+    let few : s.rows + rows_in part ≤ most_rows = omega (arith, more, c.saturating_add.ensures, c.min-rows.ensures, c.if-rows-gt-MOST_ROWS.false) in
+    let rows : c.min-rows.result ≡ s.rows + rows_in part = omega (arith, more, c.saturating_add.ensures, c.min-rows.ensures, c.if-rows-gt-MOST_ROWS.false) in
     group-merged s.rows s.states.items c.merge_each.new.states.items c.args.self.now c.self.view_is c.self.invariant part columns
-    c.merge_each.result c.min-self-inside.result behind rows few c.requires.takes c.merge_each.ensures.ok c.merge_each.ensures.err
+    c.min-rows.result behind rows few c.requires.takes c.merge_each.ensures
 
 pub returns-clause-ok : goal.returns-clause-ok
 returns-clause-ok g c =
@@ -37,10 +37,10 @@ returns-clause-ok g c =
     let columns = drop (c.args.first + 1) (g.C.Cells.values c.args.cells.now) in
     let behind : columns ≡ drop 1 part = behind_first (g.C.Cells.values c.args.cells.now) c.args.first in
     let more : c.row_count-more.result ≡ rows_in part = c.row_count-more.ensures.number ∙ ap (λ v. nat_abs (number_in v)) (c.cell.ensures ∙ first_cell (g.C.Cells.values c.args.cells.now) c.args.first) in
-    let few : s.rows + rows_in part ≤ most_rows = omega (arith, more, c.saturating_add.ensures, c.min-self-inside.ensures, c.if-self-gt-MOST_ROWS.false) in
-    let rows : c.min-self-inside.result ≡ s.rows + rows_in part = omega (arith, more, c.saturating_add.ensures, c.min-self-inside.ensures, c.if-self-gt-MOST_ROWS.false) in
+    let few : s.rows + rows_in part ≤ most_rows = omega (arith, more, c.saturating_add.ensures, c.min-rows.ensures, c.if-rows-gt-MOST_ROWS.false) in
+    let rows : c.min-rows.result ≡ s.rows + rows_in part = omega (arith, more, c.saturating_add.ensures, c.min-rows.ensures, c.if-rows-gt-MOST_ROWS.false) in
     view-merged s.rows s.states.items c.merge_each.new.states.items c.args.self.now c.self.view_is c.self.invariant part columns
-    c.merge_each.result c.min-self-inside.result behind rows few c.merge_each.ensures.ok
+    c.min-rows.result behind rows few c.merge_each.ensures
 
 pub returns-clause-same : goal.returns-clause-same
 returns-clause-same g c =
@@ -48,5 +48,5 @@ returns-clause-same g c =
     let part = drop c.args.first (g.C.Cells.values c.args.cells.now) in
     let columns = drop (c.args.first + 1) (g.C.Cells.values c.args.cells.now) in
     let behind : columns ≡ drop 1 part = behind_first (g.C.Cells.values c.args.cells.now) c.args.first in
-    let stays = merge-stays s.states.items c.merge_each.new.states.items columns c.merge_each.result c.merge_each.ensures.ok c.merge_each.ensures.err in
+    let stays = merge-stays s.states.items c.merge_each.new.states.items columns c.merge_each.ensures in
     (stays.0 ∙ ap (λ (x : Group). x.calls) c.self.view_is, stays.1 ∙ ap (λ (x : Group). x.kinds) c.self.view_is)

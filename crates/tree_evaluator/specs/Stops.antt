@@ -5,7 +5,7 @@ use Rattle.sql_values.specs.declared.table.Table.{Table}
 use Rattle.sql_values.specs.declared.fail.Fail.{Fail}
 use Rattle.col_pages.specs.Pages.{TypedPage}
 use Rattle.relations.specs.Verdicts.{Verdict, fails}
-use Rattle.plan_trees.specs.TreeForms.{TreeForm}
+use Rattle.plan_trees.specs.TreeForms.{TreeForm, aggregate, filter, limit, project, sort, topn}
 use Rattle.plan_trees.specs.TreeTypes.{types_of}
 use Rattle.plan_trees.specs.Allowed.{Allows}
 use Rattle.plan_trees.specs.Stopped.{MayFail}
@@ -34,3 +34,14 @@ GroupStops id verdicts stop.Memory = Unit {0}
 pub record IsEvaluated (tree : TreeForm) (tables : List (List (List Value))) (given : TypedPage) : Type 0 where
   pub types : given.types ≡ types_of tree
   pub allowed : Allows tree tables given.rows
+
+-- rows of the node's one input, of which it makes its own. There are none where a node has no input or
+-- two, or passes the rows on
+abbrev pub IsInput : TreeForm → List (List (List Value)) → TypedPage → Type 0
+IsInput (filter id predicate input) tables rows = IsEvaluated input tables rows
+IsInput (project id columns input) tables rows = IsEvaluated input tables rows
+IsInput (aggregate id keys calls input) tables rows = IsEvaluated input tables rows
+IsInput (sort id keys input) tables rows = IsEvaluated input tables rows
+IsInput (topn id count keys input) tables rows = IsEvaluated input tables rows
+IsInput (limit id count input) tables rows = IsEvaluated input tables rows
+IsInput _ tables rows = ⊥

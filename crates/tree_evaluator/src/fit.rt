@@ -1,5 +1,6 @@
-ghost use Rattle.std.specs.Prelude.{◌≡◌, ◌<◌, length, map, IsTrue, IfOk};
+ghost use Rattle.std.specs.Prelude.{◌≡◌, ◌+◌, ◌<◌, length, map, IsTrue, IfOk};
 ghost use Rattle.sql_exprs.specs.Forms.{form_view};
+ghost use Rattle.accumulators.specs.Limits.{are_allowed};
 ghost use Rattle.plan_trees.specs.Allowed.{scanned};
 ghost use Rattle.plan_trees.specs.TreeForms.{tree_view};
 ghost use Rattle.plan_trees.specs.TreeTypes.{types_of};
@@ -8,14 +9,14 @@ ghost use Rattle.tree_evaluator.specs.Fits.{ColumnFits, ColumnsFit, FitsTables, 
 ghost use Rattle.tree_evaluator.specs.Stops.{rows_of};
 
 use crate::calls::{are_allowed, has_column};
-use plan_trees::{Tree, types_of_tree};
-use sql_exprs::{Expr, TypeFault, typed};
-use sql_values::{Column, ColumnRows, Memory, RowList, SqlType, Table};
+use plan_trees::{CallList, Tree, types_of_tree};
+use sql_exprs::{Expr, ExprList, TypeFault, typed};
+use sql_values::{Column, ColumnRows, Memory, Places, RowList, SqlType, Table};
 use std::alloc::Global;
 
 /// True only where each expression of the tree has a type and each aggregate call can be made, each node
-/// has a column, and tables and constants have the types that the tree says. It looks at a table's columns, not at its cells: a column
-/// of another type that holds only NULL fits, and the answer is false.
+/// has a column, and tables and constants have the types that the tree says. It looks at a table's columns,
+/// not at its cells: a column of another type that holds only NULL fits, and the answer is false.
 pub fn fits_tables(alloc: Global, tree: &Tree, tables: &[Table]) -> Result<bool, Memory>
     requires { TablesFit tables.now }
     ensures { IfOk result
@@ -29,27 +30,13 @@ pub fn fits_tables(alloc: Global, tree: &Tree, tables: &[Table]) -> Result<bool,
             ..
         } => Ok(scan_fits(tables, *table, columns.as_slice(), types.as_slice())),
         Tree::Values { types, rows, .. } => rows_fit(alloc, rows, types.as_slice()),
-        Tree::Remote { input, .. } => fits_tables(alloc, input, tables),
         Tree::Filter {
             predicate,
             input,
             ..
-        } => {
-            let types = types_of_tree(alloc, input)?;
-            let typed = is_typed(alloc, types.as_slice(), predicate)?;
-            let fits = fits_tables(alloc, input, tables)?;
-            Ok(typed && fits)
-        }
+        } => Ok(filter_fits(alloc, predicate, input)? && fits_tables(alloc, input, tables)?),
         Tree::Project { columns, input, .. } => {
-            let types = types_of_tree(alloc, input)?;
-            let typed = are_typed(alloc, types.as_slice(), columns.as_slice())?;
-            let fits = fits_tables(alloc, input, tables)?;
-            Ok(!columns.is_empty() && typed && fits)
-        }
-        Tree::Join { left, right, .. } => {
-            let left = fits_tables(alloc, left, tables)?;
-            let right = fits_tables(alloc, right, tables)?;
-            Ok(left && right)
+            Ok(project_fits(alloc, columns, input)? && fits_tables(alloc, input, tables)?)
         }
         Tree::Aggregate {
             keys,
@@ -57,24 +44,58 @@ pub fn fits_tables(alloc: Global, tree: &Tree, tables: &[Table]) -> Result<bool,
             input,
             ..
         } => {
-            let types = types_of_tree(alloc, input)?;
-            let allowed = are_allowed(types.as_slice(), calls.as_slice());
-            let fits = fits_tables(alloc, input, tables)?;
-            Ok(has_column(keys.as_slice(), calls.as_slice()) && allowed && fits)
+            Ok(aggregate_fits(alloc, keys, calls, input)? && fits_tables(alloc, input, tables)?)
         }
-        Tree::Sort { input, .. } => fits_tables(alloc, input, tables),
-        Tree::TopN { input, .. } => fits_tables(alloc, input, tables),
-        Tree::Limit { input, .. } => fits_tables(alloc, input, tables),
+        Tree::Remote { input, .. }
+        | Tree::Sort { input, .. }
+        | Tree::TopN { input, .. }
+        | Tree::Limit { input, .. } => fits_tables(alloc, input, tables),
+        Tree::Join { left, right, .. } => {
+            Ok(fits_tables(alloc, left, tables)? && fits_tables(alloc, right, tables)?)
+        }
         Tree::Union { left, right, .. } => {
-            let same = have_same_types(alloc, left, right)?;
-            let left = fits_tables(alloc, left, tables)?;
-            let right = fits_tables(alloc, right, tables)?;
-            Ok(same && left && right)
+            let same = union_fits(alloc, left, right)?;
+            Ok(same && fits_tables(alloc, left, tables)? && fits_tables(alloc, right, tables)?)
         }
     }
 }
 
-fn have_same_types(alloc: Global, left: &Tree, right: &Tree) -> Result<bool, Memory>
+/// Whether the predicate has a type over the input's rows.
+fn filter_fits(alloc: Global, predicate: &Expr, input: &Tree) -> Result<bool, Memory>
+    ensures { IfOk result
+        (λ fits. IsTrue fits → IsTyped (types_of (tree_view input.now)) (form_view predicate.now)) }
+{
+    let types = types_of_tree(alloc, input)?;
+    is_typed(alloc, types.as_slice(), predicate)
+}
+
+/// Whether there is a column, and each has a type over the input's rows.
+fn project_fits(alloc: Global, columns: &ExprList, input: &Tree) -> Result<bool, Memory>
+    ensures { IfOk result (λ fits. IsTrue fits → (0 < length columns.now.items)
+        × AllTyped (types_of (tree_view input.now)) (map form_view columns.now.items)) }
+{
+    let types = types_of_tree(alloc, input)?;
+    let typed = are_typed(alloc, types.as_slice(), columns.as_slice())?;
+    Ok(!columns.is_empty() && typed)
+}
+
+/// Whether there is a column, and the calls can be made over the input's rows.
+fn aggregate_fits(
+    alloc: Global,
+    keys: &Places,
+    calls: &CallList,
+    input: &Tree,
+) -> Result<bool, Memory>
+    ensures { IfOk result (λ fits. IsTrue fits → (0 < length keys.now + length calls.now)
+        × IsTrue (are_allowed (types_of (tree_view input.now)) calls.now)) }
+{
+    let types = types_of_tree(alloc, input)?;
+    let allowed = are_allowed(types.as_slice(), calls.as_slice());
+    Ok(has_column(keys.as_slice(), calls.as_slice()) && allowed)
+}
+
+/// Whether the two sides have the same types.
+fn union_fits(alloc: Global, left: &Tree, right: &Tree) -> Result<bool, Memory>
     ensures { IfOk result
         (λ same. IsTrue same → types_of (tree_view left.now) ≡ types_of (tree_view right.now)) }
 {

@@ -1,5 +1,4 @@
-ghost use Rattle.std.specs.Prelude.{◌≡◌, ◌<◌, ◌≤◌, [], ◌++◌, length, IfOk, OnOk, OnErr, MatchOption};
-ghost use Rattle.col_pages.specs.Pages.{most_rows};
+ghost use Rattle.std.specs.Prelude.{◌≡◌, ◌<◌, [], ◌++◌, length, IfOk, OnOk, OnErr, MatchOption};
 ghost use Rattle.page_judges.specs.Typed.{AllFit};
 
 use col_pages::{Page, PageList};

@@ -1,12 +1,12 @@
 -- The definitions on rows that were worked out by hand.
 use Rattle.std.proofs.Common.{◌≡◌, ℕ, zero, suc, List, [], ◌∷◌, refl}
-use Rattle.std.specs.Prelude.{pos}
+use Rattle.std.specs.Prelude.{false, pos, true}
 use Rattle.sql_values.specs.declared.types.SqlType.TheVariants as type
 use Rattle.sql_values.specs.declared.value.Value.{Value}
-use Rattle.sql_values.specs.declared.value.Value.TheVariants.{Null, Bigint, Decimal}
+use Rattle.sql_values.specs.declared.value.Value.TheVariants.{Null, Boolean, Bigint, Decimal}
 use Rattle.sql_values.specs.declared.relational.Call.TheVariants.{CountAll, Sum}
 use Rattle.relations.specs.Verdicts.{keeps}
-use Rattle.bag_laws.specs.Buckets.{at_places, of_bucket}
+use Rattle.bag_laws.specs.Buckets.{at_places, key_bucket, of_bucket}
 use Rattle.bag_laws.specs.Gather.{gather}
 use Rattle.bag_laws.specs.Pieces.{finals_of, partials_of}
 
@@ -65,3 +65,8 @@ a_bucket = refl
 
 columns_at_places : at_places (5 ∷ 3 ∷ 4 ∷ []) (2 ∷ 0 ∷ []) ≡ 4 ∷ 5 ∷ []
 columns_at_places = refl
+
+-- a row is in the bucket of its key columns alone, whatever the others hold
+a_key_bucket : of_bucket (key_bucket 4 (0 ∷ [])) 3 ((Boolean true ∷ Boolean false ∷ []) ∷ (Boolean false ∷ Boolean true ∷ []) ∷ [])
+    ≡ (Boolean true ∷ Boolean false ∷ []) ∷ []
+a_key_bucket = refl

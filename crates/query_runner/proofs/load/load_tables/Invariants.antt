@@ -1,0 +1,16 @@
+use Rattle.std.proofs.Common.{◌≡◌, ℕ, ◌+◌, ◌-◌, ◌*◌, ◌<◌, ◌≤◌, map, Some, take, drop}
+use Rattle.command_line.specs.Words.{asked, asked_file, file_of}
+use Rattle.query_runner.specs.Jobs.{AreTablesAsked, rows_of}
+use Rattle.plan_fits.specs.Tables.{HaveColumns}
+use Rattle.task_executor.specs.Wirings.{AreFew}
+use Rattle.tree_evaluator.specs.Fits.{TablesFit}
+use Rattle.query_runner.proofs.load.load_tables.Given as goal
+
+abbrev pub invariant-loop-place : goal.invariant-loop-place
+invariant-loop-place g l =
+    AreTablesAsked (g.F.Files.holds l.initial.files) (asked l.job) (take l.place l.docs) (map rows_of l.tables.items)
+    × (g.F.Files.holds l.files ≡ g.F.Files.holds l.initial.files)
+    × (g.F.Files.faults l.initial.files ≤ g.F.Files.faults l.files)
+    × HaveColumns (take l.place l.docs) l.tables.items
+    × TablesFit l.tables.items
+    × AreFew l.tables.items

@@ -1,0 +1,155 @@
+-- What each answer of a run means, by what was seen of it from outside.
+use Rattle.std.specs.Prelude.{◌≡◌, ◌⊎◌, ℕ, List, [], Option, Some, None, Result, Ok, Err}
+use Rattle.std.specs.Io.KnownBytes.{Appends}
+use Rattle.sql_values.specs.declared.fail.Fail.{Fail}
+use Rattle.run_ports.specs.Counts.{Rose}
+use Rattle.run_ports.specs.Writing.{AppendsPrefix}
+use Rattle.plan_docs.specs.Plans.{PlanForm}
+use Rattle.plan_trees.specs.TreeTypes.{types_of}
+use Rattle.plan_trees.specs.Allowed.{Allows}
+use Rattle.plan_trees.specs.Stopped.{MayFail}
+use Rattle.plan_trees.specs.Laws.{CannotFail}
+use Rattle.plan_reader.specs.Trees.{tree_of}
+use Rattle.csv_tables.specs.ResultTexts.{result_text}
+use Rattle.command_line.specs.Words.{Job}
+use Rattle.query_runner.specs.Jobs.{AreTablesAsked, Contents, IsPlanAsked, Row}
+use Rattle.query_runner.specs.Loading.{FirstIsRefused, HasNoFile, PlanFails, SomeTableIsUnread}
+use Rattle.query_runner.specs.Lines.{line, message}
+use Rattle.query_runner.specs.declared.status.Status.{Status}
+use Rattle.query_runner.specs.declared.status.Status.TheVariants as status
+
+-- what is seen of a run from outside, before it and after it: files and output
+pub record Seen : Type 0 where
+  pub held : Contents
+  pub read_faults_before : ℕ
+  pub read_faults_after : ℕ
+  pub refused : Option (List ℕ)
+  pub written_before : Option (List ℕ)
+  pub written_after : Option (List ℕ)
+  pub write_faults_before : ℕ
+  pub write_faults_after : ℕ
+
+-- what was told on the errors, before a run and after it
+pub record Heard : Type 0 where
+  pub told_before : Option (List ℕ)
+  pub told_after : Option (List ℕ)
+  pub faults_before : ℕ
+  pub faults_after : ℕ
+
+-- the text of a list of rows that the plan's tree allows over its tables
+pub record IsTextOf (plan : PlanForm) (tables : List (List Row)) (text : List ℕ) : Type 0 where
+  pub list : List Row
+  pub allowed : Allows (tree_of plan) tables list
+  pub is_text : text ≡ result_text plan.output (types_of (tree_of plan)) list
+
+-- a text that the plan allows over the tables that were asked for
+pub record IsResult (held : Contents) (job : Job) (plan : PlanForm) (text : List ℕ) : Type 0 where
+  pub tables : List (List Row)
+  pub are_tables : AreTablesAsked held job plan.tables tables
+  pub is_text : IsTextOf plan tables text
+
+-- the result was written whole, and nothing else
+pub record WroteResult (job : Job) (plan : PlanForm) (seen : Seen) : Type 0 where
+  pub text : List ℕ
+  pub is_result : IsResult seen.held job plan text
+  pub appends : Appends seen.written_before seen.written_after text
+
+-- a beginning of the result was written, and then a write failed
+pub record StoppedWriting (job : Job) (plan : PlanForm) (seen : Seen) : Type 0 where
+  pub text : List ℕ
+  pub is_result : IsResult seen.held job plan text
+  pub appends : AppendsPrefix seen.written_before seen.written_after text
+  pub rose : Rose seen.write_faults_before seen.write_faults_after
+
+-- an expression of the plan may fail so on a row that it may have been given
+pub record MayHaveFailed (held : Contents) (job : Job) (plan : PlanForm) (node : ℕ) (kind : Fail) : Type 0 where
+  pub tables : List (List Row)
+  pub are_tables : AreTablesAsked held job plan.tables tables
+  pub may_fail : MayFail (tree_of plan) tables node kind
+
+-- nothing was written
+abbrev pub WroteNothing : Seen → Type 0
+WroteNothing seen = seen.written_after ≡ seen.written_before
+
+-- why a plan that was read gave no result
+abbrev pub RunFails : PlanForm → List (List Row) → Status → Type 0
+RunFails plan tables status.Memory = Unit {0}
+RunFails plan tables (status.ExprFailed node kind) = MayFail (tree_of plan) tables node kind
+RunFails plan tables _ = ⊥
+
+-- what an answer means once the plan was read
+abbrev pub PlanAnswered : Job → PlanForm → Seen → Status → Type 0
+PlanAnswered job plan seen status.Ok = WroteResult job plan seen
+PlanAnswered job plan seen status.Memory = WroteNothing seen
+PlanAnswered job plan seen status.BadWords = ⊥
+PlanAnswered job plan seen (status.ReadFault file) = WroteNothing seen
+    × SomeTableIsUnread seen.held job plan.tables seen.read_faults_before seen.read_faults_after seen.refused file
+PlanAnswered job plan seen (status.PlanRefused code path) = WroteNothing seen × HasNoFile job plan.tables code path
+PlanAnswered job plan seen (status.TableRefused table row column why) =
+    WroteNothing seen × FirstIsRefused seen.held job plan.tables table row column why
+PlanAnswered job plan seen (status.ExprFailed node kind) =
+    WroteNothing seen × MayHaveFailed seen.held job plan node kind
+PlanAnswered job plan seen status.WriteFault = StoppedWriting job plan seen
+
+-- a line of this message was written to the errors, unless a write of it failed
+abbrev pub ToldLine : Heard → List ℕ → Type 0
+ToldLine heard text = ¬ Rose heard.faults_before heard.faults_after → Appends heard.told_before heard.told_after (line text)
+
+-- what was told on the errors: nothing where all went well, else the answer's message
+abbrev pub Told : Heard → List ℕ → Status → Type 0
+Told heard text status.Ok = heard.told_after ≡ heard.told_before
+Told heard text _ = ToldLine heard text
+
+-- no plan was read
+pub record PlanIsUnread (job : Job) (seen : Seen) (heard : Heard) (answer : Status) : Type 0 where
+  pub why : PlanFails seen.held job seen.read_faults_before seen.read_faults_after seen.refused answer
+  pub nothing : WroteNothing seen
+  pub told : Told heard (message job [] answer) answer
+
+-- the plan's file holds this plan, and it was run
+pub record PlanRan (job : Job) (seen : Seen) (heard : Heard) (answer : Status) : Type 0 where
+  pub plan : PlanForm
+  pub is_plan : IsPlanAsked seen.held job plan
+  pub answered : PlanAnswered job plan seen answer
+  pub told : Told heard (message job plan.tables answer) answer
+
+-- what an answer means where the words ask for this
+abbrev pub JobAnswered : Job → Seen → Heard → Status → Type 0
+JobAnswered job seen heard answer = PlanIsUnread job seen heard answer ⊎ PlanRan job seen heard answer
+
+-- a job of no file and of the usual numbers, for the message of words that are no command line
+abbrev pub no_job : Job
+no_job = record { plan = []; split = 10000; page = 1024; quantum = 100000; files = [] }
+
+-- the words are no command line
+pub record WordsAreBad (seen : Seen) (heard : Heard) (answer : Status) : Type 0 where
+  pub is : answer ≡ status.BadWords
+  pub nothing : WroteNothing seen
+  pub told : Told heard (message no_job [] answer) answer
+
+-- what an answer means
+abbrev pub Answered : Option Job → Seen → Heard → Status → Type 0
+Answered None seen heard answer = WordsAreBad seen heard answer
+Answered (Some job) seen heard answer = JobAnswered job seen heard answer
+
+-- the answer of a run's steps
+abbrev pub status_of : {A : Type 0} → Result A Status → Status
+status_of (Ok x) = status.Ok
+status_of (Err s) = s
+
+-- no read and no write failed
+pub record MetNoFault (seen : Seen) : Type 0 where
+  pub reads : ¬ Rose seen.read_faults_before seen.read_faults_after
+  pub writes : ¬ Rose seen.write_faults_before seen.write_faults_after
+
+-- a good plan over good tables, in which nothing may fail
+pub record IsSound (held : Contents) (job : Job) (plan : PlanForm) (tables : List (List Row)) : Type 0 where
+  pub is_plan : IsPlanAsked held job plan
+  pub are_tables : AreTablesAsked held job plan.tables tables
+  pub calm : CannotFail (tree_of plan) tables
+
+-- a run of what is sound that met no fault of the outside gave the result, or memory was wanting
+pub record IsComplete (asked : Option Job) (seen : Seen) (answer : Status) : Type 0 where
+  pub ends_well : (job : Job) (held : List ℕ → Option (List ℕ)) (plan : PlanForm) (tables : List (List Row))
+      → asked ≡ Some job → seen.held ≡ Some held → IsSound (Some held) job plan tables
+      → MetNoFault seen → (answer ≡ status.Ok) ⊎ (answer ≡ status.Memory)

@@ -1,0 +1,25 @@
+//! `run`, the top call: what the words of a command line ask for, done over the files and the sinks that it is given.
+//!
+//! What `run` promises is its contract, in the words of `specs/Answers.antt`: for every command line
+//! and all that the files tell, status 0 means that what was written is the text of a list of rows
+//! that the plan's tree allows over its tables, and each other status but want of memory has its
+//! cause.
+//!
+//! - `words`: the words that the system gives
+//! - `load`: the plan and its tables, from files
+//! - `top`: `run`, and the text of what a plan gives
+//! - `lines`: the line that is told for each answer
+//! - `status`: the answers, and the exit status of each
+#![tactic(auto)]
+
+mod lines;
+mod load;
+mod status;
+mod top;
+mod words;
+
+pub use lines::tell_first;
+pub use load::{ROW_LIMIT, files_of, load_plan, load_tables};
+pub use status::Status;
+pub use top::{result_of, run, shape_of};
+pub use words::words_of;

@@ -1,0 +1,215 @@
+ghost use Rattle.std.specs.Prelude.{◌≡◌, ◌↔◌, ◌≤◌, ℕ, [], map, None, Ok, Err, IfOk, MatchResult};
+ghost use Rattle.plan_docs.specs.Plans.{plan_view};
+ghost use Rattle.command_line.specs.Words.{HasBounds, asked, job_of};
+ghost use Rattle.plan_fits.specs.Tables.{HaveColumns, WasRead};
+ghost use Rattle.task_executor.specs.Wirings.{AreFew, IsShape};
+ghost use Rattle.tree_evaluator.specs.Fits.{TablesFit};
+ghost use Rattle.query_runner.specs.Answers.{Answered, IsComplete, IsTextOf, JobAnswered, PlanAnswered, RunFails, status_of};
+ghost use Rattle.query_runner.specs.Jobs.{Contents, rows_of};
+
+use crate::lines::{tell, tell_first};
+use crate::load::{files_of, load_plan, load_tables};
+use crate::status::Status;
+use command_line::{Job, read_words};
+use csv_tables::text_of;
+use plan_fits::{plans_are_pipelines, tree_of_a_plan_fits};
+use plan_reader::{Plan, tree};
+use plan_trees::types_of_tree;
+use run_ports::{Courier, Files, Meet, Sink, write_whole};
+use sql_values::{Table, Text};
+use std::alloc::Global;
+use std::random::RandomSource;
+use std::sync::Wait;
+use std::thread::Threads;
+use task_executor::{Net, RunFault, Shape, Wiring, run_alone};
+
+/// Runs the plan that the words name over the tables that they name, and writes the result's text
+/// to `out`. For each answer but Ok it writes one line to `err`.
+#[tactic(auto, using(crate::proofs::CompletenessLemmas::complete))]
+pub fn run<R, F, O, E, C, M>(
+    rt: &R,
+    alloc: Global,
+    words: &[Text],
+    files: &mut F,
+    out: &mut O,
+    err: &mut E,
+    _courier: &C,
+    _meet: &M,
+) -> Status
+where
+    R: Threads + Wait + Sync + RandomSource + AllocGlobal,
+    F: Files,
+    O: Sink,
+    E: Sink,
+    C: Courier + Send,
+    M: Meet + Sync,
+    ensures bad_words { (result ≡ Status.BadWords) ↔ (job_of words.now ≡ None) }
+    ensures answer { Answered (job_of words.now) (record {
+      held = F.holds files.old;
+      read_faults_before = F.faults files.old;
+      read_faults_after = F.faults files.new;
+      refused = F.refused files.new;
+      written_before = O.written out.old;
+      written_after = O.written out.new;
+      write_faults_before = O.faults out.old;
+      write_faults_after = O.faults out.new;
+    }) (record {
+      told_before = E.written err.old;
+      told_after = E.written err.new;
+      faults_before = E.faults err.old;
+      faults_after = E.faults err.new;
+    }) result }
+    ensures complete { IsComplete (job_of words.now) (record {
+      held = F.holds files.old;
+      read_faults_before = F.faults files.old;
+      read_faults_after = F.faults files.new;
+      refused = F.refused files.new;
+      written_before = O.written out.old;
+      written_after = O.written out.new;
+      write_faults_before = O.faults out.old;
+      write_faults_after = O.faults out.new;
+    }) result }
+{
+    let Some(job) = read_words(words) else {
+        tell_first(err, &Status::BadWords);
+        return Status::BadWords;
+    };
+    run_job(rt, alloc, &job, files, out, err)
+}
+
+/// Does what the words ask for.
+fn run_job<R, F, O, E>(
+    rt: &R,
+    alloc: Global,
+    job: &Job<'_>,
+    files: &mut F,
+    out: &mut O,
+    err: &mut E,
+) -> Status
+where
+    R: Threads + Wait + Sync + RandomSource + AllocGlobal,
+    F: Files,
+    O: Sink,
+    E: Sink,
+    requires { HasBounds (asked job.now) }
+    ensures answer { JobAnswered (asked job.now) (record {
+      held = F.holds files.old;
+      read_faults_before = F.faults files.old;
+      read_faults_after = F.faults files.new;
+      refused = F.refused files.new;
+      written_before = O.written out.old;
+      written_after = O.written out.new;
+      write_faults_before = O.faults out.old;
+      write_faults_after = O.faults out.new;
+    }) (record {
+      told_before = E.written err.old;
+      told_after = E.written err.new;
+      faults_before = E.faults err.old;
+      faults_after = E.faults err.new;
+    }) result }
+{
+    let plan = match load_plan(alloc, job, files) {
+        Ok(plan) => plan,
+        Err(status) => {
+            tell(err, job, &[], &status);
+            return status;
+        }
+    };
+    let status = status_of(run_plan(rt, alloc, job, &plan, files, out));
+    tell(err, job, plan.tables.as_slice(), &status);
+    status
+}
+
+/// The answer of what was done.
+fn status_of(done: Result<(), Status>) -> Status
+    ensures { result ≡ status_of done }
+{
+    match done {
+        Ok(()) => Status::Ok,
+        Err(status) => status,
+    }
+}
+
+/// Runs the plan over its tables.
+fn run_plan<R, F, O>(
+    rt: &R,
+    alloc: Global,
+    job: &Job<'_>,
+    plan: &Plan,
+    files: &mut F,
+    out: &mut O,
+) -> Result<(), Status>
+where
+    R: Threads + Wait + Sync + RandomSource + AllocGlobal,
+    F: Files,
+    O: Sink,
+    requires bounds { HasBounds (asked job.now) }
+    requires read { WasRead (plan_view plan.now) }
+    ensures same { F.holds files.new ≡ F.holds files.old }
+    ensures later { F.faults files.old ≤ F.faults files.new }
+    ensures answer { (held : Contents) (before : ℕ)
+        → F.holds files.old ≡ held → before ≤ F.faults files.old
+        → PlanAnswered (asked job.now) (plan_view plan.now) (record {
+          held = held;
+          read_faults_before = before;
+          read_faults_after = F.faults files.new;
+          refused = F.refused files.new;
+          written_before = O.written out.old;
+          written_after = O.written out.new;
+          write_faults_before = O.faults out.old;
+          write_faults_after = O.faults out.new;
+        }) (status_of result) }
+{
+    let found = files_of(alloc, job, plan.tables.as_slice())?;
+    let tables = load_tables(alloc, job, plan.tables.as_slice(), found.as_slice(), files)?;
+    let text = result_of(rt, alloc, &shape_of(job), plan, tables.as_slice(), &[])?;
+    write_whole(out, text.as_slice())?;
+    Ok(())
+}
+
+/// The text of what the plan gives over its tables, under these picks of drivers.
+pub fn result_of<R>(
+    rt: &R,
+    alloc: Global,
+    shape: &Shape,
+    plan: &Plan,
+    tables: &[Table],
+    picks: &[u32],
+) -> Result<Vec<u8>, Status>
+where
+    R: Threads + Wait + Sync + RandomSource + AllocGlobal,
+    requires shape { IsShape shape.now }
+    requires read { WasRead (plan_view plan.now) }
+    requires columns { HaveColumns (plan_view plan.now).tables tables.now }
+    requires fit { TablesFit tables.now }
+    requires few { AreFew tables.now }
+    ensures { MatchResult result
+        (λ text. IsTextOf (plan_view plan.now) (map rows_of tables.now) text.items)
+        (RunFails (plan_view plan.now) (map rows_of tables.now)) }
+{
+    let types = types_of_tree(alloc, &tree(alloc, plan)?)?;
+    tree_of_a_plan_fits(plan, tables);
+    plans_are_pipelines(plan, tables);
+    let mut wiring = Wiring::build(alloc, plan, tables, shape)?;
+    let net = Net::build(alloc, plan, tables, &mut wiring, shape)?;
+    match run_alone(rt, alloc, net, shape, picks) {
+        Ok(done) => {
+            let rows = &done.rows;
+            Ok(text_of(alloc, plan.output.as_slice(), types.as_slice(), rows)?)
+        }
+        Err(RunFault::ExprFailed { node, kind }) => Err(Status::ExprFailed { node, kind }),
+        Err(RunFault::Memory) => Err(Status::Memory),
+    }
+}
+
+/// How a job cuts its tables and its work.
+pub fn shape_of(job: &Job<'_>) -> Shape
+    requires { HasBounds (asked job.now) }
+    ensures { IsShape result }
+{
+    Shape {
+        split: job.split,
+        page: job.page,
+        quantum: job.quantum,
+    }
+}

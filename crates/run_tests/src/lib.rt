@@ -1,0 +1,27 @@
+//! Tests of `query_runner`: whole runs over the objects in memory, and what a plan gives under every cutting.
+//!
+//! Plans are written with `'` for the quotation mark, and tables and answers with `~` for the line feed. A case is
+//! a line `tables | names | root | rows | answer`: the tables of the plan by their short name (none: the root is the
+//! whole document), the names of its output, its root with `@x` for the scans, the rows of the tables with a `;`
+//! between two, and the answer: the exit status, what was written and what was told, with a `|` between them.
+//!
+//! - `plans`: the plan of a case
+//! - `answers`: runs of `run`
+//! - `plain`: texts under given words and picks, and those of the plain evaluator
+//! - `scans`, `orders`, `aggregates`, `joins`: the cases
+#![tactic(auto)]
+
+#[cfg(test)]
+mod aggregates;
+#[cfg(test)]
+mod answers;
+#[cfg(test)]
+mod joins;
+#[cfg(test)]
+mod orders;
+#[cfg(test)]
+mod plain;
+#[cfg(test)]
+mod plans;
+#[cfg(test)]
+mod scans;

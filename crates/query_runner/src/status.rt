@@ -6,7 +6,7 @@ use sql_values::{Fail, Memory, Text};
 use std::alloc::{AllocError, AllocFailed};
 
 /// The answer of a run.
-#[derive(Debug, Drop)]
+#[derive(Drop)]
 pub enum Status {
     /// The result was written.
     Ok,

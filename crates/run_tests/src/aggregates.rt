@@ -48,13 +48,13 @@ const STACKED_TEXT: &str = "g,n,s,a~g0,8,700,2.4~g1,8,706,2.5~g2,7,602,2.4~g4,7,
 fn many_rows(alloc: Global) -> Result<String, Fail> {
     let mut text = String::from_str(alloc, "g,v,d~")?;
     for n in 0..60u32 {
-        write_row(alloc, &mut text, n)?;
+        write_row(alloc, &mut text, n, n * 5 % 7)?;
     }
     Ok(text)
 }
 
-fn write_row(alloc: Global, text: &mut String, n: u32) -> Result<(), Fail> {
-    let (group, tenths) = (n * 5 % 7, n % 10);
+fn write_row(alloc: Global, text: &mut String, n: u32, group: u32) -> Result<(), Fail> {
+    let tenths = n % 10;
     let row = match n % 9 {
         0 => format!(in alloc; "g{group},\\N,1.{tenths}~")?,
         4 | 7 => format!(in alloc; "g{group},{n},\\N~")?,

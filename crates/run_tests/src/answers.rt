@@ -1,5 +1,7 @@
 //! Runs of `run` over the objects in memory.
 
+ghost use Rattle.std.specs.Prelude.{◌≤◌};
+
 use crate::plans::plan_of;
 use query_runner::run;
 use run_ports::{MemFiles, MemSink, NamedBytes, NoMeet, ReplayCourier};

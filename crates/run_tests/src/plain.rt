@@ -65,7 +65,9 @@ fn job_gives<R: Threads + Wait + Sync + RandomSource + AllocGlobal>(
     given: &Given<'_>,
     picks: &[u32],
     text: &str,
-) -> Result<bool, Fail> {
+) -> Result<bool, Fail>
+    requires { HasBounds (asked job.now) }
+{
     let mut files = files_of(rt.alloc(), given)?;
     match load_plan(rt.alloc(), job, &mut files) {
         Ok(plan) => plan_gives(rt, job, &plan, &mut files, picks, text),

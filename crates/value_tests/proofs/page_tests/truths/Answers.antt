@@ -5,7 +5,7 @@ use Rattle.sql_values.specs.declared.types.SqlType.TheVariants as kind
 use Rattle.sql_values.specs.declared.value.Value.TheVariants as value
 use Rattle.sql_values.specs.Cells.{cut}
 use Rattle.sql_values.specs.ColumnRows.{fits_row}
-use Rattle.col_pages.proofs.tests.truths.Goals as goal
+use Rattle.value_tests.proofs.page_tests.truths.Goals as goal
 
 pub of_rows-requires-clause-fits : goal.of_rows-requires-clause-fits
 of_rows-requires-clause-fits c =

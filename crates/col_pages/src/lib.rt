@@ -14,8 +14,6 @@
 mod page;
 mod page_builder;
 mod page_list;
-#[cfg(test)]
-mod tests;
 
 pub use page::{MOST_ROWS, Page};
 pub use page_builder::PageBuilder;

@@ -11,8 +11,6 @@
 
 mod gather;
 mod nullable;
-#[cfg(test)]
-mod tests;
 mod texts;
 
 pub use nullable::Nullable;

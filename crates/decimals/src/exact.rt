@@ -1,5 +1,5 @@
-ghost use Rattle.std.specs.Prelude.{◌≡◌, ℤ, ◌+◌, ◌≤◌, Some, min, nat_abs, ◌<◌, ◌^◌};
-ghost use Rattle.decimals.specs.Arithmetic.{difference_of, operand, parts_of, product_of, product_precision, rescaled, sum_of, sum_precision, sum_scale};
+ghost use Rattle.std.specs.Prelude.{◌≡◌, ℤ, ◌+◌, ◌+ℤ◌, ◌≤◌, Some, min, nat_abs, neg_ℤ, ◌<◌, ◌^◌};
+ghost use Rattle.decimals.specs.Arithmetic.{difference_of, of_digits, operand, parts_of, product_of, product_precision, rescaled, sum_of, sum_precision, sum_scale};
 
 use crate::decimal::Decimal;
 use crate::digits::{fitting, rounded, scaled};
@@ -28,6 +28,13 @@ pub fn sum(a: Decimal, b: Decimal) -> Option<i128>
     let s = a.s.max(b.s);
     let x = at_sum_scale(a, s)?;
     let y = at_sum_scale(b, s)?;
+    plus(x, y)
+}
+
+/// The sum of two numbers, where it has at most 38 digits.
+fn plus(x: i128, y: i128) -> Option<i128>
+    ensures { result ≡ of_digits 38 (x +ℤ y) }
+{
     fitting(x.checked_add(y)?, 38)
 }
 
@@ -45,6 +52,13 @@ fn exact_difference(a: Decimal, b: Decimal) -> Option<i128>
     let s = a.s.max(b.s);
     let x = at_sum_scale(a, s)?;
     let y = at_sum_scale(b, s)?;
+    minus(x, y)
+}
+
+/// The difference of two numbers, where it has at most 38 digits.
+fn minus(x: i128, y: i128) -> Option<i128>
+    ensures { result ≡ of_digits 38 (x +ℤ neg_ℤ y) }
+{
     fitting(x.checked_sub(y)?, 38)
 }
 

@@ -11,7 +11,5 @@
 mod decimal;
 mod digits;
 mod exact;
-#[cfg(test)]
-mod tests;
 
 pub use decimal::{Decimal, OutOfRange};

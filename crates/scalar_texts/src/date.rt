@@ -1,6 +1,7 @@
-ghost use Rattle.std.specs.Prelude.{◌≡◌, ◌++◌, Some, IsTrue, OnOk, OnErr, option_and_then, pos, neg_ℤ, ◌≤ℤ◌};
+ghost use Rattle.std.specs.Prelude.{◌≡◌, ◌∷◌, ◌++◌, Some, IsTrue, OnOk, OnErr, option_and_then, pos, neg_ℤ, ◌≤ℤ◌};
 ghost use Rattle.scalar_texts.specs.Appends.{AppendsStart};
 ghost use Rattle.scalar_texts.specs.Dates.{calendar_day, date_of, date_text, day_number, day_text, has_date, month_day_text};
+ghost use Rattle.scalar_texts.specs.Numbers.{padded};
 
 use crate::append::append_padded;
 use crate::digits::short_number;
@@ -60,8 +61,16 @@ fn print_day(date: Date, to: &mut Vec<u8>) -> Result<(), AllocError>
     ensures err { OnErr result (AppendsStart (day_text (calendar_day date)) to.old.items to.new.items) }
 {
     append_padded(4, u128::from(date.year.unsigned_abs()), to)?;
+    print_after_year(date.month, date.day, to)
+}
+
+#[tactic(auto, using(crate::proofs::AppendLemmas::appending))]
+fn print_after_year(month: u8, day: u8, to: &mut Vec<u8>) -> Result<(), AllocError>
+    ensures ok { OnOk result (to.new.items ≡ to.old.items ++ 45 ∷ month_day_text month day) }
+    ensures err { OnErr result (AppendsStart (45 ∷ month_day_text month day) to.old.items to.new.items) }
+{
     to.push(b'-')?;
-    print_month_day(date.month, date.day, to)
+    print_month_day(month, day, to)
 }
 
 #[tactic(auto, using(crate::proofs::AppendLemmas::appending))]
@@ -70,6 +79,14 @@ fn print_month_day(month: u8, day: u8, to: &mut Vec<u8>) -> Result<(), AllocErro
     ensures err { OnErr result (AppendsStart (month_day_text month day) to.old.items to.new.items) }
 {
     append_padded(2, u128::from(month), to)?;
+    print_after_month(day, to)
+}
+
+#[tactic(auto, using(crate::proofs::AppendLemmas::appending))]
+fn print_after_month(day: u8, to: &mut Vec<u8>) -> Result<(), AllocError>
+    ensures ok { OnOk result (to.new.items ≡ to.old.items ++ 45 ∷ padded 2 day) }
+    ensures err { OnErr result (AppendsStart (45 ∷ padded 2 day) to.old.items to.new.items) }
+{
     to.push(b'-')?;
     append_padded(2, u128::from(day), to)
 }

@@ -1,6 +1,6 @@
-ghost use Rattle.std.specs.Prelude.{◌≡◌, ◌++◌, ◌*◌, ◌/◌, ◌%◌, ◌^◌, ◌<◌, ◌≤◌, Some, length, unsigned_abs, IfSome, OnOk, OnErr, option_and_then};
+ghost use Rattle.std.specs.Prelude.{◌≡◌, ◌∷◌, ◌++◌, ◌*◌, ◌/◌, ◌%◌, ◌^◌, ◌<◌, ◌≤◌, Some, length, unsigned_abs, IfSome, OnOk, OnErr, option_and_then, option_map, pos, neg_ℤ};
 ghost use Rattle.scalar_texts.specs.Appends.{AppendsStart};
-ghost use Rattle.scalar_texts.specs.Numbers.{below, only_if};
+ghost use Rattle.scalar_texts.specs.Numbers.{below, only_if, padded};
 ghost use Rattle.scalar_texts.specs.Decimals.{decimal_of, decimal_text, has_digits, magnitude_of, magnitude_text, point_in, pointed_text, with_fraction};
 
 use crate::append::{append_number, append_padded};
@@ -12,16 +12,31 @@ use std::alloc::AllocError;
 const TOO_LARGE: u128 = 100_000_000_000_000_000_000_000_000_000_000_000_000;
 
 /// The units of 10^-s that a text writes, where they have at most p digits.
-#[tactic(auto, using(crate::proofs::DecimalLemmas::judging))]
 pub fn read_decimal(p: u8, s: u8, text: &[u8]) -> Option<i128>
     ensures { result ≡ decimal_of p s text.now }
 {
     let (sign, rest) = text.split_first()?;
     match *sign {
-        b'-' => with_digits(p, -(magnitude(s, rest)? as i128)),
-        b'+' => with_digits(p, magnitude(s, rest)? as i128),
-        _ => with_digits(p, magnitude(s, text)? as i128),
+        b'-' => after_minus(p, s, rest),
+        b'+' => without_sign(p, s, rest),
+        _ => without_sign(p, s, text),
     }
+}
+
+#[tactic(auto, using(crate::proofs::DecimalLemmas::judging))]
+fn after_minus(p: u8, s: u8, text: &[u8]) -> Option<i128>
+    ensures { result ≡ option_and_then (only_if (has_digits p))
+        (option_map (λ n. neg_ℤ (pos n)) (magnitude_of s text.now)) }
+{
+    with_digits(p, -(magnitude(s, text)? as i128))
+}
+
+#[tactic(auto, using(crate::proofs::DecimalLemmas::judging))]
+fn without_sign(p: u8, s: u8, text: &[u8]) -> Option<i128>
+    ensures { result ≡ option_and_then (only_if (has_digits p))
+        (option_map pos (magnitude_of s text.now)) }
+{
+    with_digits(p, magnitude(s, text)? as i128)
 }
 
 fn with_digits(p: u8, unscaled: i128) -> Option<i128>
@@ -111,6 +126,14 @@ fn print_pointed(s: u8, magnitude: u128, to: &mut Vec<u8>) -> Result<(), AllocEr
 {
     let (whole, fraction) = parts(s, magnitude);
     append_number(whole, to)?;
+    append_fraction(s, fraction, to)
+}
+
+#[tactic(auto, using(crate::proofs::AppendLemmas::appending))]
+fn append_fraction(s: u8, fraction: u128, to: &mut Vec<u8>) -> Result<(), AllocError>
+    ensures ok { OnOk result (to.new.items ≡ to.old.items ++ 46 ∷ padded s fraction) }
+    ensures err { OnErr result (AppendsStart (46 ∷ padded s fraction) to.old.items to.new.items) }
+{
     to.push(b'.')?;
     append_padded(s, fraction, to)
 }

@@ -16,8 +16,6 @@ mod date;
 mod decimal;
 mod digits;
 mod powers;
-#[cfg(test)]
-mod tests;
 
 pub use bigint::{bigint_reads_back, print_bigint, read_bigint};
 pub use boolean::{boolean_reads_back, print_boolean, read_boolean};

@@ -24,8 +24,6 @@ mod laws;
 mod literal;
 mod page;
 mod page_row;
-#[cfg(test)]
-mod tests;
 mod typing;
 
 pub use calm::{is_calm, is_calm_over};

@@ -1,4 +1,4 @@
-ghost use Rattle.std.specs.Prelude.{◌≡◌, option_map, unsigned_abs, pos, ◌+ℤ◌, if◌then◌else◌, Some, None};
+ghost use Rattle.std.specs.Prelude.{◌≡◌, option_map, unsigned_abs, pos, ◌+ℤ◌, if◌then◌else◌, IsTrue, Some, None};
 ghost use Rattle.scalar_texts.specs.Dates.{calendar_day, has_date, nth_day};
 ghost use Rattle.sql_values.specs.Cells.{lent_value};
 ghost use Rattle.sql_functions.specs.DateCalls.{add_days_of, date, day_of, days_between_of, month_of, year_of};
@@ -11,11 +11,19 @@ fn later_by(day: i32, n: i64) -> Result<Value, Fail>
     ensures { result ≡ date (day +ℤ n) }
 {
     match i64::from(day).checked_add(n) {
-        Some(later) if later >= i64::from(FIRST_DAY) && later <= i64::from(LAST_DAY) => {
-            Ok(Value::Date(later as i32))
-        }
-        _ => Err(Fail::OutOfRange),
+        Some(later) => of_day(later),
+        None => Err(Fail::OutOfRange),
     }
+}
+
+/// The day, where it is of the years 1 to 9999.
+fn of_day(day: i64) -> Result<Value, Fail>
+    ensures { result ≡ date day }
+{
+    if day < i64::from(FIRST_DAY) || day > i64::from(LAST_DAY) {
+        return Err(Fail::OutOfRange);
+    }
+    Ok(Value::Date(day as i32))
 }
 
 pub fn add_days(a: ValueRef<'_>, b: ValueRef<'_>) -> Result<Value, Fail>
@@ -38,13 +46,20 @@ pub fn days_between(a: ValueRef<'_>, b: ValueRef<'_>) -> Value
 }
 
 /// The date of a day, if it has one.
-#[tactic(auto, using(scalar_texts::proofs::DateLemmas::nth_day_is))]
 fn calendar_date(day: i32) -> Option<Date>
     ensures { option_map calendar_day result ≡ (if has_date day then Some (nth_day (unsigned_abs (day +ℤ pos 719_162))) else None) }
 {
     if day < FIRST_DAY || day > LAST_DAY {
         return None;
     }
+    date_of(day)
+}
+
+#[tactic(auto, using(scalar_texts::proofs::DateLemmas::nth_day_is))]
+fn date_of(day: i32) -> Option<Date>
+    requires { IsTrue (has_date day) }
+    ensures { option_map calendar_day result ≡ Some (nth_day (unsigned_abs (day +ℤ pos 719_162))) }
+{
     Date::from_unix_epoch_day(i64::from(day)).ok()
 }
 

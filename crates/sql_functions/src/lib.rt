@@ -26,8 +26,6 @@ mod decimal;
 mod laws;
 mod like;
 mod name;
-#[cfg(test)]
-mod tests;
 mod texts;
 mod truth;
 

@@ -1,4 +1,4 @@
-ghost use Rattle.std.specs.Prelude.{◌≡◌, map, IfOk, OnErr};
+ghost use Rattle.std.specs.Prelude.{◌≡◌, [], ◌∷◌, ◌++◌, true, map, IfOk, OnErr};
 ghost use Rattle.std.specs.Option.{option_copied};
 ghost use Rattle.sql_values.specs.declared.types.SqlType.TheVariants as kind_is;
 ghost use Rattle.sql_values.specs.declared.value.Value.TheVariants as value_is;
@@ -9,6 +9,26 @@ use crate::memory::Memory;
 use crate::value::ValueRef;
 use columns::{Nullable, Texts};
 
+/// Appends an item, and tells that it was taken.
+fn put<T: Copy + Default + Drop>(column: &mut Nullable<T>, item: Option<T>) -> Result<bool, Memory>
+    ensures taken { IfOk result (λ taken. taken ≡ true) }
+    ensures ok { IfOk result (λ _. column.new ≡ column.old ++ item ∷ []) }
+    ensures err { OnErr result (column.new ≡ column.old) }
+{
+    column.push(item)?;
+    Ok(true)
+}
+
+/// Appends a text, and tells that it was taken.
+fn put_text(column: &mut Texts, text: Option<&str>) -> Result<bool, Memory>
+    ensures taken { IfOk result (λ taken. taken ≡ true) }
+    ensures ok { IfOk result (λ _. column.new ≡ column.old ++ option_copied text.entry ∷ []) }
+    ensures err { OnErr result (column.new ≡ column.old) }
+{
+    column.push(text)?;
+    Ok(true)
+}
+
 pub fn push_boolean(column: &mut Nullable<bool>, value: ValueRef<'_>) -> Result<bool, Memory>
     ensures taken { IfOk result (λ taken. taken ≡ fits kind_is.Boolean (lent_value value.entry)) }
     ensures ok { IfOk result (λ taken. map (or_null value_is.Boolean) column.new
@@ -16,11 +36,10 @@ pub fn push_boolean(column: &mut Nullable<bool>, value: ValueRef<'_>) -> Result<
     ensures err { OnErr result (column.new ≡ column.old) }
 {
     match value {
-        ValueRef::Null => column.push(None)?,
-        ValueRef::Boolean(truth) => column.push(Some(truth))?,
-        _ => return Ok(false),
+        ValueRef::Null => put(column, None),
+        ValueRef::Boolean(truth) => put(column, Some(truth)),
+        _ => Ok(false),
     }
-    Ok(true)
 }
 
 pub fn push_bigint(column: &mut Nullable<i64>, value: ValueRef<'_>) -> Result<bool, Memory>
@@ -30,11 +49,10 @@ pub fn push_bigint(column: &mut Nullable<i64>, value: ValueRef<'_>) -> Result<bo
     ensures err { OnErr result (column.new ≡ column.old) }
 {
     match value {
-        ValueRef::Null => column.push(None)?,
-        ValueRef::Bigint(number) => column.push(Some(number))?,
-        _ => return Ok(false),
+        ValueRef::Null => put(column, None),
+        ValueRef::Bigint(number) => put(column, Some(number)),
+        _ => Ok(false),
     }
-    Ok(true)
 }
 
 pub fn push_decimal(column: &mut Nullable<i128>, value: ValueRef<'_>) -> Result<bool, Memory>
@@ -44,11 +62,10 @@ pub fn push_decimal(column: &mut Nullable<i128>, value: ValueRef<'_>) -> Result<
     ensures err { OnErr result (column.new ≡ column.old) }
 {
     match value {
-        ValueRef::Null => column.push(None)?,
-        ValueRef::Decimal(unscaled) => column.push(Some(unscaled))?,
-        _ => return Ok(false),
+        ValueRef::Null => put(column, None),
+        ValueRef::Decimal(unscaled) => put(column, Some(unscaled)),
+        _ => Ok(false),
     }
-    Ok(true)
 }
 
 pub fn push_varchar(column: &mut Texts, value: ValueRef<'_>) -> Result<bool, Memory>
@@ -58,11 +75,10 @@ pub fn push_varchar(column: &mut Texts, value: ValueRef<'_>) -> Result<bool, Mem
     ensures err { OnErr result (column.new ≡ column.old) }
 {
     match value {
-        ValueRef::Null => column.push(None)?,
-        ValueRef::Varchar(text) => column.push(Some(text))?,
-        _ => return Ok(false),
+        ValueRef::Null => put_text(column, None),
+        ValueRef::Varchar(text) => put_text(column, Some(text)),
+        _ => Ok(false),
     }
-    Ok(true)
 }
 
 pub fn push_date(column: &mut Nullable<i32>, value: ValueRef<'_>) -> Result<bool, Memory>
@@ -72,11 +88,10 @@ pub fn push_date(column: &mut Nullable<i32>, value: ValueRef<'_>) -> Result<bool
     ensures err { OnErr result (column.new ≡ column.old) }
 {
     match value {
-        ValueRef::Null => column.push(None)?,
-        ValueRef::Date(day) => column.push(Some(day))?,
-        _ => return Ok(false),
+        ValueRef::Null => put(column, None),
+        ValueRef::Date(day) => put(column, Some(day)),
+        _ => Ok(false),
     }
-    Ok(true)
 }
 
 pub fn boolean_or_null(item: Option<bool>) -> ValueRef<'static>

@@ -30,8 +30,6 @@ mod row;
 mod row_builder;
 mod row_list;
 mod table;
-#[cfg(test)]
-mod tests;
 mod text;
 mod type_texts;
 mod types;

@@ -36,6 +36,20 @@ impl Model for RowList {
     ghost view = { λ l. rows_kept l.kept };
 }
 
+fn cell_of(rows: &[Row], place: usize, column: u32) -> ValueRef<'_>
+    requires { place < length rows.now }
+    ensures { lent_value result ≡ cell (slice_index_or rows.now place []) column }
+{
+    rows[place].cell(column)
+}
+
+fn copy_of(alloc: Global, rows: &[Row], place: usize) -> Result<Row, Memory>
+    requires { place < length rows.now }
+    ensures { IfOk result (λ r. r ≡ slice_index_or rows.now place []) }
+{
+    rows[place].copy(alloc)
+}
+
 impl RowList {
     pub fn new(alloc: Global) -> RowList
         ensures { result ≡ [] }
@@ -129,7 +143,7 @@ impl RowList {
     {
         match &self.kept {
             Kept::Columns(columns) => columns.cell(place, column),
-            Kept::Rows(rows) => rows[place].cell(column),
+            Kept::Rows(rows) => cell_of(rows.as_slice(), place, column),
         }
     }
 
@@ -140,7 +154,7 @@ impl RowList {
     {
         match &self.kept {
             Kept::Columns(columns) => columns.row(alloc, place),
-            Kept::Rows(rows) => rows[place].copy(alloc),
+            Kept::Rows(rows) => copy_of(alloc, rows.as_slice(), place),
         }
     }
 

@@ -1,7 +1,8 @@
-ghost use Rattle.std.specs.Prelude.{◌≡◌, ◌++◌, ◌<◌, length, Some, IfSome, OnOk, OnErr};
+ghost use Rattle.std.specs.Prelude.{◌≡◌, [], ◌∷◌, ◌++◌, ◌<◌, codes, length, if◌then◌else◌, Some, IfSome, OnOk, OnErr};
+ghost use Rattle.std.specs.Fmt.{decimal};
 ghost use Rattle.scalar_texts.specs.Appends.{AppendsStart};
 ghost use Rattle.sql_values.specs.Types.{IsType};
-ghost use Rattle.sql_values.specs.TypeTexts.{comma_in, decimal_type, decimal_type_of, decimal_type_text, parameters_of, parameters_text, plain_number_of, type_of_text, type_text};
+ghost use Rattle.sql_values.specs.TypeTexts.{closing_parenthesis, comma, comma_in, decimal_type, decimal_type_of, decimal_type_text, parameters_of, parameters_text, plain_number_of, same_text, type_of_text, type_text};
 
 use crate::memory::Memory;
 use crate::types::SqlType;
@@ -15,6 +16,17 @@ pub fn parse_type(text: &str) -> Option<SqlType>
     match text {
         "boolean" => Some(SqlType::Boolean),
         "bigint" => Some(SqlType::Bigint),
+        _ => other_type(text),
+    }
+}
+
+/// The type of a text that is neither `boolean` nor `bigint`.
+fn other_type(text: &str) -> Option<SqlType>
+    ensures { result ≡ (if same_text text.now (codes "varchar") then Some SqlType.Varchar
+        else if same_text text.now (codes "date") then Some SqlType.Date
+        else decimal_type_of text.now) }
+{
+    match text {
         "varchar" => Some(SqlType::Varchar),
         "date" => Some(SqlType::Date),
         _ => decimal_type(text.as_bytes()),
@@ -98,8 +110,37 @@ fn print_parameters(p: u8, s: u8, to: &mut Vec<u8>) -> Result<(), AllocError>
     ensures err { OnErr result (AppendsStart (parameters_text p s) to.old.items to.new.items) }
 {
     print_bigint(i64::from(p), to)?;
+    print_second_parameter(s, to)
+}
+
+#[tactic(auto, using(scalar_texts::proofs::AppendLemmas::appending))]
+fn print_second_parameter(s: u8, to: &mut Vec<u8>) -> Result<(), AllocError>
+    ensures ok { OnOk result
+        (to.new.items ≡ to.old.items ++ comma ∷ (decimal s ++ closing_parenthesis ∷ [])) }
+    ensures err { OnErr result
+        (AppendsStart (comma ∷ (decimal s ++ closing_parenthesis ∷ [])) to.old.items to.new.items) }
+{
     to.push(b',')?;
+    print_closed(s, to)
+}
+
+#[tactic(auto, using(scalar_texts::proofs::AppendLemmas::appending))]
+fn print_closed(s: u8, to: &mut Vec<u8>) -> Result<(), AllocError>
+    ensures ok { OnOk result
+        (to.new.items ≡ to.old.items ++ (decimal s ++ closing_parenthesis ∷ [])) }
+    ensures err { OnErr result
+        (AppendsStart (decimal s ++ closing_parenthesis ∷ []) to.old.items to.new.items) }
+{
     print_bigint(i64::from(s), to)?;
+    close(to)
+}
+
+#[tactic(auto, using(scalar_texts::proofs::AppendLemmas::appending))]
+fn close(to: &mut Vec<u8>) -> Result<(), AllocError>
+    ensures ok { OnOk result (to.new.items ≡ to.old.items ++ closing_parenthesis ∷ []) }
+    ensures err { OnErr result
+        (AppendsStart (closing_parenthesis ∷ []) to.old.items to.new.items) }
+{
     to.push(b')')?;
     Ok(())
 }

@@ -1,0 +1,17 @@
+use Rattle.std.proofs.Common.{rules}
+use Rattle.sql_exprs.proofs.literal.is_value_of.Goals as goal
+
+pub returns-in_default : goal.returns-in_default
+returns-in_default c = search rules
+
+pub returns-in_default-2 : goal.returns-in_default-2
+returns-in_default-2 c = search rules
+
+pub returns-in_default-3 : goal.returns-in_default-3
+returns-in_default-3 c = search rules
+
+pub returns-in_default-4 : goal.returns-in_default-4
+returns-in_default-4 c = search rules
+
+pub returns-in_default-5 : goal.returns-in_default-5
+returns-in_default-5 c = search rules

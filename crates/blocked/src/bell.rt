@@ -11,7 +11,7 @@ use std::marker::Model;
 use std::mem;
 
 /// A count of rings, and who waits for the next one.
-#[derive(Debug, Drop)]
+#[derive(Drop)]
 pub struct Bell<W> {
     alloc: Global,
     count: u64,
@@ -20,7 +20,7 @@ pub struct Bell<W> {
 }
 
 /// Why a waiter was not kept. It is handed back.
-#[derive(Debug, Drop)]
+#[derive(Drop)]
 pub enum NotParked<W> {
     Rung(W),
     Closed(W),

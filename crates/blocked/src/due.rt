@@ -1,7 +1,6 @@
 ghost use Rattle.std.specs.Prelude.{◌≡◌};
 
 /// The duty to ring the bell of this number. Only `Bell::ring` takes it off: it has no `Drop`.
-#[derive(Debug)]
 pub struct Due {
     number: u32,
 }

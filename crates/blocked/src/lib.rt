@@ -18,8 +18,6 @@ mod bell;
 mod bells;
 mod blocked_on;
 mod due;
-#[cfg(test)]
-mod tests;
 mod waiters;
 
 pub use bell::{Bell, NotParked};

@@ -5,14 +5,14 @@ use std::collections::VecDeque;
 use std::marker::Model;
 
 /// One who waits, and the count of the bell that it had read.
-#[derive(Debug, Drop)]
+#[derive(Drop)]
 pub(crate) struct Parked<W> {
     pub(crate) seen: u64,
     pub(crate) waiter: W,
 }
 
 /// A list of waiters, in the order in which they parked.
-#[derive(Debug, Drop)]
+#[derive(Drop)]
 pub struct Waiters<W> {
     parked: VecDeque<Parked<W>>,
 }

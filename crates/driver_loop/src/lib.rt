@@ -39,8 +39,6 @@
 
 mod build;
 mod driver;
-#[cfg(test)]
-mod join_tests;
 mod notes;
 mod pieces;
 mod rows_source;
@@ -48,8 +46,6 @@ mod run_fault;
 mod source;
 mod stage;
 mod target;
-#[cfg(test)]
-mod tests;
 mod turn;
 mod types;
 

@@ -8,7 +8,7 @@ use sql_values::Memory;
 use std::marker::Model;
 
 /// Gives rows of its own.
-#[derive(Debug, Drop)]
+#[derive(Drop)]
 pub struct RowsSource {
     op: ValuesOp,
     is_ended: bool,

@@ -18,8 +18,6 @@
 //! or moves anything, is not promised.
 #![tactic(auto)]
 
-#[cfg(test)]
-mod tests;
 mod turns;
 
 pub use turns::{Turned, look_at_stages, turn};

@@ -1,10 +1,9 @@
 -- The rows of pages that each have a row.
-use Rattle.std.proofs.Common.{◌≡◌, ◌<◌, List, [], ◌∷◌, ◌++◌, length, refl, append_assoc, append-nil, sym, arith, true}
+use Rattle.std.proofs.Common.{◌≡◌, ◌<◌, List, [], ◌∷◌, ◌++◌, length, refl, append_assoc, append-nil, sym, arith}
 use Rattle.std.specs.Prelude.{◌↔◌}
 use Rattle.col_pages.specs.Pages.{TypedPage}
 use Rattle.operator_core.specs.Rows.{Row}
 use Rattle.operator_core.specs.Held.{rows_in, AllFull}
-use Rattle.operator_core.specs.Samples.{has_row}
 
 pub not_empty : (rows more : List Row) → 0 < length rows → rows ++ more ≡ [] → ⊥
 not_empty [] more h e = absurd (omega arith)
@@ -22,7 +21,3 @@ one_page_more (p ∷ pages) page = rw (one_page_more pages page) (sym (append_as
 pub one_full_more : (pages : List TypedPage) (page : TypedPage) → AllFull pages → 0 < length page.rows → AllFull (pages ++ page ∷ [])
 one_full_more [] page full h = (h, tt)
 one_full_more (p ∷ pages) page full h = (full.0, one_full_more pages page full.1 h)
-
-pub has_row_first : (held rows more : List Row) → held ≡ rows ++ more → 0 < length rows → has_row held ≡ true
-has_row_first held [] more e h = absurd (omega arith)
-has_row_first held (row ∷ rows) more e h = rw e refl

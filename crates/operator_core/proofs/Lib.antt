@@ -1,5 +1,4 @@
 pub mod HeldLemmas
-pub mod SampleLemmas
 pub mod StageLemmas
 pub mod LinkLemmas
 pub mod TurnLemmas

@@ -7,7 +7,7 @@ use std::alloc::Global;
 use std::marker::Model;
 
 /// The pages that an operator has still to give, seen as their rows. A page with no row is none.
-#[derive(Debug, Drop)]
+#[derive(Drop)]
 pub struct HeldPages {
     pages: PageList,
 }

@@ -54,17 +54,15 @@
 //! - `laws`: what follows for a list of stages
 //! - `fault`: `OpFault`
 //! - `held_pages`: `HeldPages`, the rows that an operator has still to give
-//! - `examples`: four small operators that keep these promises
+//!
+//! `operator_examples` has four small operators that keep these promises.
 #![tactic(auto)]
 
-pub mod examples;
 mod fault;
 mod held_pages;
 pub mod laws;
 mod operator;
 pub mod stage;
-#[cfg(test)]
-mod tests;
 
 pub use fault::OpFault;
 pub use held_pages::HeldPages;

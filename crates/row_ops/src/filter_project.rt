@@ -24,7 +24,7 @@ use std::thread::Threads;
 
 /// Keeps the rows on which the predicate is TRUE, and gives the columns' values. The predicate is typed, and not
 /// necessarily boolean: no other value than TRUE keeps a row.
-#[derive(Debug, Drop)]
+#[derive(Drop)]
 pub struct FilterProject {
     alloc: Global,
     node: u32,

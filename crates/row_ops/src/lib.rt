@@ -17,8 +17,6 @@
 mod filter_project;
 mod judge_page;
 mod limit;
-#[cfg(test)]
-mod tests;
 mod typing;
 mod values;
 

@@ -18,7 +18,7 @@ use std::sync::Wait;
 use std::thread::Threads;
 
 /// Gives as many of its first rows as its count says. It takes all pages in, and drops the rows past the count.
-#[derive(Debug, Drop)]
+#[derive(Drop)]
 pub struct LimitOp {
     alloc: Global,
     count: u32,

@@ -19,7 +19,7 @@ use std::sync::Wait;
 use std::thread::Threads;
 
 /// Gives rows of its own, in pages. It needs no input, and makes nothing of pages that come.
-#[derive(Debug, Drop)]
+#[derive(Drop)]
 pub struct ValuesOp {
     alloc: Global,
     rows: RowList,

@@ -1,5 +1,5 @@
 /// Why a value was not kept. It is handed back.
-#[derive(Debug, Drop)]
+#[derive(Drop)]
 pub enum SetFault<T> {
     /// The cell holds another value, or a thread set one in the same moment.
     Refused(T),

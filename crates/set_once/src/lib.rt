@@ -18,8 +18,6 @@
 mod cell;
 mod fault;
 mod note;
-#[cfg(test)]
-mod tests;
 
 pub use cell::SetOnce;
 pub use fault::SetFault;

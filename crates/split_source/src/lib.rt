@@ -17,8 +17,6 @@ mod draws;
 mod scan_source;
 mod settle;
 mod splits;
-#[cfg(test)]
-mod tests;
 
 pub use claim_seat::ClaimSeat;
 pub use claims::Claims;

@@ -19,15 +19,11 @@
 //! - `ends`: `PageSource` and `PageTarget`, where pages come from and go to
 //! - `one_pass`: one pass over all stages. `Passed` (`specs/Passes.antt`) says that what the stages took and
 //!   gave goes on as what the source gave and the target was given
-//! - `examples`: the small operators of `operator_core` as stages
 #![tactic(auto)]
 
 mod ends;
-mod examples;
 mod moves;
 mod one_pass;
-#[cfg(test)]
-mod tests;
 mod typed_operator;
 
 pub use ends::{PageSource, PageTarget};

@@ -12,7 +12,7 @@ use std::marker::Model;
 use std::mem;
 
 /// Rows in typed columns: first they are taken in, then they are put in the order of keys and given in pages.
-#[derive(Debug, Drop)]
+#[derive(Drop)]
 pub struct SortBuffer {
     alloc: Global,
     keys: Vec<KeySpec>,

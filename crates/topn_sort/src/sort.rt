@@ -18,7 +18,7 @@ use std::sync::Wait;
 use std::thread::Threads;
 
 /// Gives all rows in the order of keys, once it was told that no page comes any more.
-#[derive(Debug, Drop)]
+#[derive(Drop)]
 pub struct SortOp {
     buffer: SortBuffer,
     is_told: bool,

@@ -19,7 +19,7 @@ use std::thread::Threads;
 
 /// Gives the first rows in the order of keys, as many as its count, once it was told that no page comes any more.
 /// It holds no more rows than these beside the page that it takes in.
-#[derive(Debug, Drop)]
+#[derive(Drop)]
 pub struct TopNOp {
     count: u32,
     buffer: SortBuffer,

@@ -1,0 +1,19 @@
+//! Tests of drivers: what a contract does not say of their moves and turns, and values worked out by hand.
+//!
+//! - `fixtures`: a source without a page, a target that keeps its pages, bells, and stages of `operator_examples`
+//! - `moves`: the moves of `stage_moves`
+//! - `turns`: the turns of `driver_turns`
+//! - `drivers`: of `driver_loop`, drivers that scan a table
+//! - `joins`: of `driver_loop`, a driver that builds the right side of a join, and one that probes it
+#![tactic(auto)]
+
+#[cfg(test)]
+mod drivers;
+#[cfg(test)]
+mod fixtures;
+#[cfg(test)]
+mod joins;
+#[cfg(test)]
+mod moves;
+#[cfg(test)]
+mod turns;

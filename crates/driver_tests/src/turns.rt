@@ -1,0 +1,132 @@
+use crate::fixtures::{Kept, Nothing, Rung, empty_target, page, stages};
+use col_pages::Page;
+use driver_turns::{Turned, look_at_stages, turn};
+use operator_core::OpFault;
+use operator_examples::{NotNull, Note, NotedLimit};
+use sql_values::Memory;
+use stage_moves::{TypedOperator, feed, takes_input};
+use std::alloc::Global;
+use std::sync::Wait;
+use std::thread::Threads;
+
+/// Feeds a page where the first stage takes one.
+fn put(stages: &mut Vec<NotNull>, page: Page) -> bool {
+    if !takes_input(stages) {
+        return false;
+    }
+    feed(stages, page).is_ok()
+}
+
+/// How many rows the first page has that a target was given.
+fn first_rows(target: &mut Kept) -> u32 {
+    match target.pages.take_first() {
+        Some(page) => page.len(),
+        None => 0,
+    }
+}
+
+/// How many rows a turn counted, and why it ended: by its quantum, at a bell with the count that it showed, or
+/// finished.
+#[derive(Clone, Copy, PartialEq, Eq)]
+enum End {
+    Yield(u64),
+    Blocked { units: u64, bell: u32, seen: u64 },
+    Finished(u64),
+    Failed,
+}
+
+fn told(turned: Result<(u64, Turned), OpFault>) -> End {
+    match turned {
+        Ok((units, Turned::Yield)) => End::Yield(units),
+        Ok((units, Turned::Finished)) => End::Finished(units),
+        Ok((units, Turned::Blocked(on))) => {
+            let (bell, seen) = (on.bell, on.seen);
+            End::Blocked { units, bell, seen }
+        }
+        Err(_) => End::Failed,
+    }
+}
+
+/// How a turn over a source without a page ends.
+fn turn_of<S: TypedOperator, R: Threads + Wait + Sync>(
+    rt: &R,
+    alloc: Global,
+    source: &mut Nothing,
+    stages: &mut Vec<S>,
+    target: &mut Kept,
+    quantum: u32,
+) -> End {
+    let mut bells = Rung { alloc, last: None };
+    told(turn(rt, source, stages, target, quantum, &mut bells))
+}
+
+/// How a turn ends of stages that were fed these numbers, and how many rows the target was given first.
+fn turn_fed<R: Threads + Wait + Sync>(
+    rt: &R,
+    alloc: Global,
+    stages: &mut Vec<NotNull>,
+    numbers: &[i64],
+    quantum: u32,
+) -> Result<(bool, End, u32), Memory> {
+    let page = page(alloc, numbers)?;
+    let was_fed = put(stages, page);
+    let mut source = Nothing { is_ended: false };
+    let mut target = empty_target(alloc);
+    let end = turn_of(rt, alloc, &mut source, stages, &mut target, quantum);
+    Ok((was_fed, end, first_rows(&mut target)))
+}
+
+#[test]
+fn a_turn_ends_with_the_last_stage(rt: HostRuntime) -> Result<(), Memory> {
+    let mut stages = stages(rt.alloc())?;
+    let turned = turn_fed(&rt, rt.alloc(), &mut stages, &[1, 2, 3], 100)?;
+    assert!(rt; turned == (true, End::Finished(6), 3));
+    Ok(())
+}
+
+#[test]
+fn a_turn_yields_at_its_quantum(rt: HostRuntime) -> Result<(), Memory> {
+    let mut stages = stages(rt.alloc())?;
+    let ten = [1, 2, 3, 4, 5, 6, 7, 8, 9, 10];
+    let turned = turn_fed(&rt, rt.alloc(), &mut stages, &ten, 1)?;
+    assert!(rt; turned == (true, End::Yield(10), 0));
+    Ok(())
+}
+
+/// A stage that gives its first two rows, once its note knows so after this many looks in vain.
+fn noted(alloc: Global, bell: u32, looks: u32) -> NotedLimit {
+    NotedLimit::new(alloc, bell, Note::new(2, looks))
+}
+
+#[test]
+fn a_turn_waits_until_a_note_knows(rt: HostRuntime) -> Result<(), Memory> {
+    let mut stages = Vec::with_capacity(rt.alloc(), 1)?;
+    stages.push(noted(rt.alloc(), 4, 1))?;
+    let mut source = Nothing { is_ended: false };
+    let mut target = empty_target(rt.alloc());
+    let first = turn_of(&rt, rt.alloc(), &mut source, &mut stages, &mut target, 9);
+    let second = turn_of(&rt, rt.alloc(), &mut source, &mut stages, &mut target, 9);
+    let was_blocked = first
+        == End::Blocked {
+            units: 0,
+            bell: 4,
+            seen: 7,
+        };
+    assert!(rt; was_blocked & (second == End::Finished(0)));
+    Ok(())
+}
+
+#[test]
+fn stages_are_looked_at_one_after_the_other(rt: HostRuntime) -> Result<(), Memory> {
+    let mut stages = Vec::with_capacity(rt.alloc(), 2)?;
+    for place in 0..2 {
+        stages.push(noted(rt.alloc(), 4 + place, place))?;
+    }
+    let mut bells = Rung {
+        alloc: rt.alloc(),
+        last: None,
+    };
+    let waits = look_at_stages(&rt, &mut stages, &mut bells)?;
+    assert!(rt; waits.map_or(0, |on| on.bell) == 5);
+    Ok(())
+}

@@ -1,0 +1,63 @@
+ghost use Rattle.std.specs.Prelude.{◌≡◌, ◌≤◌, Some, None, IsSome, IfSome, IfNone};
+ghost use Rattle.blocked.specs.Counts.{next_count};
+
+use std::marker::Model;
+
+/// A note that comes to know a number. It stands in for the note of a cell that is set once.
+#[derive(Drop)]
+pub struct Note {
+    known: Option<u32>,
+    coming: u32,
+    looks_left: u32,
+    empty_looks: u64,
+}
+
+impl Model for Note {
+    ghost use Rattle.operator_examples.specs.Samples.{NoteState};
+
+    ghost Value = { NoteState };
+
+    ghost view = { λ n. record { known = n.known; empty_looks = n.empty_looks } };
+}
+
+impl Note {
+    /// It knows nothing at first. So many looks find nothing, and the next one finds the number.
+    pub fn new(coming: u32, looks_left: u32) -> Note
+        ensures { result ≡ record { known = None; empty_looks = 0 } }
+    {
+        Note {
+            known: None,
+            coming,
+            looks_left,
+            empty_looks: 0,
+        }
+    }
+
+    /// The number that it knows.
+    pub fn known(&self) -> Option<u32>
+        ensures { result ≡ self.now.known }
+    {
+        self.known
+    }
+
+    /// Looks for the number. A note that knows it keeps it.
+    pub fn look(&mut self) -> Option<u32>
+        ensures kept { IsSome self.old.known → self.new ≡ self.old }
+        ensures found { IfSome result (λ n. self.new ≡ record self.old { known = Some n }) }
+        ensures none { IfNone result (self.new
+            ≡ record { known = None; empty_looks = next_count self.old.empty_looks }) }
+        ensures looks { self.old.empty_looks ≤ self.new.empty_looks }
+        ensures unknown { IfNone result (self.old.known ≡ None) }
+    {
+        if let Some(number) = self.known {
+            return Some(number);
+        }
+        if self.looks_left == 0 {
+            self.known = Some(self.coming);
+            return Some(self.coming);
+        }
+        self.looks_left -= 1;
+        self.empty_looks = self.empty_looks.saturating_add(1);
+        None
+    }
+}

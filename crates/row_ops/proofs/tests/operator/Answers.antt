@@ -1,4 +1,0 @@
-use Rattle.row_ops.proofs.tests.operator.Goals as goal
-
-pub returns : goal.returns
-returns c = rw c.in_ok-types.ensures at c.made.ensures

@@ -7,7 +7,7 @@ use std::alloc::Global;
 use std::str;
 
 /// Why a field stands for no cell.
-#[derive(Clone, Copy, Debug, PartialEq, Eq)]
+#[derive(Clone, Copy)]
 pub(crate) enum FieldFault {
     Refused(u8),
     Memory,

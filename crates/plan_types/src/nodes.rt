@@ -14,7 +14,7 @@ use sql_values::{Memory, Types};
 use std::alloc::Global;
 
 /// The types of the fragments from one on.
-#[derive(Clone, Copy, Debug)]
+#[derive(Clone, Copy)]
 pub struct Later<'a> {
     pub first: usize,
     pub types: &'a [RowTypes],

@@ -18,7 +18,7 @@ pub const TOO_MANY_ROWS: u8 = 5;
 
 /// Why a text was not read as a table: it is refused at a row, the header being row 0, and a column
 /// of it, for one of the reasons above, or memory was wanting.
-#[derive(Clone, Copy, Debug)]
+#[derive(Clone, Copy, Debug, PartialEq, Eq)]
 pub enum TableFault {
     Refused { row: u32, column: u32, why: u8 },
     Memory,

@@ -7,7 +7,7 @@ use std::alloc::Global;
 use std::str;
 
 /// Why a field stands for no cell.
-#[derive(Clone, Copy)]
+#[derive(Clone, Copy, Debug, PartialEq, Eq)]
 pub(crate) enum FieldFault {
     Refused(u8),
     Memory,

@@ -14,7 +14,7 @@ use sql_values::{Memory, Types};
 use std::alloc::Global;
 
 /// The types of the fragments from one on.
-#[derive(Clone, Copy)]
+#[derive(Clone, Copy, Debug)]
 pub struct Later<'a> {
     pub first: usize,
     pub types: &'a [RowTypes],

@@ -5,7 +5,7 @@ use sql_values::{Memory, SqlType, Types};
 use std::alloc::Global;
 
 /// The types of the rows of a node.
-#[derive(Drop)]
+#[derive(Debug, Drop)]
 pub struct RowTypes {
     pub columns: Types,
     /// The columns that the FINAL node makes of the rows of a PARTIAL aggregate.

@@ -9,8 +9,6 @@
 #![tactic(auto)]
 
 mod options;
-#[cfg(test)]
-mod tests;
 mod words;
 
 pub use words::{Job, TableFile, read_words};

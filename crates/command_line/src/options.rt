@@ -7,7 +7,7 @@ use scalar_texts::read_number;
 use sql_values::Text;
 
 /// An option whose value is a number of rows.
-#[derive(Clone, Copy, Debug)]
+#[derive(Clone, Copy)]
 pub enum NumberOption {
     /// The most rows of a split.
     Split,

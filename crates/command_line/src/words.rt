@@ -7,7 +7,7 @@ use sql_values::Text;
 
 /// What the words ask for: the plan's file, the numbers of the options, and a word `NAME=FILE` for each
 /// table that has one.
-#[derive(Clone, Copy, Debug)]
+#[derive(Clone, Copy)]
 pub struct Job<'a> {
     pub plan: &'a str,
     /// The most rows of a split.
@@ -135,7 +135,7 @@ fn names_differ(words: &[Text]) -> bool
 }
 
 /// The file that the words name for a table, and its place among the files, from 0.
-#[derive(Clone, Copy, Debug)]
+#[derive(Clone, Copy)]
 pub struct TableFile<'a> {
     pub place: usize,
     pub file: &'a str,

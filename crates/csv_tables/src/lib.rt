@@ -24,6 +24,3 @@ pub use fault::{MALFORMED, NOT_UTF8, TOO_MANY_ROWS, TableFault, WRONG_HEADER, WR
 pub use laws::{field_reads_back, records_are_one, rows_of_a_table_are_few, rows_of_a_table_fit};
 pub use result_text::text_of;
 pub use table::read_table;
-
-#[cfg(test)]
-mod tests;

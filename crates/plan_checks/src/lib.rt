@@ -22,9 +22,9 @@ mod names;
 mod read;
 mod refusal;
 mod shapes;
-#[cfg(test)]
-mod tests;
 mod types;
 
 pub use fault::PlanFault;
+pub use fragments::first_unlinked;
+pub use halves::first_alone;
 pub use read::{documents_are_one, read_document};

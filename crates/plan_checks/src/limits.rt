@@ -7,7 +7,7 @@ use plan_grammar::{Kind, Place, entries_count, entries_under, number_of, text_of
 use plan_places::Key;
 
 /// What limits the value of a place.
-#[derive(Clone, Copy, Debug)]
+#[derive(Clone, Copy)]
 pub enum Bound {
     /// Nothing does.
     Free,

@@ -20,7 +20,7 @@ use sql_values::{Memory, Text};
 use std::alloc::Global;
 
 /// The check that fails first, and the place at which it does.
-#[derive(Debug, Drop)]
+#[derive(Drop)]
 struct Refusal<'p, 'v> {
     code: u8,
     place: &'p Place<'v>,

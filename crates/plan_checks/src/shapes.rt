@@ -15,7 +15,7 @@ use sql_values::Memory;
 use std::alloc::Global;
 
 /// What may stand at a place.
-#[derive(Clone, Copy, Debug)]
+#[derive(Clone, Copy)]
 pub enum Shape {
     /// An object with exactly the keys of its table.
     Object,

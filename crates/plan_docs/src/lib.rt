@@ -27,8 +27,6 @@ mod plan;
 mod read;
 mod read_nodes;
 mod tables;
-#[cfg(test)]
-mod tests;
 mod words;
 
 pub use node::{DynamicFilter, DynamicFilters, Node, NodeStep};

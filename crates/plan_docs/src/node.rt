@@ -3,7 +3,7 @@ use sql_exprs::{Expr, ExprList};
 use sql_values::{Items, JoinKind, Places, RowList, Types};
 
 /// A node of a plan: an operator, its number and what it reads.
-#[derive(Debug, Drop)]
+#[derive(Drop)]
 pub enum Node {
     /// The named columns of a table. Beside their places it holds their types.
     Scan {
@@ -85,14 +85,14 @@ pub enum Node {
 }
 
 /// Whether a node does the whole of its operator, or the part that comes before a FINAL node.
-#[derive(Clone, Copy, Debug, PartialEq, Eq)]
+#[derive(Clone, Copy)]
 pub enum NodeStep {
     Single,
     Partial,
 }
 
 /// The filter of a scan by the values of a join's right side.
-#[derive(Clone, Copy, Debug, PartialEq, Eq)]
+#[derive(Clone, Copy)]
 pub struct DynamicFilter {
     pub id: u32,
     /// The pair of the join, by its place.

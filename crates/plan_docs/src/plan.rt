@@ -3,7 +3,7 @@ use sql_values::{Columns, Items, Names, Places, Text};
 
 /// A plan. A table is named by its place in `tables`, a column of a scan by its place in that
 /// table, a fragment by its place in `fragments`.
-#[derive(Debug, Drop)]
+#[derive(Drop)]
 pub struct Plan {
     /// The names of the result's columns.
     pub output: Names,
@@ -12,14 +12,14 @@ pub struct Plan {
 }
 
 /// A table as a plan declares it.
-#[derive(Debug, Drop)]
+#[derive(Drop)]
 pub struct TableDoc {
     pub name: Text,
     pub columns: Columns,
 }
 
 /// A part of a plan that runs as tasks of one kind.
-#[derive(Debug, Drop)]
+#[derive(Drop)]
 pub struct Fragment {
     pub placement: Placement,
     pub output: Output,
@@ -27,7 +27,7 @@ pub struct Fragment {
 }
 
 /// Which tasks a fragment has.
-#[derive(Clone, Copy, Debug, PartialEq, Eq)]
+#[derive(Clone, Copy)]
 pub enum Placement {
     /// One task.
     Single,
@@ -38,7 +38,7 @@ pub enum Placement {
 }
 
 /// Where the rows of a fragment go.
-#[derive(Debug, Drop)]
+#[derive(Drop)]
 pub enum Output {
     /// Into the result: fragment 0.
     Result,

@@ -1,5 +1,5 @@
 /// What the grammar of the plan document asks for at a place.
-#[derive(Clone, Copy, Debug, PartialEq, Eq)]
+#[derive(Clone, Copy)]
 pub enum Kind {
     /// The document.
     Document,

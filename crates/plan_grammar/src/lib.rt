@@ -16,8 +16,6 @@ mod json;
 mod kind;
 mod place;
 mod tables;
-#[cfg(test)]
-mod tests;
 mod walk;
 mod words;
 

@@ -14,7 +14,7 @@ use std::alloc::Global;
 
 /// A place of the document: the way to it, the nearest object around it, what the grammar asks for
 /// there, how many nodes or forms stand above one another, and the value.
-#[derive(Debug, Drop)]
+#[derive(Drop)]
 pub struct Place<'a> {
     pub path: Vec<Step>,
     pub owner: &'a Value,

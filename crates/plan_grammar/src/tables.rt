@@ -2,7 +2,7 @@ use crate::kind::Kind;
 use plan_places::Key;
 
 /// A key of an object, and what stands under it.
-#[derive(Clone, Copy, Debug)]
+#[derive(Clone, Copy)]
 pub struct Part {
     pub key: Key,
     pub kind: Kind,

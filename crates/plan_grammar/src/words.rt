@@ -7,7 +7,7 @@ use plan_places::Key;
 use serde_json::Value;
 
 /// The word that tells which operator a node is.
-#[derive(Clone, Copy, Debug, PartialEq, Eq)]
+#[derive(Clone, Copy, PartialEq, Eq)]
 pub enum OpWord {
     Scan,
     Values,
@@ -25,7 +25,7 @@ pub enum OpWord {
 }
 
 /// The word that tells whether an operator is one of two halves, and which.
-#[derive(Clone, Copy, Debug, PartialEq, Eq)]
+#[derive(Clone, Copy, PartialEq, Eq)]
 pub enum StepWord {
     Single,
     Partial,
@@ -35,7 +35,7 @@ pub enum StepWord {
 }
 
 /// The word that tells to which tasks a fragment's rows go.
-#[derive(Clone, Copy, Debug, PartialEq, Eq)]
+#[derive(Clone, Copy, PartialEq, Eq)]
 pub enum OutputWord {
     Single,
     Broadcast,
@@ -45,7 +45,7 @@ pub enum OutputWord {
 }
 
 /// The form of an expression, told by its first key.
-#[derive(Clone, Copy, Debug, PartialEq, Eq)]
+#[derive(Clone, Copy)]
 pub enum FormWord {
     Lit,
     Null,

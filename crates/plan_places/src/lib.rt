@@ -10,8 +10,6 @@
 mod key;
 mod path;
 mod step;
-#[cfg(test)]
-mod tests;
 
 pub use key::Key;
 pub use path::{pointer_of, then};

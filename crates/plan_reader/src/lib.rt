@@ -13,8 +13,6 @@
 mod copies;
 mod judge;
 mod read;
-#[cfg(test)]
-mod tests;
 mod trees;
 
 pub use copies::{copy_exprs, copy_rows};

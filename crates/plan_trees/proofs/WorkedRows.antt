@@ -1,5 +1,5 @@
 -- What trees allow, on rows that were worked out by hand.
-use Rattle.std.proofs.Common.{◌≡◌, ℕ, List, [], ◌∷◌, refl, arith, inl, inr, map}
+use Rattle.std.proofs.Common.{◌≡◌, ℕ, List, [], ◌∷◌, refl, ap, arith, inl, inr, length, length-take, map, take}
 use Rattle.std.specs.Prelude.{pos, negsuc}
 use Rattle.std.proofs.lemmas.List.Sorted.{IsPermutation-cons, IsPermutation-middle, IsPermutation-refl, IsPermutation-trans}
 use Rattle.sql_values.specs.declared.types.SqlType.TheVariants as type
@@ -15,10 +15,10 @@ use Rattle.sql_exprs.specs.Forms.{Form, column, literal, call, cast, none, more}
 use Rattle.relations.specs.Verdicts.{failures, keeps, drops, fails}
 use Rattle.relations.proofs.VerdictLemmas.{failures-same}
 use Rattle.relations.proofs.SortLemmas.{sorted_by_test, test_before, test_ordered}
-use Rattle.plan_trees.specs.TreeForms.{TreeForm, scan, filter, aggregate, sort, topn}
+use Rattle.plan_trees.specs.TreeForms.{TreeForm, scan, filter, aggregate, sort, topn, limit}
 use Rattle.plan_trees.specs.Judges.{filter_judge, project_judge}
 use Rattle.plan_trees.specs.Allowed.{Allows}
-use Rattle.plan_trees.specs.Stopped.{MayFail}
+use Rattle.plan_trees.specs.Stopped.{MayFail, MayHaveGiven}
 
 abbrev whole : ℕ → Form
 whole n = literal type.Bigint (Bigint (pos n))
@@ -154,3 +154,11 @@ one_with_z = (
   },
   refl,
 )
+
+-- a limit that was stopped gave no more rows than its count
+abbrev one_and_two : List (List Value)
+one_and_two = (Bigint (pos 1) ∷ []) ∷ (Bigint (pos 2) ∷ []) ∷ []
+
+a_stopped_limit_gives_no_more : ¬ MayHaveGiven (limit 1 1 ones) (one_and_two ∷ []) one_and_two
+a_stopped_limit_gives_no_more (a, may, same) =
+    let two : 2 ≡ length (take 1 a) = ap length same in absurd (omega (arith, two, length-take 1 a))

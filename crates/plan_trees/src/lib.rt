@@ -10,8 +10,6 @@
 #![tactic(auto)]
 
 mod laws;
-#[cfg(test)]
-mod tests;
 mod tree;
 mod tree_types;
 

@@ -2,7 +2,7 @@ use sql_exprs::{Expr, ExprList};
 use sql_values::{Call, Items, JoinKind, KeySpec, Places, RowList, Types};
 
 /// A column of the left side of a join and one of the right, which are equal in partners.
-#[derive(Clone, Copy, Debug, PartialEq, Eq)]
+#[derive(Clone, Copy)]
 pub struct Pair {
     pub left: u32,
     pub right: u32,
@@ -17,7 +17,7 @@ pub type KeyList = Items<KeySpec>;
 pub type CallList = Items<Call>;
 
 /// An operator over the rows of its inputs. Each has the id of its node in the plan.
-#[derive(Debug, Drop)]
+#[derive(Drop)]
 pub enum Tree {
     /// The rows of a table, cut to the columns at these places, which have these types.
     Scan {

@@ -17,8 +17,6 @@ mod nodes;
 mod operators;
 mod plans;
 mod row_types;
-#[cfg(test)]
-mod tests;
 
 pub use plans::type_plan;
 pub use row_types::RowTypes;

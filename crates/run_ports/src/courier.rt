@@ -3,7 +3,7 @@ ghost use Rattle.run_ports.specs.Counts.{Rose};
 ghost use Rattle.run_ports.specs.Delivering.{IfMissed};
 
 /// What reaches a client after a reply was made: that reply, an earlier one or none.
-#[derive(Clone, Copy, Debug, PartialEq, Eq)]
+#[derive(Clone, Copy)]
 pub enum Delivery {
     Fresh,
     Again(u32),
@@ -24,7 +24,7 @@ pub trait Courier: Sized + Drop {
 }
 
 /// Delivers every reply at once.
-#[derive(Debug, Drop)]
+#[derive(Drop)]
 pub struct ReplayCourier {
     missed: u64,
 }

@@ -8,7 +8,7 @@ use std::error::Error;
 use std::fmt;
 
 /// Why a read gave nothing.
-#[derive(Clone, Copy, Debug, PartialEq, Eq)]
+#[derive(Clone, Copy, Debug)]
 pub enum FileFault {
     Failed,
     Memory,

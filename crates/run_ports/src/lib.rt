@@ -22,8 +22,6 @@ mod mem_files;
 mod mem_sink;
 mod sink;
 mod std_sink;
-#[cfg(test)]
-mod tests;
 
 pub use courier::{Courier, Delivery, ReplayCourier};
 pub use disk_files::DiskFiles;

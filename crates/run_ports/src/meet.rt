@@ -5,7 +5,7 @@ pub trait Meet {
 }
 
 /// Hears nothing.
-#[derive(Clone, Copy, Debug)]
+#[derive(Clone, Copy)]
 pub struct NoMeet;
 
 impl Meet for NoMeet {

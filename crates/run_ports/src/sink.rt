@@ -8,7 +8,7 @@ use std::error::Error;
 use std::fmt;
 
 /// A write took nothing, by a fault of the sink.
-#[derive(Clone, Copy, Debug, PartialEq, Eq)]
+#[derive(Clone, Copy, Debug)]
 pub struct SinkFailed;
 
 impl fmt::Display for SinkFailed {

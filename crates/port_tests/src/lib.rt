@@ -1,0 +1,13 @@
+//! Tests of the crates at the outside of a run: a module for each, over its public items alone.
+//!
+//! - `ports`: files, sinks, couriers and meetings of `run_ports`
+//! - `words`: the words of `command_line`, and what they ask for
+//! - `tables`: texts in CSV, read and printed by `csv_tables`
+#![tactic(auto)]
+
+#[cfg(test)]
+mod ports;
+#[cfg(test)]
+mod tables;
+#[cfg(test)]
+mod words;

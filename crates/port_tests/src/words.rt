@@ -1,0 +1,148 @@
+//! Words and what they ask for, as lines.
+use command_line::{Job, read_words};
+use sql_values::Text;
+use std::alloc::Global;
+use std::test::Fail;
+
+fn words_in(alloc: Global, line: &str) -> Result<Vec<Text>, Fail> {
+    let mut words = Vec::new(alloc);
+    for word in line.split_whitespace() {
+        words.push(Text::copy_of(alloc, word)?)?;
+    }
+    Ok(words)
+}
+
+/// Whether the words are no command line.
+fn is_refused(alloc: Global, line: &str) -> Result<bool, Fail> {
+    let words = words_in(alloc, line)?;
+    Ok(read_words(words.as_slice()).is_none())
+}
+
+#[test]
+fn refuses_what_is_no_command_line(rt: HostRuntime) -> Result<(), Fail> {
+    let lines = "\n--plan\np\n--plan=\n--plan -p t=t\n--plan p t\n--plan p t=\n--plan p =t\n\
+        --plan p -t=t\n--pla p t=t\n--plan p t=a t=b\n--plan p t=a u=b t=c\n--plan p --plan q\n\
+        --workers 0 --plan p\n--plan p --\n--plan p t=t --demo 1\nt=t --plan p";
+    for line in lines.split('\n') {
+        assert!(rt; is_refused(rt.alloc(), line)?, "{line}");
+    }
+    Ok(())
+}
+
+/// Whether the job is that of `--plan a=b t=x=y u=t`.
+fn is_asked(job: &Job<'_>) -> bool {
+    job.plan == "a=b"
+        && has_file(job, "t", "x=y")
+        && has_place(job, "u", 1)
+        && job.file_of("x").is_none()
+        && job.file_at(1) == "t"
+}
+
+fn has_file(job: &Job<'_>, name: &str, file: &str) -> bool {
+    match job.file_of(name) {
+        Some(found) => found.file == file,
+        None => false,
+    }
+}
+
+fn has_place(job: &Job<'_>, name: &str, place: usize) -> bool {
+    match job.file_of(name) {
+        Some(found) => found.place == place,
+        None => false,
+    }
+}
+
+fn asks(words: &[Text]) -> bool {
+    match read_words(words) {
+        Some(job) => is_asked(&job),
+        None => false,
+    }
+}
+
+#[test]
+fn tells_what_is_asked_for(rt: HostRuntime) -> Result<(), Fail> {
+    let words = words_in(rt.alloc(), "--plan a=b t=x=y u=t")?;
+    assert!(rt; asks(words.as_slice()));
+    Ok(())
+}
+
+#[test]
+fn a_plan_may_have_no_table(rt: HostRuntime) -> Result<(), Fail> {
+    assert!(rt; !is_refused(rt.alloc(), "--plan p")?);
+    Ok(())
+}
+
+/// Options and files, and the most rows of a split and of a page and the rows of a turn that they
+/// ask for, or `none`.
+const NUMBERS: &str = "\
+ | 10000 1024 100000\n\
+t=t | 10000 1024 100000\n\
+--split 1 t=t | 1 1024 100000\n\
+--split 1000000 | 1000000 1024 100000\n\
+--split 1000001 | none\n\
+--split 0 | none\n\
+--page 1 t=t u=u | 10000 1 100000\n\
+--page 8192 | 10000 8192 100000\n\
+--page 8193 | none\n\
+--page 0 | none\n\
+--quantum 1 | 10000 1024 1\n\
+--quantum 1000000 | 10000 1024 1000000\n\
+--quantum 1000001 | none\n\
+--quantum 0 | none\n\
+--quantum 3 --split 007 --page 2 t=t | 7 2 3\n\
+--split 18446744073709551617 | none\n\
+--split 1 --split 1 | none\n\
+--page 1 --split 1 --page 1 t=t | none\n\
+--workers 1 | none\n\
+--spli 1 | none\n\
+--split | none\n\
+--page 1 --split | none\n\
+--split t=t | none\n\
+--split=1 | none\n\
+--split +1 | none\n\
+--split -1 | none\n\
+--split 1.0 | none\n\
+t=t --split 1 | none";
+
+/// Whether the job has the numbers.
+fn has_numbers(alloc: Global, job: &Job<'_>, want: &str) -> Result<bool, Fail> {
+    let found = format!(in alloc; "{} {} {}", job.split, job.page, job.quantum)?;
+    Ok(found.as_str() == want)
+}
+
+fn gives_numbers(alloc: Global, words: &[Text], want: &str) -> Result<bool, Fail> {
+    match read_words(words) {
+        Some(job) => has_numbers(alloc, &job, want),
+        None => Ok(want == "none"),
+    }
+}
+
+/// Whether the words after `--plan p` give the numbers.
+fn is_told(alloc: Global, options: &str, want: &str) -> Result<bool, Fail> {
+    let line = format!(in alloc; "--plan p {options}")?;
+    let words = words_in(alloc, line.as_str())?;
+    gives_numbers(alloc, words.as_slice(), want)
+}
+
+fn is_case(alloc: Global, line: &str) -> Result<bool, Fail> {
+    match line.split_once('|') {
+        Some((options, want)) => is_told(alloc, options, want.trim()),
+        None => Ok(false),
+    }
+}
+
+/// The first line that does not tell what is told.
+fn untold(alloc: Global, lines: &'static str) -> Result<&'static str, Fail> {
+    for line in lines.lines() {
+        if !is_case(alloc, line)? {
+            return Ok(line);
+        }
+    }
+    Ok("")
+}
+
+#[test]
+fn options_give_numbers(rt: HostRuntime) -> Result<(), Fail> {
+    assert_eq!(rt; untold(rt.alloc(), NUMBERS)?, "");
+    Ok(())
+}

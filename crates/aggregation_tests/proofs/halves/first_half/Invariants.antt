@@ -1,6 +1,6 @@
 use Rattle.col_pages.specs.Pages.{TypedPage}
 use Rattle.aggregation.specs.Giving.{FitsTypes}
-use Rattle.aggregation.proofs.tests.first_half.Given as goal
+use Rattle.aggregation_tests.proofs.halves.first_half.Given as goal
 
 -- the operator takes each page of the types
 abbrev pub invariant-loop-row : goal.invariant-loop-row

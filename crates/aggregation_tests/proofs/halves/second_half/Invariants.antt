@@ -1,7 +1,7 @@
 use Rattle.col_pages.specs.Pages.{TypedPage}
 use Rattle.aggregation.specs.Finals.{taken_by}
 use Rattle.aggregation.specs.Giving.{FitsTypes}
-use Rattle.aggregation.proofs.tests.second_half.Given as goal
+use Rattle.aggregation_tests.proofs.halves.second_half.Given as goal
 
 -- the operator takes each page of the layout
 abbrev pub invariant-loop-page : goal.invariant-loop-page

@@ -1,7 +1,7 @@
 use Rattle.std.proofs.Common.{List, subst, sym}
 use Rattle.sql_values.specs.declared.types.SqlType.{SqlType}
 use Rattle.aggregation.specs.Giving.{FitsTypes}
-use Rattle.aggregation.proofs.tests.whole.Goals as goal
+use Rattle.aggregation_tests.proofs.halves.whole.Goals as goal
 
 pub take_in-requires : goal.take_in-requires
 take_in-requires c =

@@ -1,7 +1,7 @@
 use Rattle.std.proofs.Common.{List, subst, sym, ◌∙◌}
 use Rattle.sql_values.specs.declared.types.SqlType.{SqlType}
 use Rattle.aggregation.specs.Giving.{FitsTypes}
-use Rattle.aggregation.proofs.tests.first_half.Goals as goal
+use Rattle.aggregation_tests.proofs.halves.first_half.Goals as goal
 
 pub loop-row-init : goal.loop-row-init
 loop-row-init c =

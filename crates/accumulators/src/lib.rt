@@ -23,7 +23,5 @@ mod call_states;
 mod firsts;
 mod limits;
 mod sums;
-#[cfg(test)]
-mod tests;
 
 pub use accumulator::Accumulator;

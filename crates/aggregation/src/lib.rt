@@ -23,8 +23,6 @@ mod page_row;
 mod partial;
 mod single;
 mod table;
-#[cfg(test)]
-mod tests;
 
 pub use final_agg::FinalAgg;
 pub use group_rows::GroupRows;

@@ -11,8 +11,6 @@
 mod chains;
 mod hashes;
 mod index;
-#[cfg(test)]
-mod tests;
 
 pub use chains::HashChains;
 pub use index::GroupIndex;

@@ -7,3 +7,4 @@ pub mod OperatorLemmas
 pub mod FinishLemmas
 pub mod ProbeLemmas
 pub mod LookupLemmas
+pub mod WorkedNets

@@ -29,8 +29,6 @@ mod lists;
 mod node_rows;
 mod sorts;
 mod stop;
-#[cfg(test)]
-mod tests;
 
 pub use eval::evaluate;
 pub use fit::fits_tables;

@@ -1,0 +1,1 @@
+use Rattle.accumulators.proofs.accumulator.Accumulator.part.Goals as goal

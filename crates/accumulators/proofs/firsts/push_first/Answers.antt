@@ -1,0 +1,1 @@
+use Rattle.accumulators.proofs.firsts.push_first.Goals as goal

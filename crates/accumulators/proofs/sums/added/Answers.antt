@@ -1,0 +1,1 @@
+use Rattle.accumulators.proofs.sums.added.Goals as goal

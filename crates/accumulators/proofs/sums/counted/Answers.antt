@@ -1,0 +1,1 @@
+use Rattle.accumulators.proofs.sums.counted.Goals as goal

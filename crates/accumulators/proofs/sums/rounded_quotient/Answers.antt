@@ -1,0 +1,1 @@
+use Rattle.accumulators.proofs.sums.rounded_quotient.Goals as goal

@@ -1,0 +1,1 @@
+use Rattle.accumulators.proofs.sums.sum_result.Goals as goal

@@ -1,0 +1,1 @@
+use Rattle.aggregation.proofs.layouts.append_layout.Goals as goal

@@ -1,0 +1,1 @@
+use Rattle.aggregation.proofs.table.GroupTable.new.Goals as goal

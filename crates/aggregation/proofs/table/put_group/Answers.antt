@@ -1,0 +1,1 @@
+use Rattle.aggregation.proofs.table.put_group.Goals as goal

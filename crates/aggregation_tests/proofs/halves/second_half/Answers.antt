@@ -1,0 +1,21 @@
+use Rattle.std.proofs.Common.{◌≡◌, List, ◌∙◌, subst, sym}
+use Rattle.sql_values.specs.declared.types.SqlType.{SqlType}
+use Rattle.aggregation.specs.Giving.{FitsTypes}
+use Rattle.aggregation.specs.Layouts.{layout_types}
+use Rattle.aggregation_tests.proofs.halves.second_half.Goals as goal
+
+pub loop-page-init : goal.loop-page-init
+loop-page-init c =
+    let layout : c.args.layout.now ≡ layout_types c.in_ok-from_slice.field-0.items c.in_ok-from_slice-3.field-0.items c.in_ok-from_slice-2.field-0.items
+    = c.requires.layout
+    ∙ (λ i. layout_types (sym c.in_ok-from_slice.ensures.items i) (sym c.in_ok-from_slice-3.ensures.items i) (sym c.in_ok-from_slice-2.ensures.items i)) in
+    λ p fit. (c.in_ok-op.ensures.takes p).1 (subst (λ (ts : List SqlType). FitsTypes ts p) layout fit)
+
+pub take_in-requires : goal.take_in-requires
+take_in-requires c =
+    let page = c.in_ok-copied.field-0 in
+    c.loop-page.invariant page c.in_ok-copied.ensures
+
+pub loop-page-preserved : goal.loop-page-preserved
+loop-page-preserved c =
+    λ p fit. c.take_in.ensures p (fit.0 ∙ sym c.in_ok-copied.ensures.0) (c.loop-page.invariant p fit)

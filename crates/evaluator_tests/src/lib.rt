@@ -1,0 +1,5 @@
+//! Tests of the plain evaluator of trees: small trees over constants, worked out by hand.
+#![tactic(auto)]
+
+#[cfg(test)]
+mod trees;

@@ -1,0 +1,1 @@
+use Rattle.group_index.proofs.index.GroupIndex.push.Goals as goal

@@ -1,0 +1,1 @@
+use Rattle.task_executor.proofs.closing.follows.Goals as goal

@@ -1,0 +1,1 @@
+use Rattle.tree_evaluator.proofs.fit.is_typed.Goals as goal

@@ -1,0 +1,1 @@
+use Rattle.tree_evaluator.proofs.judges.keep.Goals as goal

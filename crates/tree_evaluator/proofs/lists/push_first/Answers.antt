@@ -1,0 +1,1 @@
+use Rattle.tree_evaluator.proofs.lists.push_first.Goals as goal

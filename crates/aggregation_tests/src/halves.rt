@@ -22,6 +22,13 @@ const TYPES: [SqlType; 5] = [
     SqlType::Varchar,
 ];
 
+fn put_value(builder: &mut PageBuilder, value: ValueRef<'_>) -> Result<(), Memory>
+    ensures { builder.new.types ≡ builder.old.types }
+{
+    let _taken = builder.put(value)?;
+    Ok(())
+}
+
 /// Appends a cell.
 fn put_cell(
     alloc: Global,
@@ -32,14 +39,12 @@ fn put_cell(
     ensures { builder.new.types ≡ builder.old.types }
 {
     if text == "-" {
-        let _taken = builder.put(ValueRef::Null)?;
-        return Ok(());
+        return put_value(builder, ValueRef::Null);
     }
-    let Ok(value) = parse_value(alloc, kind, text) else {
-        return Err(Memory);
-    };
-    let _taken = builder.put(value.as_ref())?;
-    Ok(())
+    match parse_value(alloc, kind, text) {
+        Ok(value) => put_value(builder, value.as_ref()),
+        Err(_) => Err(Memory),
+    }
 }
 
 /// Appends a row of cells.
@@ -105,7 +110,7 @@ fn copy_row(builder: &mut PageBuilder, page: &Page, row: u32) -> Result<(), Memo
     ensures { builder.new.types ≡ builder.old.types }
 {
     for column in 0..16 {
-        builder.put(page.cell(row, column))?;
+        put_value(builder, page.cell(row, column))?;
     }
     if !builder.is_full() {
         builder.end_row();

@@ -206,13 +206,23 @@ fn a_project_gives_each_column_or_fails_at_the_first_row(rt: HostRuntime) -> Res
     Ok(())
 }
 
+fn number_row(alloc: Global, number: i64) -> Result<Row, Memory> {
+    let mut values = Vec::with_capacity(alloc, 1)?;
+    values.push(Value::Bigint(number))?;
+    Ok(Row::of(values))
+}
+
 /// So many numbers, 1 to 7 in turn.
 fn many_rows(alloc: Global, count: i64) -> Result<RowList, Memory> {
     let mut rows = RowList::new(alloc);
     for n in 0..count {
-        rows.push(Row::of(Vec::from_array(alloc, [Value::Bigint(n % 7 + 1)])?))?;
+        add_number(alloc, &mut rows, n % 7 + 1)?;
     }
     Ok(rows)
+}
+
+fn add_number(alloc: Global, rows: &mut RowList, number: i64) -> Result<(), Memory> {
+    rows.push(number_row(alloc, number)?)
 }
 
 fn many_numbers(alloc: Global, count: i64) -> Result<Tree, Memory> {

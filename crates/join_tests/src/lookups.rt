@@ -8,13 +8,17 @@ use std::alloc::Global;
 
 const PRICE: SqlType = SqlType::Decimal { p: 4, s: 2 };
 
+fn put_value(rows: &mut ColumnRows, value: ValueRef<'_>) -> Result<(), Memory> {
+    let _taken = rows.put(value)?;
+    Ok(())
+}
+
 fn put(alloc: Global, rows: &mut ColumnRows, kind: SqlType, text: &str) -> Result<(), ParseFault> {
     if text == "-" {
-        let _taken = rows.put(ValueRef::Null)?;
-        return Ok(());
+        return Ok(put_value(rows, ValueRef::Null)?);
     }
-    let _taken = rows.put(parse_value(alloc, kind, text)?.as_ref())?;
-    Ok(())
+    let value = parse_value(alloc, kind, text)?;
+    Ok(put_value(rows, value.as_ref())?)
 }
 
 fn put_row(

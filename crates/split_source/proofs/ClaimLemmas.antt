@@ -12,7 +12,7 @@ use Rattle.atomic_table.proofs.Lists.{at_set, at_snoc, set_again, set_else}
 use Rattle.split_source.specs.declared.draws.Counts.{Counts}
 use Rattle.split_source.specs.declared.draws.Drawn.{Drawn}
 use Rattle.split_source.specs.Claims.{unshared, fewer, one_seat, together, spent, with_number, with_end, IsView, ClaimRule, Keeps, Drew, Showed}
-use Rattle.split_source.proofs.SumLemmas.{sum_range, sum_by-put, sum_by-alone, sum_by-below}
+use Rattle.sum_laws.proofs.SumLemmas.{sum_range, sum_by-put, sum_by-alone, sum_by-below}
 
 each_put : (counts : Counts) (views : List Drawn) (id : ℕ) (w : Drawn) → ((by : ℕ) (v : Drawn) → get_elem? views by ≡ some v → IsView counts v) → IsView counts w → (by : ℕ) (v : Drawn) → get_elem? (set views id w) by ≡ some v → IsView counts v
 each_put counts views id w all mine by v e =

@@ -1,4 +1,3 @@
-pub mod SumLemmas
 pub mod ClaimLemmas
 pub mod NumberLemmas
 pub mod JoinLemmas

@@ -9,7 +9,7 @@ use Rattle.std.proofs.Math.Seq.{take-length}
 use Rattle.split_source.specs.Splits.{split_count, split_of, rows_of}
 use Rattle.std.proofs.lemmas.List.Sums.{sum_by-cons, sum_by-append}
 use Rattle.split_source.proofs.NumberLemmas.{Stands, found, hit, hit_itself}
-use Rattle.split_source.proofs.SumLemmas.{range_push}
+use Rattle.sum_laws.proofs.SumLemmas.{range_push}
 
 -- a split begins before the rows end
 pub begins_within : (rows size number : ℕ) → 0 < size → number < split_count rows size → number * size < rows

@@ -1,11 +1,12 @@
 ghost use Rattle.std.specs.Prelude.{◌≡◌, ◌≤◌, ◌++◌, length, flat_map};
 ghost use Rattle.std.specs.Int.{w32, w64, w128, to_le_bytes};
 ghost use Rattle.sql_values.specs.Buckets.{bucket_of, bytes_of, hash_after, hash_byte, number_bytes};
+ghost use Rattle.sql_values.specs.Cells.{lent_value};
 
-use crate::value::Value;
+use crate::value::{Value, ValueRef};
 
-/// The hash of no byte.
-const EMPTY: u64 = 14_695_981_039_346_656_037;
+/// The bucket hash of no value, which `bucket_hash` goes on from.
+pub const EMPTY_HASH: u64 = 14_695_981_039_346_656_037;
 
 const PRIME: u64 = 1_099_511_628_211;
 
@@ -19,26 +20,27 @@ pub fn bucket(values: &[Value], n: u32) -> u32
 
 #[tactic(auto, using(crate::proofs::HashLemmas::hashing))]
 fn hash_values(values: &[Value]) -> u64
-    ensures { result ≡ hash_after EMPTY (flat_map bytes_of values.now) }
+    ensures { result ≡ hash_after EMPTY_HASH (flat_map bytes_of values.now) }
 {
-    let mut hash = EMPTY;
+    let mut hash = EMPTY_HASH;
     for value in values {
-        hash = hash_value(hash, value);
+        hash = bucket_hash(hash, value.as_ref());
     }
     hash
 }
 
+/// The bucket hash after one more value. The hash of some values, modulo `n`, is their bucket among `n`.
 #[tactic(auto, using(crate::proofs::HashLemmas::hashing))]
-fn hash_value(hash: u64, value: &Value) -> u64
-    ensures { result ≡ hash_after hash (bytes_of value.now) }
+pub fn bucket_hash(hash: u64, value: ValueRef<'_>) -> u64
+    ensures { result ≡ hash_after hash (bytes_of (lent_value value.entry)) }
 {
     match value {
-        Value::Null => hash_byte(hash, 0),
-        Value::Boolean(truth) => hash_byte(hash_byte(hash, 1), u8::from(*truth)),
-        Value::Bigint(n) => hash_bytes(hash_byte(hash, 1), &bigint_bytes(*n)),
-        Value::Decimal(unscaled) => hash_bytes(hash_byte(hash, 1), &decimal_bytes(*unscaled)),
-        Value::Varchar(text) => hash_text(hash_byte(hash, 1), text.as_str().as_bytes()),
-        Value::Date(day) => hash_bytes(hash_byte(hash, 1), &date_bytes(*day)),
+        ValueRef::Null => hash_byte(hash, 0),
+        ValueRef::Boolean(truth) => hash_byte(hash_byte(hash, 1), u8::from(truth)),
+        ValueRef::Bigint(n) => hash_bytes(hash_byte(hash, 1), &bigint_bytes(n)),
+        ValueRef::Decimal(unscaled) => hash_bytes(hash_byte(hash, 1), &decimal_bytes(unscaled)),
+        ValueRef::Varchar(text) => hash_text(hash_byte(hash, 1), text.as_bytes()),
+        ValueRef::Date(day) => hash_bytes(hash_byte(hash, 1), &date_bytes(day)),
     }
 }
 

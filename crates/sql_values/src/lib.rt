@@ -13,7 +13,7 @@
 //! - `value_texts`, `type_texts`: values and types as texts, by `specs/Texts.antt` and
 //!   `specs/TypeTexts.antt`; what is printed reads back as the value
 //! - `order`: rows by sort keys, by `specs/Order.antt`
-//! - `hash`: the bucket of a key, by `specs/Buckets.antt`
+//! - `hash`: the bucket of a key, value by value where its values stand in columns, by `specs/Buckets.antt`
 //! - `relational`, `fail`, `memory`: words that the crates above share
 #![tactic(auto)]
 
@@ -40,7 +40,7 @@ pub use block::{Block, typed_values_fit_blocks};
 pub use column_rows::ColumnRows;
 pub use decimals::{Decimal, OutOfRange};
 pub use fail::{EvalFault, Fail};
-pub use hash::bucket;
+pub use hash::{EMPTY_HASH, bucket, bucket_hash};
 pub use items::Items;
 pub use memory::Memory;
 pub use order::{

@@ -1,0 +1,7 @@
+use Rattle.std.proofs.Common.{◌≡◌, ◌∙◌, ap}
+use Rattle.crossbeam_queue.specs.Passes.{view}
+use Rattle.output_buffer.proofs.EdgeLemmas.{merges}
+use Rattle.output_buffer.proofs.spread_stop.join_take.Goals as goal
+
+pub absorb-requires-clause-rule : goal.absorb-requires-clause-rule
+absorb-requires-clause-rule c = merges _ _ _ _ c.requires.pass.1

@@ -1,0 +1,115 @@
+//! The queue of an edge under its rule, and the names of the steps on it.
+ghost use Rattle.output_buffer.specs.Edges.{all_parts, hand};
+
+use crate::piece::Piece;
+use crossbeam_queue::protocol::{Join, Lesson, Outcome, Protocol, Split};
+use crossbeam_queue::{Pass, RuledArrayQueue};
+use std::collections::LinkedList;
+
+/// What one or more seats know. No value of it is made.
+pub struct Hand {
+    /// How much of the edge these seats are.
+    pub parts: u64,
+    /// How many of them may still put pages.
+    pub putting: u64,
+    pub put: LinkedList<Piece>,
+    pub took: LinkedList<Piece>,
+}
+
+/// The bells of an edge.
+#[derive(Clone, Copy, Debug)]
+pub struct EdgeBells {
+    /// Rung when a piece came.
+    pub piece: u32,
+    /// Rung when a place became free.
+    pub space: u32,
+}
+
+pub(crate) type EdgeQueue = RuledArrayQueue<Piece, Hand, Edge>;
+
+pub(crate) type EdgePass = Pass<Piece, Hand>;
+
+pub struct Edge;
+
+impl Protocol<Piece, Hand> for Edge {
+    ghost use Rattle.std.specs.Prelude.{[]};
+    ghost use Rattle.output_buffer.specs.Edges.{Kept, first_hand};
+
+    ghost holds = { Kept };
+
+    ghost first = { first_hand };
+}
+
+/// A putter's seat is taken from a taker's.
+pub(crate) struct NewPutter;
+
+impl Split<Hand> for NewPutter {
+    ghost use Rattle.output_buffer.specs.Edges.{fewer_done, new_putter};
+
+    ghost left = { fewer_done };
+
+    ghost right = { λ v. new_putter };
+}
+
+/// A taker's seat is taken from a putter's.
+pub(crate) struct NewTaker;
+
+impl Split<Hand> for NewTaker {
+    ghost use Rattle.output_buffer.specs.Edges.{fewer, new_taker};
+
+    ghost left = { fewer };
+
+    ghost right = { λ v. new_taker };
+}
+
+/// What two know is known by one.
+pub(crate) struct Together;
+
+impl Join<Hand> for Together {
+    ghost use Rattle.output_buffer.specs.Edges.{together, nobody};
+
+    ghost both = { together };
+
+    ghost spent = { nobody };
+}
+
+/// A piece was put at the back.
+pub(crate) struct Puts;
+
+impl Outcome<Piece, Hand> for Puts {
+    ghost use Rattle.std.specs.Prelude.{◌≡◌};
+    ghost use Rattle.output_buffer.specs.Edges.{with_put};
+
+    ghost then = { λ v x w. w ≡ with_put v x };
+}
+
+impl Lesson<Piece, Hand> for Puts {
+    ghost use Rattle.std.specs.Prelude.{⊤};
+
+    ghost fact = { λ v items. ⊤ };
+}
+
+/// A piece was taken at the front.
+pub(crate) struct Takes;
+
+impl Outcome<Piece, Hand> for Takes {
+    ghost use Rattle.std.specs.Prelude.{◌≡◌};
+    ghost use Rattle.output_buffer.specs.Edges.{with_took};
+
+    ghost then = { λ v x w. w ≡ with_took v x };
+}
+
+impl Lesson<Piece, Hand> for Takes {
+    ghost use Rattle.std.specs.Prelude.{⊤};
+
+    ghost fact = { λ v items. ⊤ };
+}
+
+/// What all seats of an edge know of it.
+pub(crate) struct Total;
+
+impl Lesson<Piece, Hand> for Total {
+    ghost use Rattle.output_buffer.specs.Edges.{Shows};
+
+    ghost fact = { Shows };
+}

@@ -1,0 +1,100 @@
+//! The seat of one of the putters of a `Gather`.
+ghost use Rattle.std.specs.Prelude.{◌≡◌, ◌∷◌, ◌++◌, [], IfOk, IfErr, OnOk, OnErr};
+ghost use Rattle.crossbeam_queue.specs.Passes.{view, IsPassOf};
+ghost use Rattle.blocked.specs.Counts.{next_count};
+ghost use Rattle.output_buffer.specs.Edges.{new_putter};
+ghost use Rattle.output_buffer.specs.Seats.{MayPut, edge_of, new_put};
+
+use crate::edge::{EdgeBells, EdgePass, EdgeQueue, Puts};
+use crate::piece::{Piece, PutFault};
+use blocked::Due;
+use std::marker::Model;
+use std::sync::Wait;
+
+/// Puts pages, and then one End, to the taker. It can go to another thread.
+#[derive(Drop)]
+pub struct GatherPut<'e> {
+    pub(crate) queue: &'e EdgeQueue,
+    pub(crate) pass: EdgePass,
+    pub(crate) bells: EdgeBells,
+    pub(crate) number: u32,
+    fulls: u64,
+}
+
+impl<'e> Model for GatherPut<'e> {
+    ghost use Rattle.output_buffer.specs.Seats.{PutSeat};
+
+    ghost Value = { PutSeat };
+
+    ghost use Rattle.output_buffer.specs.InGather.{put_view, IsPutter};
+
+    ghost view = { put_view };
+
+    ghost invariant = { IsPutter };
+}
+
+impl<'e> GatherPut<'e> {
+    pub(crate) fn new(
+        queue: &'e EdgeQueue,
+        pass: EdgePass,
+        bells: EdgeBells,
+        number: u32,
+    ) -> GatherPut<'e>
+        requires { IsPassOf queue.now pass × (view pass ≡ new_putter) }
+        ensures { result ≡ new_put (edge_of queue.now bells) number }
+    {
+        GatherPut {
+            queue,
+            pass,
+            bells,
+            number,
+            fulls: 0,
+        }
+    }
+
+    /// The place among the putters, from 0.
+    pub fn number(&self) -> u32
+        ensures { result ≡ self.now.number }
+    {
+        self.number
+    }
+
+    /// The bell that rings when a piece came.
+    pub fn piece_bell(&self) -> u32
+        ensures { result ≡ self.now.edge.bells.piece }
+    {
+        self.bells.piece
+    }
+
+    /// The bell that rings when a place became free.
+    pub fn space_bell(&self) -> u32
+        ensures { result ≡ self.now.edge.bells.space }
+    {
+        self.bells.space
+    }
+
+    /// How many puts were answered Full, at the most `u64::MAX`.
+    pub fn fulls(&self) -> u64
+        ensures { result ≡ self.now.fulls }
+    {
+        self.fulls
+    }
+
+    /// Puts a piece at the back, in one atomic step, without taking memory. The due is of the bell that rings
+    /// when a piece came. Full comes only where the edge held its room at one moment of the call.
+    pub fn put<R: Wait>(&mut self, rt: &R, piece: Piece) -> Result<Due, PutFault>
+        requires { MayPut self.old piece }
+        ensures due { IfOk result (λ due. due.number ≡ self.old.edge.bells.piece) }
+        ensures put { OnOk result (self.new ≡ record self.old { put = self.old.put ++ piece ∷ [] }) }
+        ensures full { IfErr result (λ fault. fault ≡ PutFault.Full piece) }
+        ensures counted { OnErr result (self.new ≡ record self.old { fulls = next_count self.old.fulls }) }
+    {
+        match self.queue.push_as::<Puts, R>(rt, &mut self.pass, piece) {
+            Ok(()) => Ok(Due::of(self.bells.piece)),
+            Err(piece) => {
+                self.fulls = self.fulls.saturating_add(1);
+                Err(PutFault::Full(piece))
+            }
+        }
+    }
+}

@@ -1,0 +1,120 @@
+//! The seat of the taker of a `Gather`.
+ghost use Rattle.std.specs.Prelude.{◌≡◌, ◌-◌, ◌∷◌, ◌++◌, ◌↔◌, [], IsTrue, IfOk, OnErr};
+ghost use Rattle.crossbeam_queue.specs.Passes.{view, IsPassOf};
+ghost use Rattle.blocked.specs.Counts.{next_count};
+ghost use Rattle.output_buffer.specs.Edges.{all_parts, hand, is_end};
+ghost use Rattle.output_buffer.specs.Seats.{HasEnded, edge_of, new_take};
+
+use crate::edge::{EdgeBells, EdgePass, EdgeQueue, Takes};
+use crate::piece::{Empty, Piece, Took};
+use blocked::Due;
+use std::marker::Model;
+use std::sync::Wait;
+
+/// Takes what the putters put, until the End of each was taken. It can go to another thread.
+#[derive(Drop)]
+pub struct GatherTake<'e> {
+    pub(crate) queue: &'e EdgeQueue,
+    pub(crate) pass: EdgePass,
+    pub(crate) bells: EdgeBells,
+    pub(crate) putters: u32,
+    /// How many Ends were not taken yet.
+    pub(crate) left: u32,
+    pub(crate) empties: u64,
+}
+
+impl<'e> Model for GatherTake<'e> {
+    ghost use Rattle.output_buffer.specs.Seats.{TakeSeat};
+
+    ghost Value = { TakeSeat };
+
+    ghost use Rattle.output_buffer.specs.InGather.{take_view, IsTaker};
+
+    ghost view = { take_view };
+
+    ghost invariant = { IsTaker };
+}
+
+impl<'e> GatherTake<'e> {
+    pub(crate) fn new(
+        queue: &'e EdgeQueue,
+        pass: EdgePass,
+        bells: EdgeBells,
+        putters: u32,
+    ) -> GatherTake<'e>
+        requires { IsPassOf queue.now pass × (view pass ≡ hand (all_parts - putters) 0 [] []) }
+        ensures { result ≡ new_take (edge_of queue.now bells) putters }
+    {
+        GatherTake {
+            queue,
+            pass,
+            bells,
+            putters,
+            left: putters,
+            empties: 0,
+        }
+    }
+
+    /// How many putters there are.
+    pub fn putters(&self) -> u32
+        ensures { result ≡ self.now.putters }
+    {
+        self.putters
+    }
+
+    /// The bell that rings when a piece came.
+    pub fn piece_bell(&self) -> u32
+        ensures { result ≡ self.now.edge.bells.piece }
+    {
+        self.bells.piece
+    }
+
+    /// The bell that rings when a place became free.
+    pub fn space_bell(&self) -> u32
+        ensures { result ≡ self.now.edge.bells.space }
+    {
+        self.bells.space
+    }
+
+    /// How many takes were answered Empty, at the most `u64::MAX`.
+    pub fn empties(&self) -> u64
+        ensures { result ≡ self.now.empties }
+    {
+        self.empties
+    }
+
+    /// Whether the End of every putter was taken.
+    pub fn ended(&self) -> bool
+        ensures { IsTrue result ↔ HasEnded self.now }
+    {
+        self.left == 0
+    }
+
+    /// Takes the piece at the front, in one atomic step, without taking memory. The due is of the bell that
+    /// rings when a place became free. Empty comes only where the edge held nothing at one moment of the call.
+    pub fn take<R: Wait>(&mut self, rt: &R) -> Result<Took, Empty>
+        ensures due { IfOk result (λ took. took.due.number ≡ self.old.edge.bells.space) }
+        ensures took { IfOk result (λ took. self.new ≡ record self.old { took = self.old.took ++ took.piece ∷ [] }) }
+        ensures counted { OnErr result (self.new ≡ record self.old { empties = next_count self.old.empties }) }
+    {
+        let Some(piece) = self.queue.pop_as::<Takes, R>(rt, &mut self.pass) else {
+            self.empties = self.empties.saturating_add(1);
+            return Err(Empty);
+        };
+        self.left = left_after(self.left, &piece);
+        Ok(Took {
+            piece,
+            due: Due::of(self.bells.space),
+        })
+    }
+}
+
+/// How many Ends are left once this piece was taken.
+pub(crate) fn left_after(left: u32, piece: &Piece) -> u32
+    ensures { result ≡ left - is_end piece.now }
+{
+    match piece {
+        Piece::Rows(_) => left,
+        Piece::End(_) => left.saturating_sub(1),
+    }
+}

@@ -1,0 +1,27 @@
+use blocked::Due;
+use col_pages::Page;
+
+/// What passes an edge.
+#[derive(Debug, Drop)]
+pub enum Piece {
+    Rows(Page),
+    /// The putter of this number puts no more pages.
+    End(u32),
+}
+
+/// A put that was refused. It has the piece.
+#[derive(Debug, Drop)]
+pub enum PutFault {
+    /// The edge held as many pieces as it has room for.
+    Full(Piece),
+}
+
+/// The edge held no piece.
+#[derive(Clone, Copy, Debug)]
+pub struct Empty;
+
+/// A piece that was taken, and the duty to ring the bell of the edge's free places.
+pub struct Took {
+    pub piece: Piece,
+    pub due: Due,
+}

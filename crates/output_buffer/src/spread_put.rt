@@ -1,0 +1,101 @@
+//! The seat of the putter of a `Spread`.
+ghost use Rattle.std.specs.Prelude.{◌≡◌, ◌-◌, ◌<◌, ◌∷◌, ◌++◌, [], IfOk, IfErr, OnOk, OnErr};
+ghost use Rattle.crossbeam_queue.specs.Passes.{view, IsPassOf};
+ghost use Rattle.blocked.specs.Counts.{next_count};
+ghost use Rattle.output_buffer.specs.Edges.{all_parts, hand};
+ghost use Rattle.output_buffer.specs.Seats.{MayDeal, edge_of, new_deal};
+
+use crate::edge::{EdgeBells, EdgePass, EdgeQueue, Puts};
+use crate::piece::{Piece, PutFault};
+use blocked::Due;
+use std::marker::Model;
+use std::sync::Wait;
+
+/// Puts pages, and then one End for each taker. It can go to another thread.
+#[derive(Drop)]
+pub struct SpreadPut<'e> {
+    pub(crate) queue: &'e EdgeQueue,
+    pub(crate) pass: EdgePass,
+    pub(crate) bells: EdgeBells,
+    pub(crate) takers: u32,
+    pub(crate) fulls: u64,
+}
+
+impl<'e> Model for SpreadPut<'e> {
+    ghost use Rattle.output_buffer.specs.Seats.{DealSeat};
+
+    ghost Value = { DealSeat };
+
+    ghost use Rattle.output_buffer.specs.InSpread.{deal_view, IsDealer};
+
+    ghost view = { deal_view };
+
+    ghost invariant = { IsDealer };
+}
+
+impl<'e> SpreadPut<'e> {
+    pub(crate) fn new(
+        queue: &'e EdgeQueue,
+        pass: EdgePass,
+        bells: EdgeBells,
+        takers: u32,
+    ) -> SpreadPut<'e>
+        requires some { 0 < takers }
+        requires pass { IsPassOf queue.now pass × (view pass ≡ hand (all_parts - takers) 1 [] []) }
+        ensures { result ≡ new_deal (edge_of queue.now bells) takers }
+    {
+        SpreadPut {
+            queue,
+            pass,
+            bells,
+            takers,
+            fulls: 0,
+        }
+    }
+
+    /// How many takers there are.
+    pub fn takers(&self) -> u32
+        ensures { result ≡ self.now.takers }
+    {
+        self.takers
+    }
+
+    /// The bell that rings when a piece came.
+    pub fn piece_bell(&self) -> u32
+        ensures { result ≡ self.now.edge.bells.piece }
+    {
+        self.bells.piece
+    }
+
+    /// The bell that rings when a place became free.
+    pub fn space_bell(&self) -> u32
+        ensures { result ≡ self.now.edge.bells.space }
+    {
+        self.bells.space
+    }
+
+    /// How many puts were answered Full, at the most `u64::MAX`.
+    pub fn fulls(&self) -> u64
+        ensures { result ≡ self.now.fulls }
+    {
+        self.fulls
+    }
+
+    /// Puts a piece at the back, in one atomic step, without taking memory. The due is of the bell that rings
+    /// when a piece came. Full comes only where the edge held its room at one moment of the call.
+    pub fn put<R: Wait>(&mut self, rt: &R, piece: Piece) -> Result<Due, PutFault>
+        requires { MayDeal self.old piece }
+        ensures due { IfOk result (λ due. due.number ≡ self.old.edge.bells.piece) }
+        ensures put { OnOk result (self.new ≡ record self.old { put = self.old.put ++ piece ∷ [] }) }
+        ensures full { IfErr result (λ fault. fault ≡ PutFault.Full piece) }
+        ensures counted { OnErr result (self.new ≡ record self.old { fulls = next_count self.old.fulls }) }
+    {
+        match self.queue.push_as::<Puts, R>(rt, &mut self.pass, piece) {
+            Ok(()) => Ok(Due::of(self.bells.piece)),
+            Err(piece) => {
+                self.fulls = self.fulls.saturating_add(1);
+                Err(PutFault::Full(piece))
+            }
+        }
+    }
+}

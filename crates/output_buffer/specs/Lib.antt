@@ -3,4 +3,3 @@ pub mod Seats
 pub mod Joined
 pub mod InGather
 pub mod InSpread
-pub mod Weights

@@ -1,5 +1,5 @@
 //! The queue of an edge under its rule, and the names of the steps on it.
-ghost use Rattle.output_buffer.specs.Edges.{all_parts, hand};
+ghost use Rattle.output_buffer.specs.Edges.{all_parts, edge_view};
 
 use crate::piece::Piece;
 use crossbeam_queue::protocol::{Join, Lesson, Outcome, Protocol, Split};
@@ -7,7 +7,7 @@ use crossbeam_queue::{Pass, RuledArrayQueue};
 use std::collections::LinkedList;
 
 /// What one or more seats know. No value of it is made.
-pub struct Hand {
+pub struct EdgeView {
     /// How much of the edge these seats are.
     pub parts: u64,
     /// How many of them may still put pages.
@@ -25,25 +25,25 @@ pub struct EdgeBells {
     pub space: u32,
 }
 
-pub(crate) type EdgeQueue = RuledArrayQueue<Piece, Hand, Edge>;
+pub(crate) type EdgeQueue = RuledArrayQueue<Piece, EdgeView, Edge>;
 
-pub(crate) type EdgePass = Pass<Piece, Hand>;
+pub(crate) type EdgePass = Pass<Piece, EdgeView>;
 
 pub struct Edge;
 
-impl Protocol<Piece, Hand> for Edge {
+impl Protocol<Piece, EdgeView> for Edge {
     ghost use Rattle.std.specs.Prelude.{[]};
-    ghost use Rattle.output_buffer.specs.Edges.{Kept, first_hand};
+    ghost use Rattle.output_buffer.specs.Edges.{EdgeRule, unshared};
 
-    ghost holds = { Kept };
+    ghost holds = { EdgeRule };
 
-    ghost first = { first_hand };
+    ghost first = { unshared };
 }
 
 /// A putter's seat is taken from a taker's.
 pub(crate) struct NewPutter;
 
-impl Split<Hand> for NewPutter {
+impl Split<EdgeView> for NewPutter {
     ghost use Rattle.output_buffer.specs.Edges.{fewer_done, new_putter};
 
     ghost left = { fewer_done };
@@ -54,7 +54,7 @@ impl Split<Hand> for NewPutter {
 /// A taker's seat is taken from a putter's.
 pub(crate) struct NewTaker;
 
-impl Split<Hand> for NewTaker {
+impl Split<EdgeView> for NewTaker {
     ghost use Rattle.output_buffer.specs.Edges.{fewer, new_taker};
 
     ghost left = { fewer };
@@ -65,50 +65,50 @@ impl Split<Hand> for NewTaker {
 /// What two know is known by one.
 pub(crate) struct Together;
 
-impl Join<Hand> for Together {
-    ghost use Rattle.output_buffer.specs.Edges.{together, nobody};
+impl Join<EdgeView> for Together {
+    ghost use Rattle.output_buffer.specs.Edges.{together, spent};
 
     ghost both = { together };
 
-    ghost spent = { nobody };
+    ghost spent = { spent };
 }
 
 /// A piece was put at the back.
 pub(crate) struct Puts;
 
-impl Outcome<Piece, Hand> for Puts {
+impl Outcome<Piece, EdgeView> for Puts {
     ghost use Rattle.std.specs.Prelude.{◌≡◌};
     ghost use Rattle.output_buffer.specs.Edges.{with_put};
 
     ghost then = { λ v x w. w ≡ with_put v x };
 }
 
-impl Lesson<Piece, Hand> for Puts {
-    ghost use Rattle.std.specs.Prelude.{⊤};
+impl Lesson<Piece, EdgeView> for Puts {
+    ghost use Rattle.output_buffer.specs.Edges.{StoodBeside};
 
-    ghost fact = { λ v items. ⊤ };
+    ghost fact = { StoodBeside };
 }
 
 /// A piece was taken at the front.
 pub(crate) struct Takes;
 
-impl Outcome<Piece, Hand> for Takes {
+impl Outcome<Piece, EdgeView> for Takes {
     ghost use Rattle.std.specs.Prelude.{◌≡◌};
     ghost use Rattle.output_buffer.specs.Edges.{with_took};
 
     ghost then = { λ v x w. w ≡ with_took v x };
 }
 
-impl Lesson<Piece, Hand> for Takes {
-    ghost use Rattle.std.specs.Prelude.{⊤};
+impl Lesson<Piece, EdgeView> for Takes {
+    ghost use Rattle.output_buffer.specs.Edges.{StoodBeside};
 
-    ghost fact = { λ v items. ⊤ };
+    ghost fact = { StoodBeside };
 }
 
 /// What all seats of an edge know of it.
 pub(crate) struct Total;
 
-impl Lesson<Piece, Hand> for Total {
+impl Lesson<Piece, EdgeView> for Total {
     ghost use Rattle.output_buffer.specs.Edges.{Shows};
 
     ghost fact = { Shows };

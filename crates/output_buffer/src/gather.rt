@@ -2,8 +2,8 @@
 ghost use Rattle.std.specs.Prelude.{◌≡◌, ◌-◌, ◌<◌, ◌≤◌, [], false, IfOk};
 ghost use Rattle.std.specs.Vec.{vec_capacity};
 ghost use Rattle.crossbeam_queue.specs.Passes.{view, IsPassOf};
-ghost use Rattle.output_buffer.specs.Edges.{all_parts, first_hand, hand};
-ghost use Rattle.output_buffer.specs.Seats.{EdgeId, edge_of, new_puts, new_take};
+ghost use Rattle.output_buffer.specs.Edges.{all_parts, unshared, edge_view};
+ghost use Rattle.output_buffer.specs.Seats.{EdgeId, edge_of, new_gather_puts, new_gather_take};
 
 use crate::edge::{EdgeBells, EdgePass, EdgeQueue, NewPutter};
 use crate::gather_put::GatherPut;
@@ -12,7 +12,7 @@ use sql_values::Memory;
 use std::alloc::Global;
 use std::marker::Model;
 
-/// Pieces of some putters, in the order in which they were put, for one taker.
+/// Pieces of some putters for one taker.
 #[derive(Drop)]
 pub struct Gather {
     alloc: Global,
@@ -71,11 +71,12 @@ impl Gather {
         self.pass.is_none()
     }
 
-    /// Hands out all seats. Where there is no memory for them, they are not handed out.
+    /// Hands out all seats, for as long as the edge is lent. After `Memory` none was handed out, and
+    /// `is_handed_out` says so.
     pub fn seats<'e>(&'e mut self) -> Result<(Vec<GatherPut<'e>>, GatherTake<'e>), Memory>
         requires { self.old.is_handed_out ≡ false }
-        ensures puts { IfOk result (λ seats. seats.0.items ≡ new_puts self.old.edge self.old.putters) }
-        ensures take { IfOk result (λ seats. seats.1 ≡ new_take self.old.edge self.old.putters) }
+        ensures puts { IfOk result (λ seats. seats.0.items ≡ new_gather_puts self.old.edge self.old.putters) }
+        ensures take { IfOk result (λ seats. seats.1 ≡ new_gather_take self.old.edge self.old.putters) }
     {
         let mut puts = Vec::with_capacity(self.alloc, self.putters as usize)?;
         let (bells, putters) = (self.bells, self.putters);
@@ -83,14 +84,14 @@ impl Gather {
             unreachable!()
         };
         let queue: &'e EdgeQueue = &self.queue;
-        deal(&mut puts, queue, &mut pass, bells, putters);
+        hand_out(&mut puts, queue, &mut pass, bells, putters);
         Ok((puts, GatherTake::new(queue, pass, bells, putters)))
     }
 }
 
 /// Cuts the putters' seats off the taker's.
-#[tactic(auto, using(crate::proofs::EdgeLemmas::one_putter_fewer, crate::proofs::EdgeLemmas::all_cut_off, crate::proofs::SeatLemmas::length_new_puts))]
-fn deal<'e>(
+#[tactic(auto, using(crate::proofs::EdgeLemmas::one_putter_fewer, crate::proofs::EdgeLemmas::all_cut_off, crate::proofs::SeatLemmas::length_new_gather_puts))]
+fn hand_out<'e>(
     puts: &mut Vec<GatherPut<'e>>,
     queue: &'e EdgeQueue,
     pass: &mut EdgePass,
@@ -100,9 +101,9 @@ fn deal<'e>(
     requires none { puts.old.items ≡ [] }
     requires room { putters ≤ vec_capacity puts.old }
     requires some { 0 < putters }
-    requires pass { IsPassOf queue.now pass.old × (view pass.old ≡ first_hand) }
-    ensures puts { puts.new.items ≡ new_puts (edge_of queue.now bells) putters }
-    ensures pass { IsPassOf queue.now pass.new × (view pass.new ≡ hand (all_parts - putters) 0 [] []) }
+    requires pass { IsPassOf queue.now pass.old × (view pass.old ≡ unshared) }
+    ensures puts { puts.new.items ≡ new_gather_puts (edge_of queue.now bells) putters }
+    ensures pass { IsPassOf queue.now pass.new × (view pass.new ≡ edge_view (all_parts - putters) 0 [] []) }
 {
     for number in 0..putters {
         let one = queue.another::<NewPutter>(pass);

@@ -1,9 +1,10 @@
 //! The seat of one of the putters of a `Gather`.
-ghost use Rattle.std.specs.Prelude.{◌≡◌, ◌∷◌, ◌++◌, [], IfOk, IfErr, OnOk, OnErr};
+ghost use Rattle.std.specs.Prelude.{◌≡◌, ◌≤◌, All, ◌∷◌, ◌++◌, [], IfOk, IfErr, OnOk, OnErr};
+ghost use Rattle.crossbeam_queue.specs.Fifo.{Held};
 ghost use Rattle.crossbeam_queue.specs.Passes.{view, IsPassOf};
 ghost use Rattle.blocked.specs.Counts.{next_count};
-ghost use Rattle.output_buffer.specs.Edges.{new_putter};
-ghost use Rattle.output_buffer.specs.Seats.{MayPut, edge_of, new_put};
+ghost use Rattle.output_buffer.specs.Edges.{PagesThenEnds, StoodBeside, end_count, new_putter};
+ghost use Rattle.output_buffer.specs.Seats.{HasOwnNumber, MayPut, edge_of, new_gather_put, view_of_gather_put};
 
 use crate::edge::{EdgeBells, EdgePass, EdgeQueue, Puts};
 use crate::piece::{Piece, PutFault};
@@ -22,15 +23,15 @@ pub struct GatherPut<'e> {
 }
 
 impl<'e> Model for GatherPut<'e> {
-    ghost use Rattle.output_buffer.specs.Seats.{PutSeat};
+    ghost use Rattle.output_buffer.specs.Seats.{HasOwnNumber, GatherPutState};
 
-    ghost Value = { PutSeat };
+    ghost Value = { GatherPutState };
 
-    ghost use Rattle.output_buffer.specs.InGather.{put_view, IsPutter};
+    ghost use Rattle.output_buffer.specs.InGather.{gather_put_view, IsGatherPut};
 
-    ghost view = { put_view };
+    ghost view = { gather_put_view };
 
-    ghost invariant = { IsPutter };
+    ghost invariant = { IsGatherPut };
 }
 
 impl<'e> GatherPut<'e> {
@@ -41,7 +42,7 @@ impl<'e> GatherPut<'e> {
         number: u32,
     ) -> GatherPut<'e>
         requires { IsPassOf queue.now pass × (view pass ≡ new_putter) }
-        ensures { result ≡ new_put (edge_of queue.now bells) number }
+        ensures { result ≡ new_gather_put (edge_of queue.now bells) number }
     {
         GatherPut {
             queue,
@@ -80,6 +81,15 @@ impl<'e> GatherPut<'e> {
         self.fulls
     }
 
+    /// What was put is pages, and then at most one End, with this putter's number.
+    pub fn keeps_order(&self)
+        ensures order { PagesThenEnds self.now.put }
+        ensures once { end_count self.now.put ≤ 1 }
+        ensures own { All (HasOwnNumber self.now.number) self.now.put }
+    {
+        let _number = self.number;
+    }
+
     /// Puts a piece at the back, in one atomic step, without taking memory. The due is of the bell that rings
     /// when a piece came. Full comes only where the edge held its room at one moment of the call.
     pub fn put<R: Wait>(&mut self, rt: &R, piece: Piece) -> Result<Due, PutFault>
@@ -87,6 +97,7 @@ impl<'e> GatherPut<'e> {
         ensures due { IfOk result (λ due. due.number ≡ self.old.edge.bells.piece) }
         ensures put { OnOk result (self.new ≡ record self.old { put = self.old.put ++ piece ∷ [] }) }
         ensures full { IfErr result (λ fault. fault ≡ PutFault.Full piece) }
+        ensures room { OnErr result (Held self.old.edge.room (StoodBeside (view_of_gather_put self.old))) }
         ensures counted { OnErr result (self.new ≡ record self.old { fulls = next_count self.old.fulls }) }
     {
         match self.queue.push_as::<Puts, R>(rt, &mut self.pass, piece) {

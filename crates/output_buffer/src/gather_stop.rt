@@ -1,10 +1,10 @@
 //! What the seats of a `Gather` together put and took.
 ghost use Rattle.std.specs.Prelude.{◌≡◌, ◌<◌, ◌≤◌, All, length};
 ghost use Rattle.crossbeam_queue.specs.Passes.{view, IsPassOf};
-ghost use Rattle.output_buffer.specs.Weights.{SameWeights, Within};
-ghost use Rattle.output_buffer.specs.Edges.{ends, together};
-ghost use Rattle.output_buffer.specs.Joined.{JoinedPuts, put_hand};
-ghost use Rattle.output_buffer.specs.Seats.{ArePutsOf, HasEnded, put_by, rows_of};
+ghost use Rattle.bag_laws.specs.Weights.{SameWeights, Within};
+ghost use Rattle.output_buffer.specs.Edges.{end_count, together};
+ghost use Rattle.output_buffer.specs.Joined.{JoinedPuts};
+ghost use Rattle.output_buffer.specs.Seats.{AreGatherPutsOf, HasEnded, put_by, rows_of_pieces, view_of_gather_put};
 
 use crate::edge::{EdgePass, EdgeQueue, Together, Total};
 use crate::gather_put::GatherPut;
@@ -13,11 +13,11 @@ use crate::gather_take::GatherTake;
 /// Gives back all seats of an edge whose every End was taken: the pieces that were taken are those that were
 /// put, each once, and so are their rows.
 pub fn settle_gather(puts: Vec<GatherPut<'_>>, take: GatherTake<'_>)
-    requires edge { ArePutsOf take.edge puts.items }
+    requires edge { AreGatherPutsOf take.edge puts.items }
     requires all { length puts.items ≡ take.putters }
     requires ended { HasEnded take }
     ensures pieces { SameWeights take.entry.took (put_by puts.entry.items) }
-    ensures rows { SameWeights (rows_of take.entry.took) (rows_of (put_by puts.entry.items)) }
+    ensures rows { SameWeights (rows_of_pieces take.entry.took) (rows_of_pieces (put_by puts.entry.items)) }
 {
     stop_gather(puts, take);
 }
@@ -25,12 +25,13 @@ pub fn settle_gather(puts: Vec<GatherPut<'_>>, take: GatherTake<'_>)
 /// Gives back all seats of an edge, wherever they stand: what was taken is part of what was put, and all of it
 /// where every End was taken.
 pub fn stop_gather(puts: Vec<GatherPut<'_>>, take: GatherTake<'_>)
-    requires edge { ArePutsOf take.edge puts.items }
+    requires edge { AreGatherPutsOf take.edge puts.items }
     requires all { length puts.items ≡ take.putters }
     ensures part { Within take.entry.took (put_by puts.entry.items) }
+    ensures part_of_rows { Within (rows_of_pieces take.entry.took) (rows_of_pieces (put_by puts.entry.items)) }
     ensures ended { HasEnded take.entry → SameWeights take.entry.took (put_by puts.entry.items) }
     ensures rows { HasEnded take.entry
-      → SameWeights (rows_of take.entry.took) (rows_of (put_by puts.entry.items)) }
+      → SameWeights (rows_of_pieces take.entry.took) (rows_of_pieces (put_by puts.entry.items)) }
 {
     let GatherTake {
         queue,
@@ -59,8 +60,8 @@ fn join_put(queue: &EdgeQueue, pass: &mut EdgePass, seat: GatherPut<'_>)
     requires seat { seat.edge.queue ≡ queue.now.table.shared.table_id }
     requires pass { IsPassOf queue.now pass.old × (0 < (view pass.old).parts) }
     ensures pass { IsPassOf queue.now pass.new }
-    ensures joined { view pass.new ≡ together (view pass.old) (put_hand seat.entry) }
-    ensures once { ends seat.entry.put ≤ 1 }
+    ensures joined { view pass.new ≡ together (view pass.old) (view_of_gather_put seat.entry) }
+    ensures once { end_count seat.entry.put ≤ 1 }
 {
     queue.absorb::<Together>(pass, seat.pass);
 }

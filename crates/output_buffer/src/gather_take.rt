@@ -1,9 +1,10 @@
 //! The seat of the taker of a `Gather`.
 ghost use Rattle.std.specs.Prelude.{◌≡◌, ◌-◌, ◌∷◌, ◌++◌, ◌↔◌, [], IsTrue, IfOk, OnErr};
+ghost use Rattle.crossbeam_queue.specs.Fifo.{Held};
 ghost use Rattle.crossbeam_queue.specs.Passes.{view, IsPassOf};
 ghost use Rattle.blocked.specs.Counts.{next_count};
-ghost use Rattle.output_buffer.specs.Edges.{all_parts, hand, is_end};
-ghost use Rattle.output_buffer.specs.Seats.{HasEnded, edge_of, new_take};
+ghost use Rattle.output_buffer.specs.Edges.{StoodBeside, all_parts, edge_view, ends_in};
+ghost use Rattle.output_buffer.specs.Seats.{HasEnded, edge_of, new_gather_take, view_of_gather_take};
 
 use crate::edge::{EdgeBells, EdgePass, EdgeQueue, Takes};
 use crate::piece::{Empty, Piece, Took};
@@ -24,15 +25,15 @@ pub struct GatherTake<'e> {
 }
 
 impl<'e> Model for GatherTake<'e> {
-    ghost use Rattle.output_buffer.specs.Seats.{TakeSeat};
+    ghost use Rattle.output_buffer.specs.Seats.{GatherTakeState};
 
-    ghost Value = { TakeSeat };
+    ghost Value = { GatherTakeState };
 
-    ghost use Rattle.output_buffer.specs.InGather.{take_view, IsTaker};
+    ghost use Rattle.output_buffer.specs.InGather.{gather_take_view, IsGatherTake};
 
-    ghost view = { take_view };
+    ghost view = { gather_take_view };
 
-    ghost invariant = { IsTaker };
+    ghost invariant = { IsGatherTake };
 }
 
 impl<'e> GatherTake<'e> {
@@ -42,8 +43,8 @@ impl<'e> GatherTake<'e> {
         bells: EdgeBells,
         putters: u32,
     ) -> GatherTake<'e>
-        requires { IsPassOf queue.now pass × (view pass ≡ hand (all_parts - putters) 0 [] []) }
-        ensures { result ≡ new_take (edge_of queue.now bells) putters }
+        requires { IsPassOf queue.now pass × (view pass ≡ edge_view (all_parts - putters) 0 [] []) }
+        ensures { result ≡ new_gather_take (edge_of queue.now bells) putters }
     {
         GatherTake {
             queue,
@@ -95,6 +96,7 @@ impl<'e> GatherTake<'e> {
     pub fn take<R: Wait>(&mut self, rt: &R) -> Result<Took, Empty>
         ensures due { IfOk result (λ took. took.due.number ≡ self.old.edge.bells.space) }
         ensures took { IfOk result (λ took. self.new ≡ record self.old { took = self.old.took ++ took.piece ∷ [] }) }
+        ensures empty { OnErr result (Held 0 (StoodBeside (view_of_gather_take self.old))) }
         ensures counted { OnErr result (self.new ≡ record self.old { empties = next_count self.old.empties }) }
     {
         let Some(piece) = self.queue.pop_as::<Takes, R>(rt, &mut self.pass) else {
@@ -111,7 +113,7 @@ impl<'e> GatherTake<'e> {
 
 /// How many Ends are left once this piece was taken.
 pub(crate) fn left_after(left: u32, piece: &Piece) -> u32
-    ensures { result ≡ left - is_end piece.now }
+    ensures { result ≡ left - ends_in piece.now }
 {
     match piece {
         Piece::Rows(_) => left,

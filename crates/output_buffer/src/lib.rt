@@ -2,7 +2,7 @@
 //!
 //! - `piece`: what passes an edge, and the answers of a put and a take
 //! - `edge`: the queue under its rule (`specs/Edges.antt`): what was put is what was taken and what is held, and
-//!   the last piece is an End once nobody may put pages
+//!   the last piece is an End once no seat may put pages
 //! - `gather`, `gather_put`, `gather_take`: an edge of many putters and one taker, and its seats
 //! - `gather_stop`: what its seats together put and took
 //! - `spread`, `spread_put`, `spread_take`, `spread_stop`: the same of one putter and many takers
@@ -19,7 +19,7 @@ mod spread_put;
 mod spread_stop;
 mod spread_take;
 
-pub use edge::{EdgeBells, Hand};
+pub use edge::{EdgeBells, EdgeView};
 pub use gather::Gather;
 pub use gather_put::GatherPut;
 pub use gather_stop::{settle_gather, stop_gather};

@@ -5,7 +5,8 @@ use col_pages::Page;
 #[derive(Debug, Drop)]
 pub enum Piece {
     Rows(Page),
-    /// The putter of this number puts no more pages.
+    /// No more pages come: of a `Gather`, from the putter of this number; of a `Spread`, for the taker that
+    /// takes it.
     End(u32),
 }
 

@@ -2,8 +2,8 @@
 ghost use Rattle.std.specs.Prelude.{◌≡◌, ◌-◌, ◌<◌, ◌≤◌, [], false, replicate, IfOk};
 ghost use Rattle.std.specs.Vec.{vec_capacity};
 ghost use Rattle.crossbeam_queue.specs.Passes.{view, IsPassOf};
-ghost use Rattle.output_buffer.specs.Edges.{all_parts, first_hand, hand};
-ghost use Rattle.output_buffer.specs.Seats.{edge_of, new_deal, new_share};
+ghost use Rattle.output_buffer.specs.Edges.{all_parts, unshared, edge_view};
+ghost use Rattle.output_buffer.specs.Seats.{edge_of, new_spread_put, new_spread_take};
 
 use crate::edge::{EdgeBells, EdgePass, EdgeQueue, NewTaker};
 use crate::spread_put::SpreadPut;
@@ -71,11 +71,12 @@ impl Spread {
         self.pass.is_none()
     }
 
-    /// Hands out all seats. Where there is no memory for them, they are not handed out.
+    /// Hands out all seats, for as long as the edge is lent. After `Memory` none was handed out, and
+    /// `is_handed_out` says so.
     pub fn seats<'e>(&'e mut self) -> Result<(SpreadPut<'e>, Vec<SpreadTake<'e>>), Memory>
         requires { self.old.is_handed_out ≡ false }
-        ensures put { IfOk result (λ seats. seats.0 ≡ new_deal self.old.edge self.old.takers) }
-        ensures takes { IfOk result (λ seats. seats.1.items ≡ replicate self.old.takers (new_share self.old.edge)) }
+        ensures put { IfOk result (λ seats. seats.0 ≡ new_spread_put self.old.edge self.old.takers) }
+        ensures takes { IfOk result (λ seats. seats.1.items ≡ replicate self.old.takers (new_spread_take self.old.edge)) }
     {
         let mut takes = Vec::with_capacity(self.alloc, self.takers as usize)?;
         let (bells, takers) = (self.bells, self.takers);
@@ -83,14 +84,14 @@ impl Spread {
             unreachable!()
         };
         let queue: &'e EdgeQueue = &self.queue;
-        deal(&mut takes, queue, &mut pass, bells, takers);
+        hand_out(&mut takes, queue, &mut pass, bells, takers);
         Ok((SpreadPut::new(queue, pass, bells, takers), takes))
     }
 }
 
 /// Cuts the takers' seats off the putter's.
 #[tactic(auto, using(crate::proofs::EdgeLemmas::one_taker_fewer))]
-fn deal<'e>(
+fn hand_out<'e>(
     takes: &mut Vec<SpreadTake<'e>>,
     queue: &'e EdgeQueue,
     pass: &mut EdgePass,
@@ -99,9 +100,9 @@ fn deal<'e>(
 )
     requires none { takes.old.items ≡ [] }
     requires room { takers ≤ vec_capacity takes.old }
-    requires pass { IsPassOf queue.now pass.old × (view pass.old ≡ first_hand) }
-    ensures takes { takes.new.items ≡ replicate takers (new_share (edge_of queue.now bells)) }
-    ensures pass { IsPassOf queue.now pass.new × (view pass.new ≡ hand (all_parts - takers) 1 [] []) }
+    requires pass { IsPassOf queue.now pass.old × (view pass.old ≡ unshared) }
+    ensures takes { takes.new.items ≡ replicate takers (new_spread_take (edge_of queue.now bells)) }
+    ensures pass { IsPassOf queue.now pass.new × (view pass.new ≡ edge_view (all_parts - takers) 1 [] []) }
 {
     for _taker in 0..takers {
         let one = queue.another::<NewTaker>(pass);

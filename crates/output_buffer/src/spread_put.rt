@@ -1,9 +1,10 @@
 //! The seat of the putter of a `Spread`.
-ghost use Rattle.std.specs.Prelude.{◌≡◌, ◌-◌, ◌<◌, ◌∷◌, ◌++◌, [], IfOk, IfErr, OnOk, OnErr};
+ghost use Rattle.std.specs.Prelude.{◌≡◌, ◌≤◌, ◌-◌, ◌<◌, ◌∷◌, ◌++◌, [], IfOk, IfErr, OnOk, OnErr};
+ghost use Rattle.crossbeam_queue.specs.Fifo.{Held};
 ghost use Rattle.crossbeam_queue.specs.Passes.{view, IsPassOf};
 ghost use Rattle.blocked.specs.Counts.{next_count};
-ghost use Rattle.output_buffer.specs.Edges.{all_parts, hand};
-ghost use Rattle.output_buffer.specs.Seats.{MayDeal, edge_of, new_deal};
+ghost use Rattle.output_buffer.specs.Edges.{PagesThenEnds, StoodBeside, end_count, all_parts, edge_view};
+ghost use Rattle.output_buffer.specs.Seats.{MaySpread, edge_of, new_spread_put, view_of_spread_put};
 
 use crate::edge::{EdgeBells, EdgePass, EdgeQueue, Puts};
 use crate::piece::{Piece, PutFault};
@@ -22,15 +23,15 @@ pub struct SpreadPut<'e> {
 }
 
 impl<'e> Model for SpreadPut<'e> {
-    ghost use Rattle.output_buffer.specs.Seats.{DealSeat};
+    ghost use Rattle.output_buffer.specs.Seats.{SpreadPutState};
 
-    ghost Value = { DealSeat };
+    ghost Value = { SpreadPutState };
 
-    ghost use Rattle.output_buffer.specs.InSpread.{deal_view, IsDealer};
+    ghost use Rattle.output_buffer.specs.InSpread.{spread_put_view, IsSpreadPut};
 
-    ghost view = { deal_view };
+    ghost view = { spread_put_view };
 
-    ghost invariant = { IsDealer };
+    ghost invariant = { IsSpreadPut };
 }
 
 impl<'e> SpreadPut<'e> {
@@ -41,8 +42,8 @@ impl<'e> SpreadPut<'e> {
         takers: u32,
     ) -> SpreadPut<'e>
         requires some { 0 < takers }
-        requires pass { IsPassOf queue.now pass × (view pass ≡ hand (all_parts - takers) 1 [] []) }
-        ensures { result ≡ new_deal (edge_of queue.now bells) takers }
+        requires pass { IsPassOf queue.now pass × (view pass ≡ edge_view (all_parts - takers) 1 [] []) }
+        ensures { result ≡ new_spread_put (edge_of queue.now bells) takers }
     {
         SpreadPut {
             queue,
@@ -81,13 +82,22 @@ impl<'e> SpreadPut<'e> {
         self.fulls
     }
 
+    /// What was put is pages, and then at most one End for each taker.
+    pub fn keeps_order(&self)
+        ensures order { PagesThenEnds self.now.put }
+        ensures most { end_count self.now.put ≤ self.now.takers }
+    {
+        let _takers = self.takers;
+    }
+
     /// Puts a piece at the back, in one atomic step, without taking memory. The due is of the bell that rings
     /// when a piece came. Full comes only where the edge held its room at one moment of the call.
     pub fn put<R: Wait>(&mut self, rt: &R, piece: Piece) -> Result<Due, PutFault>
-        requires { MayDeal self.old piece }
+        requires { MaySpread self.old piece }
         ensures due { IfOk result (λ due. due.number ≡ self.old.edge.bells.piece) }
         ensures put { OnOk result (self.new ≡ record self.old { put = self.old.put ++ piece ∷ [] }) }
         ensures full { IfErr result (λ fault. fault ≡ PutFault.Full piece) }
+        ensures room { OnErr result (Held self.old.edge.room (StoodBeside (view_of_spread_put self.old))) }
         ensures counted { OnErr result (self.new ≡ record self.old { fulls = next_count self.old.fulls }) }
     {
         match self.queue.push_as::<Puts, R>(rt, &mut self.pass, piece) {

@@ -1,37 +1,38 @@
 //! What the seats of a `Spread` together put and took.
 ghost use Rattle.std.specs.Prelude.{◌≡◌, ◌<◌, All, length};
 ghost use Rattle.crossbeam_queue.specs.Passes.{view, IsPassOf};
-ghost use Rattle.output_buffer.specs.Weights.{SameWeights, Within};
+ghost use Rattle.bag_laws.specs.Weights.{SameWeights, Within};
 ghost use Rattle.output_buffer.specs.Edges.{together};
-ghost use Rattle.output_buffer.specs.Joined.{JoinedTakes, share_hand};
-ghost use Rattle.output_buffer.specs.Seats.{AreSharesOf, HasTakenEnd, rows_of, taken_by};
+ghost use Rattle.output_buffer.specs.Joined.{JoinedTakes};
+ghost use Rattle.output_buffer.specs.Seats.{AreSpreadTakesOf, HaveEnded, rows_of_pieces, taken_by, view_of_spread_take};
 
 use crate::edge::{EdgePass, EdgeQueue, Together, Total};
 use crate::spread_put::SpreadPut;
 use crate::spread_take::SpreadTake;
 
-/// Gives back all seats of an edge each of whose takers took an End: the pieces that were taken are those that
-/// were put, each once, and so are their rows.
+/// Gives back all seats of an edge whose every End was taken: the pieces that were taken are those that were
+/// put, each once, and so are their rows.
 pub fn settle_spread(put: SpreadPut<'_>, takes: Vec<SpreadTake<'_>>)
-    requires edge { AreSharesOf put.edge takes.items }
+    requires edge { AreSpreadTakesOf put.edge takes.items }
     requires all { length takes.items ≡ put.takers }
-    requires ended { All HasTakenEnd takes.items }
+    requires ended { HaveEnded put takes.items }
     ensures pieces { SameWeights (taken_by takes.entry.items) put.entry.put }
-    ensures rows { SameWeights (rows_of (taken_by takes.entry.items)) (rows_of put.entry.put) }
+    ensures rows { SameWeights (rows_of_pieces (taken_by takes.entry.items)) (rows_of_pieces put.entry.put) }
 {
     stop_spread(put, takes);
 }
 
 /// Gives back all seats of an edge, wherever they stand: what was taken is part of what was put, and all of it
-/// where each taker took an End.
+/// where every End was taken.
 pub fn stop_spread(put: SpreadPut<'_>, takes: Vec<SpreadTake<'_>>)
-    requires edge { AreSharesOf put.edge takes.items }
+    requires edge { AreSpreadTakesOf put.edge takes.items }
     requires all { length takes.items ≡ put.takers }
     ensures part { Within (taken_by takes.entry.items) put.entry.put }
-    ensures ended { All HasTakenEnd takes.entry.items
+    ensures part_of_rows { Within (rows_of_pieces (taken_by takes.entry.items)) (rows_of_pieces put.entry.put) }
+    ensures ended { HaveEnded put.entry takes.entry.items
       → SameWeights (taken_by takes.entry.items) put.entry.put }
-    ensures rows { All HasTakenEnd takes.entry.items
-      → SameWeights (rows_of (taken_by takes.entry.items)) (rows_of put.entry.put) }
+    ensures rows { HaveEnded put.entry takes.entry.items
+      → SameWeights (rows_of_pieces (taken_by takes.entry.items)) (rows_of_pieces put.entry.put) }
 {
     let SpreadPut {
         queue,
@@ -59,7 +60,7 @@ fn join_take(queue: &EdgeQueue, pass: &mut EdgePass, seat: SpreadTake<'_>)
     requires seat { seat.edge.queue ≡ queue.now.table.shared.table_id }
     requires pass { IsPassOf queue.now pass.old × (0 < (view pass.old).parts) }
     ensures pass { IsPassOf queue.now pass.new }
-    ensures joined { view pass.new ≡ together (view pass.old) (share_hand seat.entry) }
+    ensures joined { view pass.new ≡ together (view pass.old) (view_of_spread_take seat.entry) }
 {
     queue.absorb::<Together>(pass, seat.pass);
 }

@@ -1,9 +1,10 @@
 //! The seat of one of the takers of a `Spread`.
 ghost use Rattle.std.specs.Prelude.{◌≡◌, ◌∷◌, ◌++◌, ◌↔◌, [], IsTrue, IfOk, OnErr};
+ghost use Rattle.crossbeam_queue.specs.Fifo.{Held};
 ghost use Rattle.crossbeam_queue.specs.Passes.{view, IsPassOf};
 ghost use Rattle.blocked.specs.Counts.{next_count};
-ghost use Rattle.output_buffer.specs.Edges.{new_taker};
-ghost use Rattle.output_buffer.specs.Seats.{HasTakenEnd, edge_of, new_share};
+ghost use Rattle.output_buffer.specs.Edges.{StoodBeside, new_taker};
+ghost use Rattle.output_buffer.specs.Seats.{HasTakenEnd, edge_of, new_spread_take, view_of_spread_take};
 
 use crate::edge::{EdgeBells, EdgePass, EdgeQueue, Takes};
 use crate::piece::{Empty, Piece, Took};
@@ -22,21 +23,21 @@ pub struct SpreadTake<'e> {
 }
 
 impl<'e> Model for SpreadTake<'e> {
-    ghost use Rattle.output_buffer.specs.Seats.{ShareSeat};
+    ghost use Rattle.output_buffer.specs.Seats.{SpreadTakeState};
 
-    ghost Value = { ShareSeat };
+    ghost Value = { SpreadTakeState };
 
-    ghost use Rattle.output_buffer.specs.InSpread.{share_view, IsSharer};
+    ghost use Rattle.output_buffer.specs.InSpread.{spread_take_view, IsSpreadTake};
 
-    ghost view = { share_view };
+    ghost view = { spread_take_view };
 
-    ghost invariant = { IsSharer };
+    ghost invariant = { IsSpreadTake };
 }
 
 impl<'e> SpreadTake<'e> {
     pub(crate) fn new(queue: &'e EdgeQueue, pass: EdgePass, bells: EdgeBells) -> SpreadTake<'e>
         requires { IsPassOf queue.now pass × (view pass ≡ new_taker) }
-        ensures { result ≡ new_share (edge_of queue.now bells) }
+        ensures { result ≡ new_spread_take (edge_of queue.now bells) }
     {
         SpreadTake {
             queue,
@@ -80,6 +81,7 @@ impl<'e> SpreadTake<'e> {
     pub fn take<R: Wait>(&mut self, rt: &R) -> Result<Took, Empty>
         ensures due { IfOk result (λ took. took.due.number ≡ self.old.edge.bells.space) }
         ensures took { IfOk result (λ took. self.new ≡ record self.old { took = self.old.took ++ took.piece ∷ [] }) }
+        ensures empty { OnErr result (Held 0 (StoodBeside (view_of_spread_take self.old))) }
         ensures counted { OnErr result (self.new ≡ record self.old { empties = next_count self.old.empties }) }
     {
         let Some(piece) = self.queue.pop_as::<Takes, R>(rt, &mut self.pass) else {

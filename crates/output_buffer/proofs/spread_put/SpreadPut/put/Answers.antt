@@ -1,16 +1,32 @@
-use Rattle.std.proofs.Common.{◌≡◌, ◌-◌, ◌<◌, ◌≤◌, ◌∙◌, ap, arith}
+use Rattle.std.proofs.Common.{[], rules, sym, subst, ◌≡◌, ◌-◌, ◌<◌, ◌≤◌, ◌∙◌, ap, arith}
 use Rattle.crossbeam_queue.specs.Passes.{view}
-use Rattle.output_buffer.specs.declared.edge.Hand.{Hand}
-use Rattle.output_buffer.specs.Edges.{all_parts, ends, is_page}
-use Rattle.output_buffer.specs.Seats.{DealSeat}
-use Rattle.output_buffer.proofs.EdgeLemmas.{nothing_learned, puts}
-use Rattle.output_buffer.proofs.SeatLemmas.{may_put_pages}
+use Rattle.output_buffer.specs.declared.edge.EdgeView.{EdgeView}
+use Rattle.output_buffer.specs.Edges.{PagesThenEnds, all_parts, edge_view, end_count, pages_in, with_put}
+use Rattle.output_buffer.specs.InSpread.{spread_put_view}
+use Rattle.output_buffer.specs.Seats.{MaySpread, SpreadPutState}
+use Rattle.output_buffer.proofs.EdgeLemmas.{puts, stands}
+use Rattle.output_buffer.proofs.SeatLemmas.{ends_of_spread, may_spread_pages, order_of_spread, view_with_put}
 use Rattle.output_buffer.proofs.spread_put.SpreadPut.put.Goals as goal
 
 pub push_as-requires-clause-rule : goal.push_as-requires-clause-rule
 push_as-requires-clause-rule g c =
     let i = c.self.invariant in
-    let parts : (view c.self.inside.pass).parts ≡ all_parts - c.self.inside.takers = ap (λ (v : Hand). v.parts) i.rest in
-    let putting = ap (λ (v : Hand). v.putting) i.rest in
-    let same : ends (view c.self.inside.pass).put ≡ ends c.args.self.now.put = ap (λ (s : DealSeat). ends s.put) c.self.view_is in
-    (puts _ _ _ _ (omega (arith, parts, i.few)) (omega (arith, may_put_pages c.args.self.now c.args.piece c.requires, same, putting)), nothing_learned _ _)
+    let parts : (view c.self.inside.pass).parts ≡ all_parts - c.self.inside.takers = ap (λ (v : EdgeView). v.parts) i.rest in
+    let putting = ap (λ (v : EdgeView). v.putting) i.rest in
+    let same : end_count (view c.self.inside.pass).put ≡ end_count c.args.self.now.put = ap (λ (s : SpreadPutState). end_count s.put) c.self.view_is in
+    (puts _ _ _ _ (omega (arith, parts, i.few)) (omega (arith, may_spread_pages c.args.self.now c.args.piece c.requires, same, putting)), stands _ _)
+
+pub invariant_of-self : goal.invariant_of-self
+invariant_of-self g c =
+    let i = c.self.invariant in
+    let old = view c.self.inside.pass in
+    let is : view c.push_as.new.pass ≡ with_put old c.args.piece = c.in-Ok.ensures.rule in
+    let may : MaySpread (spread_put_view c.self.inside) c.args.piece = subst (λ (s : SpreadPutState). MaySpread s c.args.piece) (sym c.self.view_is) c.requires in
+    record {
+      of = search rules;
+      some = search rules;
+      few = search rules;
+      rest = subst (λ (v : EdgeView). v ≡ edge_view (all_parts - c.self.inside.takers) (1 - end_count v.put) v.put []) (sym is) (view_with_put old c.args.piece (all_parts - c.self.inside.takers) i.rest);
+      most = subst (λ (v : EdgeView). end_count v.put ≤ c.self.inside.takers) (sym is) (ends_of_spread (spread_put_view c.self.inside) c.args.piece may);
+      order = subst (λ (v : EdgeView). PagesThenEnds v.put) (sym is) (order_of_spread (spread_put_view c.self.inside) c.args.piece may i.order);
+    }

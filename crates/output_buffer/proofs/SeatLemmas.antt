@@ -2,6 +2,7 @@
 use Rattle.std.proofs.Common.{◌≡◌, ℕ, zero, suc, ◌+◌, ◌-◌, ◌<◌, ◌≤◌, length, List, [], ◌∷◌, ◌++◌, refl, sym, ap, ◌∙◌, subst, arith}
 use Rattle.std.specs.Prelude.{flat_map, sum_by, All}
 use Rattle.std.proofs.lemmas.List.{length_push}
+use Rattle.std.proofs.lemmas.List.Elements.{All-push}
 use Rattle.std.proofs.lemmas.List.Sums.{sum_by-append, sum_by-cons, sum_by_push}
 use Rattle.sql_values.specs.declared.value.Value.{Value}
 use Rattle.bag_laws.specs.Weights.{SameWeights, Within}
@@ -16,6 +17,17 @@ use Rattle.output_buffer.proofs.EdgeLemmas.{late_of_end, late_of_more, nothing_l
 pub length_new_gather_puts : (edge : EdgeId) (n : ℕ) → length (new_gather_puts edge n) ≡ n
 length_new_gather_puts edge zero = refl
 length_new_gather_puts edge (suc n) = omega (arith, length_push (new_gather_puts edge n) (new_gather_put edge n), length_new_gather_puts edge n)
+
+each_new_gather_put : (P : GatherPutState → Type 0) (edge : EdgeId) (n : ℕ) → ((number : ℕ) → P (new_gather_put edge number)) → All P (new_gather_puts edge n)
+each_new_gather_put P edge zero each = λ k d less. absurd (omega (arith, less))
+each_new_gather_put P edge (suc n) each = All-push P (new_gather_puts edge n) (new_gather_put edge n) (each_new_gather_put P edge n each) (each n)
+
+-- new seats are of their edge, and put nothing
+pub new_gather_puts_are_of : (edge : EdgeId) (n : ℕ) → All (λ (s : GatherPutState). s.edge ≡ edge) (new_gather_puts edge n)
+new_gather_puts_are_of edge n = each_new_gather_put (λ (s : GatherPutState). s.edge ≡ edge) edge n (λ number. refl)
+
+pub new_gather_puts_are_new : (edge : EdgeId) (n : ℕ) → All (λ (s : GatherPutState). end_count s.put ≡ 0) (new_gather_puts edge n)
+new_gather_puts_are_new edge n = each_new_gather_put (λ (s : GatherPutState). end_count s.put ≡ 0) edge n (λ number. refl)
 
 module _ {A B : Type 0} (f : A → List B) (weight : B → ℕ) where
   pub sum_flat : (xs : List A) → sum_by weight (flat_map f xs) ≡ sum_by (λ x. sum_by weight (f x)) xs

@@ -1,0 +1,73 @@
+//! Pieces of one row of one number, and what calls of seats answer.
+ghost use Rattle.std.specs.Prelude.{◌≡◌};
+
+use blocked::{Bell, Due};
+use col_pages::{Page, PageBuilder};
+use output_buffer::{GatherTake, Piece, PutFault, SpreadTake, Took};
+use sql_values::{Memory, SqlType, ValueRef};
+use std::alloc::Global;
+use std::sync::Wait;
+
+/// What stands for an End where numbers are told.
+pub(crate) const END: i64 = -1;
+
+/// A page of one row.
+pub(crate) fn page_of(alloc: Global, number: i64) -> Result<Page, Memory> {
+    let mut builder = PageBuilder::new(alloc, &[SqlType::Bigint], 1)?;
+    builder.put(ValueRef::Bigint(number))?;
+    builder.end_row();
+    builder.build()
+}
+
+/// The number of a piece, or `END`.
+pub(crate) fn number_of(piece: &Piece) -> i64 {
+    match piece {
+        Piece::Rows(page) => number_in(page),
+        Piece::End(_) => END,
+    }
+}
+
+fn number_in(page: &Page) -> i64 {
+    if page.len() != 1 {
+        return -2;
+    }
+    match page.cell(0, 0) {
+        ValueRef::Bigint(number) => number,
+        _ => -3,
+    }
+}
+
+/// Rings, and tells the bell.
+pub(crate) fn rung(alloc: Global, due: Due) -> u32 {
+    let number = due.bell();
+    Bell::<u8>::new(alloc).ring(due);
+    number
+}
+
+/// The bell that rang at a put, or the number of the piece that came back.
+pub(crate) fn told(alloc: Global, answer: Result<Due, PutFault>) -> Result<u32, i64> {
+    match answer {
+        Ok(due) => Ok(rung(alloc, due)),
+        Err(PutFault::Full(piece)) => Err(number_of(&piece)),
+    }
+}
+
+/// The number that a take gave, and the bell that rang.
+pub(crate) fn gathered<R: Wait>(rt: &R, alloc: Global, take: &mut GatherTake<'_>) -> Option<(i64, u32)>
+    ensures { take.new.edge ≡ take.old.edge }
+{
+    let Ok(Took { piece, due }) = take.take(rt) else {
+        return None;
+    };
+    Some((number_of(&piece), rung(alloc, due)))
+}
+
+/// The same of a spread.
+pub(crate) fn shared<R: Wait>(rt: &R, alloc: Global, take: &mut SpreadTake<'_>) -> Option<(i64, u32)>
+    ensures { take.new.edge ≡ take.old.edge }
+{
+    let Ok(Took { piece, due }) = take.take(rt) else {
+        return None;
+    };
+    Some((number_of(&piece), rung(alloc, due)))
+}

@@ -1,0 +1,2 @@
+pub mod PartitionLemmas
+pub mod PlaceLemmas

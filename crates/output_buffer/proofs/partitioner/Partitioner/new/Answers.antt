@@ -1,0 +1,1 @@
+use Rattle.output_buffer.proofs.partitioner.Partitioner.new.Goals as goal

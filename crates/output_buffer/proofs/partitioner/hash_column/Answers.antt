@@ -1,0 +1,1 @@
+use Rattle.output_buffer.proofs.partitioner.hash_column.Goals as goal

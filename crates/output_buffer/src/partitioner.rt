@@ -50,7 +50,6 @@ impl Partitioner {
         select_each(alloc, page, &places)
     }
 
-    #[tactic(auto, using(crate::proofs::PartitionLemmas::bucketed))]
     fn buckets(&self, alloc: Global, page: &Page) -> Result<Vec<u32>, Memory>
         ensures few { length page.now.rows ≤ most_rows }
         ensures buckets { IfOk result (λ v.

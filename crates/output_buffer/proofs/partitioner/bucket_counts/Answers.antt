@@ -23,7 +23,7 @@ overflow_add-index_mut c =
     counted c.args.buckets.now c.loop-bucket.counts.items c.args.parts c.loop-bucket.bucket-index b c.index_mut.result.now
     c.loop-bucket.invariant (c.requires c.loop-bucket.bucket-index 0 (omega arith)) c.index_mut.ensures.value in
     let few : c.index_mut.result.now ≤ c.loop-bucket.bucket-index = omega (arith, is, counted_few c.args.buckets.now c.loop-bucket.bucket-index b) in
-    search (rules, few)
+    grind (arith, few)
 
 pub loop-bucket-preserved : goal.loop-bucket-preserved
 loop-bucket-preserved c =

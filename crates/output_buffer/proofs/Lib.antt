@@ -1,2 +1,3 @@
 pub mod PartitionLemmas
 pub mod PlaceLemmas
+mod WorkedRows

@@ -13,7 +13,7 @@ use std::alloc::Global;
 use std::marker::Model;
 
 /// Spreads rows over parts by their values in some columns.
-#[derive(Debug, Drop)]
+#[derive(Drop)]
 pub struct Partitioner {
     columns: Vec<u32>,
     parts: u32,

@@ -1,2 +1,5 @@
 pub mod EdgeLemmas
 pub mod SeatLemmas
+pub mod PartitionLemmas
+pub mod PlaceLemmas
+mod WorkedRows

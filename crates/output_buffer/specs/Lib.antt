@@ -3,3 +3,4 @@ pub mod Seats
 pub mod Joined
 pub mod InGather
 pub mod InSpread
+pub mod Partitions

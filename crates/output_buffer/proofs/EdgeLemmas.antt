@@ -4,13 +4,13 @@ use Rattle.std.specs.Prelude.{sum_by}
 use Rattle.std.proofs.lemmas.List.Sums.{sum_by-append, sum_by-cons, sum_by_push}
 use mathlib.Core.Option.{some, some-injective, some-ne-none}
 use lib.ListN.{get_elem?}
-use Rattle.atomic_table.proofs.Lists.{at_set, at_snoc, set_again, set_else}
+use Rattle.atomic_table.proofs.Lists.{at_set, at_snoc}
 use Rattle.crossbeam_queue.specs.Fifo.{Pushes, Pops, Forks, Merges, Learns}
 use Rattle.sum_laws.proofs.SumLemmas.{sum_by-put, sum_by-alone}
 use Rattle.output_buffer.specs.declared.edge.EdgeView.{EdgeView}
 use Rattle.output_buffer.specs.declared.piece.Piece.{Piece}
 use Rattle.output_buffer.specs.declared.piece.Piece.TheVariants.{Rows, End}
-use Rattle.output_buffer.specs.Edges.{ends_in, pages_in, end_count, last_from, page_at_end, all_parts, edge_view, unshared, fewer, fewer_done, together, spent, with_put, with_took, IsEdgeView, EdgeRule, Shows, ShowsWhole, StoodBeside, late_from}
+use Rattle.output_buffer.specs.Edges.{ends_in, pages_in, end_count, last_from, page_at_end, all_parts, edge_view, unshared, fewer, fewer_done, together, spent, with_put, with_took, IsEdgeView, EdgeRule, Shows, StoodBeside, late_from}
 
 last_of_more : (before : ℕ) (xs : List Piece) (x : Piece) → last_from before (xs ++ x ∷ []) ≡ pages_in x
 last_of_more before [] x = refl

@@ -1,15 +1,14 @@
 -- What the seats of an edge know together.
-use Rattle.std.proofs.Common.{◌≡◌, ℕ, zero, suc, ◌+◌, ◌-◌, ◌<◌, ◌≤◌, length, List, [], ◌∷◌, ◌++◌, refl, sym, ap, ◌∙◌, subst, arith}
+use Rattle.std.proofs.Common.{◌≡◌, ℕ, zero, suc, ◌+◌, ◌-◌, ◌<◌, ◌≤◌, length, List, [], ◌∷◌, ◌++◌, refl, sym, ap, ◌∙◌, arith}
 use Rattle.std.specs.Prelude.{flat_map, sum_by, All}
 use Rattle.std.proofs.lemmas.List.{length_push}
 use Rattle.std.proofs.lemmas.List.Elements.{All-push}
 use Rattle.std.proofs.lemmas.List.Sums.{sum_by-append, sum_by-cons, sum_by_push}
-use Rattle.sql_values.specs.declared.value.Value.{Value}
 use Rattle.bag_laws.specs.Weights.{SameWeights, Within}
 use Rattle.output_buffer.specs.declared.edge.EdgeView.{EdgeView}
 use Rattle.output_buffer.specs.declared.piece.Piece.{Piece}
 use Rattle.output_buffer.specs.declared.piece.Piece.TheVariants.{Rows, End}
-use Rattle.output_buffer.specs.Edges.{PagesThenEnds, Shows, ShowsWhole, all_parts, end_count, edge_view, ends_in, with_put, pages_in, page_at_end, together}
+use Rattle.output_buffer.specs.Edges.{PagesThenEnds, Shows, ShowsWhole, all_parts, end_count, edge_view, ends_in, with_put, pages_in, together}
 use Rattle.output_buffer.specs.Joined.{JoinedPuts, JoinedTakes}
 use Rattle.output_buffer.specs.Seats.{SpreadPutState, EdgeId, HasEnded, HasTakenEnd, HaveEnded, MaySpread, GatherPutState, SpreadTakeState, GatherTakeState, new_gather_put, new_gather_puts, put_by, rows_of_piece, rows_of_pieces, taken_by, view_of_gather_put, view_of_spread_take}
 use Rattle.output_buffer.proofs.EdgeLemmas.{late_of_end, late_of_more, nothing_left}

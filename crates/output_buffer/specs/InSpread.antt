@@ -1,5 +1,5 @@
 -- What a `Spread` and its seats keep.
-use Rattle.std.specs.Prelude.{◌≡◌, ◌↔◌, ℕ, ◌-◌, ◌<◌, ◌≤◌, [], IfSome, true, is_none}
+use Rattle.std.specs.Prelude.{◌≡◌, ◌↔◌, ◌-◌, ◌<◌, ◌≤◌, [], IfSome, true, is_none}
 use Rattle.crossbeam_queue.specs.Passes.{view, IsPassOf}
 use Rattle.output_buffer.specs.Edges.{PagesThenEnds, all_parts, end_count, unshared, edge_view}
 use Rattle.output_buffer.specs.Seats.{edge_of, SpreadPutState, SpreadTakeState, SpreadState}

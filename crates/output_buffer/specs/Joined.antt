@@ -1,5 +1,5 @@
 -- What several seats of an edge know together.
-use Rattle.std.specs.Prelude.{◌≡◌, ℕ, ◌+◌, ◌-◌, ◌≤◌, List, [], length, sum_by}
+use Rattle.std.specs.Prelude.{◌≡◌, ℕ, ◌+◌, ◌≤◌, List, length, sum_by}
 use Rattle.output_buffer.specs.declared.edge.EdgeView.{EdgeView}
 use Rattle.output_buffer.specs.declared.piece.Piece.{Piece}
 use Rattle.output_buffer.specs.Edges.{end_count}

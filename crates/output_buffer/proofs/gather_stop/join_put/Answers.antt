@@ -1,6 +1,3 @@
-use Rattle.std.proofs.Common.{◌≡◌, ◌∙◌, ap}
-use Rattle.crossbeam_queue.specs.Passes.{view}
-use Rattle.output_buffer.specs.Seats.{GatherPutState}
 use Rattle.output_buffer.proofs.EdgeLemmas.{merges}
 use Rattle.output_buffer.proofs.gather_stop.join_put.Goals as goal
 

@@ -1,7 +1,7 @@
-use Rattle.std.proofs.Common.{◌≡◌, ◌∙◌, sym, ap, subst}
+use Rattle.std.proofs.Common.{◌∙◌, sym, ap, subst}
 use Rattle.bag_laws.specs.Weights.{SameWeights, Within}
 use Rattle.output_buffer.specs.InGather.{gather_take_view}
-use Rattle.output_buffer.specs.Seats.{HasEnded, GatherTakeState, put_by, rows_of_pieces}
+use Rattle.output_buffer.specs.Seats.{HasEnded, GatherTakeState, put_by}
 use Rattle.output_buffer.proofs.EdgeLemmas.{shows}
 use Rattle.output_buffer.proofs.SeatLemmas.{gather_stopped, rows_weigh, rows_within}
 use Rattle.output_buffer.proofs.gather_stop.stop_gather.Goals as goal

@@ -1,5 +1,3 @@
-use Rattle.std.proofs.Common.{◌≡◌, ◌∙◌, ap}
-use Rattle.crossbeam_queue.specs.Passes.{view}
 use Rattle.output_buffer.proofs.EdgeLemmas.{merges}
 use Rattle.output_buffer.proofs.spread_stop.join_take.Goals as goal
 

@@ -1,8 +1,7 @@
-use Rattle.std.proofs.Common.{◌≡◌, ◌∙◌, sym, ap, subst}
-use Rattle.std.specs.Prelude.{All}
+use Rattle.std.proofs.Common.{◌∙◌, sym, ap, subst}
 use Rattle.bag_laws.specs.Weights.{SameWeights, Within}
 use Rattle.output_buffer.specs.InSpread.{spread_put_view}
-use Rattle.output_buffer.specs.Seats.{SpreadPutState, HaveEnded, taken_by, rows_of_pieces}
+use Rattle.output_buffer.specs.Seats.{SpreadPutState, HaveEnded, taken_by}
 use Rattle.output_buffer.proofs.EdgeLemmas.{shows}
 use Rattle.output_buffer.proofs.SeatLemmas.{spread_stopped, rows_weigh, rows_within}
 use Rattle.output_buffer.proofs.spread_stop.stop_spread.Goals as goal

@@ -1,8 +1,8 @@
-use Rattle.std.proofs.Common.{◌-◌, [], All, rules, sym, subst, ◌≡◌, ◌<◌, ◌≤◌, ◌∙◌, ap, arith}
+use Rattle.std.proofs.Common.{◌-◌, [], All, rules, sym, subst, ◌≡◌, ◌≤◌, ◌∙◌, ap, arith}
 use Rattle.std.proofs.lemmas.List.Elements.{All-push}
 use Rattle.crossbeam_queue.specs.Passes.{view}
 use Rattle.output_buffer.specs.declared.edge.EdgeView.{EdgeView}
-use Rattle.output_buffer.specs.Edges.{PagesThenEnds, edge_view, end_count, pages_in, with_put}
+use Rattle.output_buffer.specs.Edges.{PagesThenEnds, edge_view, end_count, with_put}
 use Rattle.output_buffer.specs.Seats.{GatherPutState, HasOwnNumber}
 use Rattle.output_buffer.proofs.EdgeLemmas.{page_is_one, puts, stands}
 use Rattle.output_buffer.proofs.SeatLemmas.{one_end, order_of_put, view_with_put}

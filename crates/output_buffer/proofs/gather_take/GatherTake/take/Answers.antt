@@ -1,4 +1,4 @@
-use Rattle.std.proofs.Common.{◌≡◌, ◌-◌, ◌<◌, ap, arith}
+use Rattle.std.proofs.Common.{◌≡◌, ◌-◌, ap, arith}
 use Rattle.crossbeam_queue.specs.Passes.{view}
 use Rattle.output_buffer.specs.declared.edge.EdgeView.{EdgeView}
 use Rattle.output_buffer.specs.Edges.{all_parts}

@@ -1,7 +1,7 @@
-use Rattle.std.proofs.Common.{[], rules, sym, subst, ◌≡◌, ◌-◌, ◌<◌, ◌≤◌, ◌∙◌, ap, arith}
+use Rattle.std.proofs.Common.{[], rules, sym, subst, ◌≡◌, ◌-◌, ◌≤◌, ap, arith}
 use Rattle.crossbeam_queue.specs.Passes.{view}
 use Rattle.output_buffer.specs.declared.edge.EdgeView.{EdgeView}
-use Rattle.output_buffer.specs.Edges.{PagesThenEnds, all_parts, edge_view, end_count, pages_in, with_put}
+use Rattle.output_buffer.specs.Edges.{PagesThenEnds, all_parts, edge_view, end_count, with_put}
 use Rattle.output_buffer.specs.InSpread.{spread_put_view}
 use Rattle.output_buffer.specs.Seats.{MaySpread, SpreadPutState}
 use Rattle.output_buffer.proofs.EdgeLemmas.{puts, stands}

@@ -13,9 +13,9 @@ pub record HasToken (w : WindowState) (token : ℕ) : Type 0 where
   pub within : token ≤ end_of w
 
 -- the pages from a token on, at most so many; complete exactly where no page is behind them or will come
-pub record IsReplyOf (w : WindowState) (token most : ℕ) (r : Reply) : Type 0 where
-  pub token : r.token ≡ token
-  pub pages : r.pages ≡ take most (from_token w token)
+pub record IsReplyOf (w : WindowState) (asked most : ℕ) (r : Reply) : Type 0 where
+  pub token : r.token ≡ asked
+  pub pages : r.pages ≡ take most (from_token w asked)
   pub complete : r.complete ≡ (w.is_ended && r.next == end_of w)
 
 -- a reply, or why there is none

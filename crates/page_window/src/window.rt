@@ -1,5 +1,6 @@
-ghost use Rattle.std.specs.Prelude.{◌≡◌, ◌+◌, ◌-◌, ◌^◌, ◌<◌, ◌≤◌, [], true, false, length, take, drop, IfOk, IfErr, OnOk, OnErr};
-ghost use Rattle.page_window.specs.Windows.{IsWindowOf, end_of, from_token, pushed, acknowledged};
+ghost use Rattle.std.specs.Prelude.{◌≡◌, ◌+◌, ◌-◌, ◌^◌, ◌<◌, ◌≤◌, [], true, false, List, ◌∷◌, ◌++◌, ◌↔◌, length, take, drop, IsTrue, IfOk, IfErr, OnOk, OnErr};
+ghost use Rattle.col_pages.specs.Pages.{TypedPage};
+ghost use Rattle.page_window.specs.Windows.{IsWindowOf, end_of, pushed, acknowledged};
 ghost use Rattle.page_window.specs.Fetches.{HasToken, IsReplyOf, IsFetched, ArePagesOf, IsAcknowledged};
 
 use crate::fault::{AckAhead, FetchFault, PushMemory};
@@ -48,7 +49,8 @@ impl PageWindow {
         requires room { end_of self.old < 2 ^ 64 - 1 }
         ensures ok { OnOk result (self.new ≡ pushed self.old page) }
         ensures err { OnErr result (self.new ≡ self.old) }
-        ensures back { IfErr result (λ back. back.field-0 ≡ page) }
+        ensures back { IfErr result (λ back. back.0 ≡ page) }
+        ensures put { OnOk result ((put : List TypedPage) → IsWindowOf put self.old → IsWindowOf (put ++ page ∷ []) self.new) }
     {
         match self.held.push_back(page) {
             Ok(()) => Ok(()),
@@ -58,7 +60,8 @@ impl PageWindow {
 
     /// No more pages will come.
     pub fn end(&mut self)
-        ensures { self.new ≡ record self.old { is_ended = true } }
+        ensures ended { self.new ≡ record self.old { is_ended = true } }
+        ensures put { (put : List TypedPage) → IsWindowOf put self.old → IsWindowOf put self.new }
     {
         self.is_ended = true;
     }
@@ -134,8 +137,9 @@ impl PageWindow {
         ensures { IfOk result (λ pages. pages ≡ take most (drop from self.now.held)) }
     {
         let mut pages = PageList::new(alloc);
-        for page in self.held.iter().skip(from).take(most) {
-            pages.push(page.copy(alloc)?)?;
+        let end = from + most.min(self.held.len() - from);
+        for place in from..end {
+            pages.push(self.held[place].copy(alloc)?)?;
         }
         Ok(pages)
     }
@@ -145,6 +149,7 @@ impl PageWindow {
         ensures ok { OnOk result (self.new ≡ acknowledged self.old token) }
         ensures err { OnErr result (self.new ≡ self.old) }
         ensures cause { IsAcknowledged self.old token result }
+        ensures put { (put : List TypedPage) → IsWindowOf put self.old → IsWindowOf put self.new }
     {
         let end = self.end_token();
         if end < token {

@@ -1,5 +1,5 @@
 -- A client, and the replies that it accepts.
-use Rattle.std.specs.Prelude.{◌≡◌, ◌≢◌, ℕ, ◌+◌, ◌||◌, ◌==◌, List, [], length, Bool, Option, Some, None, Result, Ok, Err, if◌then◌else◌}
+use Rattle.std.specs.Prelude.{◌≡◌, ◌≢◌, ℕ, ◌+◌, ◌||◌, ◌==◌, List, [], length, Bool, false, Option, Some, None, Result, Ok, Err, if◌then◌else◌}
 use Rattle.col_pages.specs.Pages.{TypedPage}
 use Rattle.page_window.specs.declared.reply.Reply.{Reply}
 use Rattle.exchange_client.specs.declared.client.Stale.{Stale}

@@ -1,6 +1,5 @@
 -- What a step of a fetch gives.
-use Rattle.std.specs.Prelude.{◌≡◌, ◌⊎◌, ℕ, ◌+◌, ◌-◌, ◌%◌, ◌<◌, ◌≤◌, ◌++◌, ◌∷◌, List, [], length, drop, min, true, Bool, Option, Some, None, if◌then◌else◌}
-use Rattle.std.specs.List.{get_elem?}
+use Rattle.std.specs.Prelude.{◌≡◌, ◌⊎◌, ℕ, ◌+◌, ◌-◌, ◌%◌, ◌<◌, ◌≤◌, ◌++◌, ◌∷◌, List, [], length, drop, min, true, Bool, Option, Some, None, slice_get, if◌then◌else◌}
 use Rattle.col_pages.specs.Pages.{TypedPage}
 use Rattle.run_ports.specs.Counts.{Rose}
 use Rattle.run_ports.specs.Delivering.{IfMissed}
@@ -19,7 +18,7 @@ most_kept = 8
 
 -- the reply so many places behind the latest, counted round; none where none is kept
 abbrev pub behind_latest : ℕ → List KeptValue → Option KeptValue
-behind_latest k kept = get_elem? kept (length kept - 1 - k % length kept)
+behind_latest k kept = slice_get kept (length kept - 1 - k % length kept)
 
 -- what arrives: the fresh reply, one of those that were kept before, or none
 abbrev pub arriving : Delivery → List KeptValue → KeptValue → Option KeptValue

@@ -18,35 +18,24 @@ pub record FetchState : Type 0 where
 abbrev pub rest : FetchState → List TypedPage
 rest f = from_token f.window f.client.next
 
--- the pages that were given so far, and those still to be given, are those that were put
+-- the pages that were put are those that were given so far and those still to be given
 abbrev pub Carries : List TypedPage → List TypedPage → FetchState → Type 0
 Carries put given f = put ≡ given ++ rest f
 
--- a fetch to which nothing was put
-abbrev pub new_fetch : ℕ → ℕ → FetchState
-new_fetch missed most = record {
-  window = record { base = 0; held = []; is_ended = false };
-  client = record { next = 0; is_complete = false };
-  kept = [];
-  missed = missed;
-  fruitless = 0;
-  most = most;
-}
-
 -- a reply that may arrive: it is not ahead of the client; where its token is the client's next, its pages are the
--- first of the rest; and a complete one ends where the window ends
-pub record MayArrive (f : FetchState) (r : KeptValue) : Type 0 where
-  pub past : r.token ≤ f.client.next
-  pub first : r.token ≡ f.client.next → (more : List TypedPage) × (rest f ≡ r.pages ++ more)
-  pub ended : r.is_complete ≡ true → (f.window.is_ended ≡ true) × (next_of r ≡ end_of f.window)
+-- first of those still to be given; and a complete one ends where the window ends
+pub record MayArrive (w : WindowState) (next : ℕ) (r : KeptValue) : Type 0 where
+  pub past : r.token ≤ next
+  pub first : r.token ≡ next → (more : List TypedPage) × (from_token w next ≡ r.pages ++ more)
+  pub ended : r.is_complete ≡ true → (w.is_ended ≡ true) × (next_of r ≡ end_of w)
 
 -- the client's next token is one that the window has, and what is kept may arrive
-pub record KeepsTokens (f : FetchState) : Type 0 where
-  pub some : 0 < f.most
-  pub low : f.window.base ≤ f.client.next
-  pub high : f.client.next ≤ end_of f.window
-  pub complete : f.client.is_complete ≡ true → (f.window.is_ended ≡ true) × (f.client.next ≡ end_of f.window)
-  pub kept : All (MayArrive f) f.kept
+pub record KeepsTokens (w : WindowState) (c : ClientState) (most : ℕ) (kept : List KeptValue) : Type 0 where
+  pub some : 0 < most
+  pub low : w.base ≤ c.next
+  pub high : c.next ≤ end_of w
+  pub complete : c.is_complete ≡ true → (w.is_ended ≡ true) × (c.next ≡ end_of w)
+  pub arrives : All (MayArrive w c.next) kept
 
 -- the last token that there is
 abbrev pub last_token : ℕ
@@ -60,7 +49,7 @@ HasRoom f = (length f.window.held < 32) × (end_of f.window < last_token)
 abbrev pub is_used_up : FetchState → Bool
 is_used_up f = not f.window.is_ended && (end_of f.window == last_token && f.client.next == end_of f.window)
 
--- the fetch from token 0 on, with no reply kept
+-- a fetch to which nothing was put, with the counts of this one
 abbrev pub begun_anew : FetchState → FetchState
 begun_anew f = record f {
   window = record { base = 0; held = []; is_ended = false };
@@ -69,9 +58,11 @@ begun_anew f = record f {
 }
 
 -- how a step prepares: it starts anew where all tokens are used, and else acknowledges what was given
+abbrev pub prepared_if : Bool → FetchState → FetchState
+prepared_if anew f = if anew then begun_anew f else record f { window = acknowledged f.window f.client.next }
+
 abbrev pub prepared : FetchState → FetchState
-prepared f =
-    if is_used_up f then begun_anew f else record f { window = acknowledged f.window f.client.next }
+prepared f = prepared_if (is_used_up f) f
 
 -- the reply to the client's next token
 abbrev pub fresh_of : FetchState → KeptValue

@@ -14,9 +14,9 @@
 #![tactic(auto)]
 
 mod client;
-//mod fetch;
+mod fetch;
 mod kept_replies;
 mod kept_reply;
 
 pub use client::{PageClient, Stale};
-//pub use fetch::Fetch;
+pub use fetch::Fetch;

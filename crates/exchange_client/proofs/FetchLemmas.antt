@@ -1,5 +1,5 @@
 -- What a fetch keeps of its tokens.
-use Rattle.std.proofs.Common.{◌≡◌, ◌⊎◌, ℕ, ◌+◌, ◌-◌, ◌<◌, ◌≤◌, List, [], ◌∷◌, ◌++◌, length, take, drop, max, All, Bool, true, false, ◌&&◌, ◌||◌, ◌==◌, arith, ap, sym, ◌∙◌, refl, subst}
+use Rattle.std.proofs.Common.{◌≡◌, ◌⊎◌, ℕ, ◌+◌, ◌-◌, ◌<◌, ◌≤◌, List, [], ◌∷◌, ◌++◌, length, take, drop, max, All, Bool, true, false, ◌&&◌, ◌||◌, ◌==◌, arith, ap, sym, ◌∙◌, refl, subst, Result, Ok, Err, OnOk, OnErr, inl, inr}
 use Rattle.std.proofs.lemmas.List.{length-append, length-drop, drop-append-le, drop-drop, drop_at, drop_all, take-append-drop, append_assoc, nil_from_length}
 use Rattle.std.proofs.lemmas.List.Elements.{All-weaker, All-nil, All-push, All-drop}
 use Rattle.std.proofs.lemmas.Bool.{and_parts, or_cases, eqb-true}
@@ -33,3 +33,80 @@ arrives_alike w v next r going same_end same_rest may = record {
   first = λ at. let (more, split) = may.first at in (more, same_rest ∙ split);
   ended = λ done. let e = may.ended done in (going e.0, e.1 ∙ sym same_end);
 }
+
+module _ (w : WindowState) (c : ClientState) (most : ℕ) (kept : List KeptValue) (keeps : KeepsTokens w c most kept) where
+  -- one more page, in a window that is not ended
+  pub keeps_pushed : (page : TypedPage) → w.is_ended ≡ false → KeepsTokens (pushed w page) c most kept
+  keeps_pushed page going = record {
+    some = keeps.some;
+    low = keeps.low;
+    high = omega (arith, keeps.high, length-append w.held (page ∷ []));
+    complete = λ done. let e = (keeps.complete done).0 in absurd (still e);
+    arrives = All-weaker (MayArrive w c.next) (MayArrive (pushed w page) c.next) (λ r may. record {
+      past = may.past;
+      first = λ at. let (more, split) = may.first at in
+        (more ++ page ∷ [], rest_pushed w c.next keeps.low keeps.high page ∙ ap (λ ys. ys ++ page ∷ []) split ∙ append_assoc r.pages more (page ∷ []));
+      ended = λ done. absurd (still (may.ended done).0);
+    }) kept keeps.arrives;
+  }
+    where
+      still : w.is_ended ≡ true → ⊥
+      still e = cc
+
+  pub keeps_put : {E : Type 0} (answer : Result (Unit {0}) E) (v : WindowState) (page : TypedPage) → w.is_ended ≡ false → OnOk answer (v ≡ pushed w page) → OnErr answer (v ≡ w) → KeepsTokens v c most kept
+  keeps_put (Ok done) v page going is same = subst (λ u. KeepsTokens u c most kept) (sym is) (keeps_pushed page going)
+  keeps_put (Err back) v page going is same = subst (λ u. KeepsTokens u c most kept) (sym same) keeps
+
+  -- the fresh reply may arrive
+  pub fresh_arrives : (r : KeptValue) → r.token ≡ c.next → r.pages ≡ take most (from_token w c.next) → r.is_complete ≡ (w.is_ended && c.next + length (take most (from_token w c.next)) == end_of w) → MayArrive w c.next r
+  fresh_arrives r at pages whole = record {
+    past = omega (arith, at);
+    first = λ _. (drop most (from_token w c.next), sym (ap (λ ys. ys ++ drop most (from_token w c.next)) pages ∙ take-append-drop most (from_token w c.next)));
+    ended = λ done.
+      let both = and_parts w.is_ended (c.next + length (take most (from_token w c.next)) == end_of w) (sym whole ∙ done) in
+      let same = eqb-true _ _ both.1 in
+      (both.0, ap (λ t. t + length r.pages) at ∙ ap (λ ys. c.next + length ys) pages ∙ same);
+  }
+
+  -- the latest of what is kept and one more
+  pub keeps_latest : (r : KeptValue) (n : ℕ) → MayArrive w c.next r → KeepsTokens w c most (drop n (kept ++ r ∷ []))
+  keeps_latest r n may = record {
+    some = keeps.some;
+    low = keeps.low;
+    high = keeps.high;
+    complete = keeps.complete;
+    arrives = All-drop (MayArrive w c.next) n (kept ++ r ∷ []) (All-push (MayArrive w c.next) kept r keeps.arrives may);
+  }
+
+  module _ (r : KeptValue) (at : r.token ≡ c.next) (may : MayArrive w c.next r) where
+    within : length r.pages + c.next ≤ end_of w
+    within = let (more, split) = may.first at in omega (arith, rest_length w c.next keeps.low keeps.high, ap length split, length-append r.pages more)
+
+    -- what is left once the reply is accepted
+    pub rest_accepted : from_token w c.next ≡ r.pages ++ from_token w (next_of r)
+    rest_accepted =
+      let (more, split) = may.first at in
+      let here : next_of r - w.base ≡ (c.next - w.base) + length r.pages = omega (arith, at, keeps.low) in
+      let left : from_token w (next_of r) ≡ more =
+        ap (λ n. drop n w.held) here ∙ sym (drop-drop (length r.pages) (c.next - w.base) w.held) ∙ ap (drop (length r.pages)) split ∙ drop_at r.pages more (length r.pages) refl in
+      split ∙ ap (λ ys. r.pages ++ ys) (sym left)
+
+    pub keeps_accepted : KeepsTokens w (accepted c r) most kept
+    keeps_accepted = record {
+      some = keeps.some;
+      low = omega (arith, at, keeps.low);
+      high = omega (arith, at, within);
+      complete = λ done. ended (or_cases c.is_complete r.is_complete done);
+      arrives = All-weaker (MayArrive w c.next) (MayArrive w (next_of r)) (λ s one. record {
+        past = omega (arith, at, one.past);
+        first = λ on.
+          let still : next_of r ≡ c.next = omega (arith, at, one.past, on) in
+          let (more, split) = one.first (on ∙ still) in
+          (more, ap (from_token w) still ∙ split);
+        ended = one.ended;
+      }) kept keeps.arrives;
+    }
+      where
+        ended : (c.is_complete ≡ true) ⊎ (r.is_complete ≡ true) → (w.is_ended ≡ true) × (next_of r ≡ end_of w)
+        ended (inl whole) = let e = keeps.complete whole in (e.0, omega (arith, at, within, e.1))
+        ended (inr whole) = may.ended whole

@@ -71,3 +71,14 @@ fresh_of f = record {
   pages = take f.most (rest f);
   is_complete = f.window.is_ended && f.client.next + length (take f.most (rest f)) == end_of f.window;
 }
+
+-- the same pages are still to be given, and nothing else changed that a caller counts on
+pub record StaysToBeGiven (old new : FetchState) : Type 0 where
+  pub pages : rest new ≡ rest old
+  pub ended : new.window.is_ended ≡ old.window.is_ended
+  pub turns : new.missed ≡ old.missed
+
+-- a reply without pages leaves none to be given, and is complete where no more will come
+pub record GivesWhatIsLeft (f : FetchState) (r : KeptValue) : Type 0 where
+  pub empty : r.pages ≡ [] → rest f ≡ []
+  pub whole : f.window.is_ended ≡ true → rest f ≡ [] → r.is_complete ≡ true

@@ -2,7 +2,7 @@ ghost use Rattle.std.specs.Prelude.{◌≡◌, ◌⊎◌, ◌↔◌, ◌<◌, �
 ghost use Rattle.col_pages.specs.Pages.{TypedPage};
 ghost use Rattle.page_window.specs.Windows.{pushed, acknowledged};
 ghost use Rattle.exchange_client.specs.Clients.{kept_as, pages_given};
-ghost use Rattle.exchange_client.specs.Fetches.{Carries, HasRoom, MayArrive, rest, prepared, begun_anew, is_used_up, fresh_of};
+ghost use Rattle.exchange_client.specs.Fetches.{Carries, HasRoom, MayArrive, rest, prepared, begun_anew, is_used_up, fresh_of, StaysToBeGiven, GivesWhatIsLeft};
 ghost use Rattle.exchange_client.specs.Steps.{IsDelivered, HasArrived, HasStepped, HasMissed, is_due, begun, taken, arriving};
 
 use crate::client::PageClient;
@@ -129,8 +129,9 @@ impl<C: Courier> Fetch<C> {
         ensures complete { OnOk result (self.old.window.is_ended ≡ true → rest self.old ≡ []
             → (self.new.client.is_complete ≡ true) ⊎ HasMissed self.old self.new) }
         ensures later { self.old.missed ≤ self.new.missed }
+        ensures ended { self.new.window.is_ended ≡ self.old.window.is_ended }
         ensures err { OnErr result (self.new ≡ record (begun self.old) { missed = self.new.missed }) }
-        ensures same { OnErr result (rest self.new ≡ rest self.old) }
+        ensures held { OnErr result (rest self.new ≡ rest self.old) }
     {
         let due = self.begin();
         let arrived = self.deliver(due)?;
@@ -141,6 +142,7 @@ impl<C: Courier> Fetch<C> {
     fn begin(&mut self) -> bool
         ensures due { result ≡ is_due self.old }
         ensures begun { self.new ≡ begun self.old }
+        ensures same { StaysToBeGiven self.old self.new }
     {
         self.prepare();
         let due = MOST_FRUITLESS <= self.fruitless;
@@ -150,7 +152,8 @@ impl<C: Courier> Fetch<C> {
 
     /// Starts anew where all tokens are used, and else acknowledges what was given.
     fn prepare(&mut self)
-        ensures { self.new ≡ prepared self.old }
+        ensures prepared { self.new ≡ prepared self.old }
+        ensures same { StaysToBeGiven self.old self.new }
     {
         if self.is_used_up() {
             self.begin_anew();
@@ -167,7 +170,9 @@ impl<C: Courier> Fetch<C> {
     }
 
     fn begin_anew(&mut self)
-        ensures { self.new ≡ begun_anew self.old }
+        requires { is_used_up self.old ≡ true }
+        ensures anew { self.new ≡ begun_anew self.old }
+        ensures same { StaysToBeGiven self.old self.new }
     {
         self.window = PageWindow::new(self.alloc);
         self.client = PageClient::new();
@@ -175,7 +180,10 @@ impl<C: Courier> Fetch<C> {
     }
 
     fn acknowledge(&mut self)
-        ensures { self.new ≡ record self.old { window = acknowledged self.old.window self.old.client.next } }
+        ensures acknowledged { self.new ≡ record self.old {
+          window = acknowledged self.old.window self.old.client.next;
+        } }
+        ensures same { StaysToBeGiven self.old self.new }
     {
         let Ok(()) = self.window.ack(self.client.next_token()) else {
             unreachable!()
@@ -185,6 +193,9 @@ impl<C: Courier> Fetch<C> {
     /// Makes the fresh reply, and lets arrive what the courier says.
     fn deliver(&mut self, due: bool) -> Result<Option<Reply>, Memory>
         ensures ok { IfOk result (λ arrived. HasArrived due self.old (option_map kept_as arrived) self.new) }
+        ensures may { IfOk result (λ arrived. IfSome arrived
+            (λ r. MayArrive self.old.window self.old.client.next (kept_as r))) }
+        ensures fresh { GivesWhatIsLeft self.old (fresh_of self.old) }
         ensures later { self.old.missed ≤ self.new.missed }
         ensures err { OnErr result (self.new ≡ record self.old { missed = self.new.missed }) }
     {
@@ -221,6 +232,7 @@ impl<C: Courier> Fetch<C> {
         requires { IfSome arrived (λ r. MayArrive self.old.window self.old.client.next (kept_as r)) }
         ensures pages { result ≡ pages_given self.old.client (option_map kept_as arrived) }
         ensures taken { self.new ≡ taken self.old (option_map kept_as arrived) }
+        ensures rest { rest self.old ≡ result ++ rest self.new }
     {
         match arrived {
             Some(reply) => self.accept(reply),
@@ -232,6 +244,7 @@ impl<C: Courier> Fetch<C> {
         requires { MayArrive self.old.window self.old.client.next (kept_as reply) }
         ensures pages { result ≡ pages_given self.old.client (Some (kept_as reply)) }
         ensures taken { self.new ≡ taken self.old (Some (kept_as reply)) }
+        ensures rest { rest self.old ≡ result ++ rest self.new }
     {
         match self.client.accept(reply) {
             Ok(pages) => {

@@ -1,12 +1,12 @@
 -- What a fetch keeps of its tokens.
-use Rattle.std.proofs.Common.{◌≡◌, ◌⊎◌, ℕ, ◌+◌, ◌-◌, ◌<◌, ◌≤◌, List, [], ◌∷◌, ◌++◌, length, take, drop, max, All, Bool, true, false, ◌&&◌, ◌||◌, ◌==◌, arith, ap, sym, ◌∙◌, refl, subst, Result, Ok, Err, OnOk, OnErr, inl, inr}
+use Rattle.std.proofs.Common.{◌≡◌, ◌⊎◌, ℕ, ◌+◌, ◌-◌, ◌<◌, ◌≤◌, List, [], ◌∷◌, ◌++◌, length, take, drop, max, All, Bool, true, false, ◌&&◌, ◌||◌, ◌==◌, arith, ap, sym, ◌∙◌, refl, subst, Result, Ok, Err, OnOk, OnErr, IfOk, inl, inr}
 use Rattle.std.proofs.lemmas.List.{length-append, length-drop, drop-append-le, drop-drop, drop_at, drop_all, take-append-drop, append_assoc, nil_from_length}
 use Rattle.std.proofs.lemmas.List.Elements.{All-weaker, All-nil, All-push, All-drop}
 use Rattle.std.proofs.lemmas.Bool.{and_parts, or_cases, eqb-true}
 use Rattle.col_pages.specs.Pages.{TypedPage}
 use Rattle.page_window.specs.Windows.{WindowState, end_of, from_token, pushed, acknowledged}
 use Rattle.exchange_client.specs.Clients.{ClientState, KeptValue, next_of, accepted}
-use Rattle.exchange_client.specs.Fetches.{FetchState, rest, MayArrive, KeepsTokens}
+use Rattle.exchange_client.specs.Fetches.{FetchState, rest, MayArrive, KeepsTokens, fresh_of}
 
 module _ (w : WindowState) (next : ℕ) (low : w.base ≤ next) (high : next ≤ end_of w) where
   -- how many pages are left
@@ -57,17 +57,6 @@ module _ (w : WindowState) (c : ClientState) (most : ℕ) (kept : List KeptValue
   keeps_put (Ok done) v page going is same = subst (λ u. KeepsTokens u c most kept) (sym is) (keeps_pushed page going)
   keeps_put (Err back) v page going is same = subst (λ u. KeepsTokens u c most kept) (sym same) keeps
 
-  -- the fresh reply may arrive
-  pub fresh_arrives : (r : KeptValue) → r.token ≡ c.next → r.pages ≡ take most (from_token w c.next) → r.is_complete ≡ (w.is_ended && c.next + length (take most (from_token w c.next)) == end_of w) → MayArrive w c.next r
-  fresh_arrives r at pages whole = record {
-    past = omega (arith, at);
-    first = λ _. (drop most (from_token w c.next), sym (ap (λ ys. ys ++ drop most (from_token w c.next)) pages ∙ take-append-drop most (from_token w c.next)));
-    ended = λ done.
-      let both = and_parts w.is_ended (c.next + length (take most (from_token w c.next)) == end_of w) (sym whole ∙ done) in
-      let same = eqb-true _ _ both.1 in
-      (both.0, ap (λ t. t + length r.pages) at ∙ ap (λ ys. c.next + length ys) pages ∙ same);
-  }
-
   -- the latest of what is kept and one more
   pub keeps_latest : (r : KeptValue) (n : ℕ) → MayArrive w c.next r → KeepsTokens w c most (drop n (kept ++ r ∷ []))
   keeps_latest r n may = record {
@@ -110,3 +99,18 @@ module _ (w : WindowState) (c : ClientState) (most : ℕ) (kept : List KeptValue
         ended : (c.is_complete ≡ true) ⊎ (r.is_complete ≡ true) → (w.is_ended ≡ true) × (next_of r ≡ end_of w)
         ended (inl whole) = let e = keeps.complete whole in (e.0, omega (arith, at, within, e.1))
         ended (inr whole) = may.ended whole
+
+-- the fresh reply may arrive
+pub fresh_arrives : (f : FetchState) → KeepsTokens f.window f.client f.most f.kept → MayArrive f.window f.client.next (fresh_of f)
+fresh_arrives f keeps = record {
+  past = omega arith;
+  first = λ _. (drop f.most (rest f), sym (take-append-drop f.most (rest f)));
+  ended = λ done.
+    let both = and_parts f.window.is_ended (f.client.next + length (take f.most (rest f)) == end_of f.window) done in
+    (both.0, eqb-true _ _ both.1);
+}
+
+-- what holds of a value may be said of it in a weaker way
+pub ok_weaker : {A E : Type 0} (P Q : A → Type 0) (answer : Result A E) → ((x : A) → P x → Q x) → IfOk answer P → IfOk answer Q
+ok_weaker P Q (Ok x) weaker holds = weaker x holds
+ok_weaker P Q (Err e) weaker holds = tt

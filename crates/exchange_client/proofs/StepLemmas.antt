@@ -1,7 +1,7 @@
 -- A step of a fetch: what arrives, and what it gives.
-use Rattle.std.proofs.Common.{◌≡◌, ◌⊎◌, ℕ, ◌+◌, ◌-◌, ◌<◌, ◌≤◌, List, [], ◌∷◌, ◌++◌, length, take, All, Bool, true, false, not, ◌&&◌, ◌||◌, ◌==◌, Option, Some, None, option_map, IfSome, slice_get, arith, ap, sym, ◌∙◌, refl, subst, inl, inr}
+use Rattle.std.proofs.Common.{zero, suc, ◌≡◌, ◌⊎◌, ℕ, ◌+◌, ◌-◌, ◌<◌, ◌≤◌, List, [], ◌∷◌, ◌++◌, length, take, All, Bool, true, false, not, ◌&&◌, ◌||◌, ◌==◌, Option, Some, None, option_map, IfSome, slice_get, arith, ap, sym, ◌∙◌, refl, subst, inl, inr}
 use Rattle.std.proofs.lemmas.List.{append_assoc, nil_from_length, length-take}
-use Rattle.std.proofs.lemmas.List.Elements.{All-get_or}
+use Rattle.std.proofs.lemmas.List.Elements.{All-head, All-tail}
 use Rattle.std.proofs.lemmas.Bool.{and_parts, and_from, eq-eqb, eqb-true, cond-true, cases_Bool, leb-false, not-true, or_right, false_from_ne_true}
 use Rattle.col_pages.specs.Pages.{TypedPage}
 use Rattle.page_window.specs.Windows.{WindowState, end_of, from_token}
@@ -10,8 +10,8 @@ use Rattle.run_ports.specs.Counts.{Rose}
 use Rattle.run_ports.specs.declared.courier.Delivery.{Delivery}
 use Rattle.run_ports.specs.declared.courier.Delivery.TheVariants.{Fresh, Again, Nothing}
 use Rattle.exchange_client.specs.Clients.{ClientState, KeptValue, kept_as, pages_given, client_after}
-use Rattle.exchange_client.specs.Fetches.{FetchState, rest, Carries, MayArrive, KeepsTokens, fresh_of, is_used_up, last_token, GivesWhatIsLeft}
-use Rattle.exchange_client.specs.Steps.{arriving, IsDelivered, HasArrived}
+use Rattle.exchange_client.specs.Fetches.{FetchState, rest, Carries, MayArrive, KeepsTokens, fresh_of, is_used_up, last_token, StaysToBeGiven, GivesWhatIsLeft}
+use Rattle.exchange_client.specs.Steps.{arriving, IsDelivered, HasArrived, HasMissed, is_due, taken, most_fruitless}
 use Rattle.exchange_client.proofs.FetchLemmas.{rest_length, rest_at_end}
 
 -- a page that was given is no longer to be given
@@ -43,12 +43,14 @@ fresh_gives f keeps = record {
 
 module _ (P : KeptValue → Type 0) where
   picked : (kept : List KeptValue) (at : ℕ) (r : KeptValue) → All P kept → Some r ≡ slice_get kept at → P r
-  picked kept at r all is = ?
+  picked [] at r all is = cc
+  picked (x ∷ xs) zero r all is = let e : r ≡ x = cc in subst P (sym e) (All-head P x xs all)
+  picked (x ∷ xs) (suc n) r all is = picked xs n r (All-tail P x xs all) is
 
   -- what arrives is fresh or was kept
   pub arrives_of : (d : Delivery) (kept : List KeptValue) (fresh : KeptValue) (o : Option Reply) → All P kept → P fresh → option_map kept_as o ≡ arriving d kept fresh → IfSome o (λ r. P (kept_as r))
   arrives_of d kept fresh None all new is = tt
-  arrives_of Fresh kept fresh (Some r) all new is = ?
+  arrives_of Fresh kept fresh (Some r) all new is = let e : kept_as r ≡ fresh = cc in subst P (sym e) new
   arrives_of (Again k) kept fresh (Some r) all new is = picked kept _ (kept_as r) all is
   arrives_of Nothing kept fresh (Some r) all new is = cc
 
@@ -68,3 +70,43 @@ given_next c o r is at = ap (pages_given c) is ∙ cond-true (r.token == c.next)
 pub complete_next : (c : ClientState) (o : Option KeptValue) (r : KeptValue) → o ≡ Some r → r.token ≡ c.next → r.is_complete ≡ true → (client_after c o).is_complete ≡ true
 complete_next c o r is at whole =
     ap (λ u. (client_after c u).is_complete) is ∙ ap (λ k. k.is_complete) (cond-true (r.token == c.next) _ c (eq-eqb _ _ at)) ∙ or_right c.is_complete r.is_complete whole
+
+module _ (old begun after new : FetchState) (due : Bool) (arrived : Option KeptValue) (pages : List TypedPage)
+    (same : StaysToBeGiven old begun) (is : due ≡ is_due old) (h : HasArrived due begun arrived after)
+    (gives : GivesWhatIsLeft begun (fresh_of begun)) (given : pages ≡ pages_given after.client arrived)
+    (left : rest after ≡ pages ++ rest new) (end : new ≡ taken after arrived) where
+
+  rest_before : rest after ≡ rest old
+  rest_before = ap rest h.after ∙ same.pages
+
+  pub stepped_rest : rest old ≡ pages ++ rest new
+  stepped_rest = sym rest_before ∙ left
+
+  pub stepped_ended : new.window.is_ended ≡ old.window.is_ended
+  stepped_ended = ap (λ f. f.window.is_ended) end ∙ ap (λ f. f.window.is_ended) h.after ∙ same.ended
+
+  client_before : after.client ≡ begun.client
+  client_before = ap (λ f. f.client) h.after
+
+  has_missed : (due ≡ false) × Rose begun.missed after.missed → HasMissed old new
+  has_missed (idle, rose) =
+      let few : old.fruitless < most_fruitless = leb-false most_fruitless old.fruitless (sym is ∙ idle) in
+      (few, subst (λ m. Rose m new.missed) same.turns (subst (λ m. Rose begun.missed m) (sym (ap (λ f. f.missed) end)) rose))
+
+  pub stepped_empty : pages ≡ [] → (rest old ≡ []) ⊎ HasMissed old new
+  stepped_empty none = by (fresh_or_missed due begun arrived after h)
+    where
+      by : (arrived ≡ Some (fresh_of begun)) ⊎ ((due ≡ false) × Rose begun.missed after.missed) → (rest old ≡ []) ⊎ HasMissed old new
+      by (inl fresh) =
+          let no_page : (fresh_of begun).pages ≡ [] = sym (given_next begun.client arrived (fresh_of begun) fresh refl) ∙ ap (λ c. pages_given c arrived) (sym client_before) ∙ sym given ∙ none in
+          inl (sym same.pages ∙ gives.empty no_page)
+      by (inr missed) = inr (has_missed missed)
+
+  pub stepped_complete : old.window.is_ended ≡ true → rest old ≡ [] → (new.client.is_complete ≡ true) ⊎ HasMissed old new
+  stepped_complete ended none = by (fresh_or_missed due begun arrived after h)
+    where
+      by : (arrived ≡ Some (fresh_of begun)) ⊎ ((due ≡ false) × Rose begun.missed after.missed) → (new.client.is_complete ≡ true) ⊎ HasMissed old new
+      by (inl fresh) =
+          let whole : (fresh_of begun).is_complete ≡ true = gives.whole (same.ended ∙ ended) (same.pages ∙ none) in
+          inl (ap (λ f. f.client.is_complete) end ∙ ap (λ c. (client_after c arrived).is_complete) client_before ∙ complete_next begun.client arrived (fresh_of begun) fresh refl whole)
+      by (inr missed) = inr (has_missed missed)

@@ -195,7 +195,7 @@ impl<C: Courier> Fetch<C> {
         ensures ok { IfOk result (λ arrived. HasArrived due self.old (option_map kept_as arrived) self.new) }
         ensures may { IfOk result (λ arrived. IfSome arrived
             (λ r. MayArrive self.old.window self.old.client.next (kept_as r))) }
-        ensures fresh { GivesWhatIsLeft self.old (fresh_of self.old) }
+        ensures gives { GivesWhatIsLeft self.old (fresh_of self.old) }
         ensures later { self.old.missed ≤ self.new.missed }
         ensures err { OnErr result (self.new ≡ record self.old { missed = self.new.missed }) }
     {
@@ -208,7 +208,9 @@ impl<C: Courier> Fetch<C> {
 
     /// The reply to the client's next token.
     fn fresh(&self) -> Result<KeptReply, Memory>
-        ensures { IfOk result (λ fresh. fresh ≡ fresh_of self.now) }
+        ensures fresh { IfOk result (λ fresh. fresh ≡ fresh_of self.now) }
+        ensures may { IfOk result (MayArrive self.now.window self.now.client.next) }
+        ensures gives { GivesWhatIsLeft self.now (fresh_of self.now) }
     {
         match self.window.fetch(self.alloc, self.client.next_token(), self.most) {
             Ok(reply) => KeptReply::of(self.alloc, reply),
@@ -219,7 +221,11 @@ impl<C: Courier> Fetch<C> {
 
     /// A copy of what arrives.
     fn arrival(&self, delivery: Delivery, fresh: &KeptReply) -> Result<Option<Reply>, Memory>
-        ensures { IfOk result (λ arrived. option_map kept_as arrived ≡ arriving delivery self.now.kept fresh.now) }
+        requires { MayArrive self.now.window self.now.client.next fresh.now }
+        ensures arriving { IfOk result (λ arrived. option_map kept_as arrived
+            ≡ arriving delivery self.now.kept fresh.now) }
+        ensures may { IfOk result (λ arrived. IfSome arrived
+            (λ r. MayArrive self.now.window self.now.client.next (kept_as r))) }
     {
         match self.kept.arriving(delivery, fresh) {
             Some(reply) => Ok(Some(reply.copy(self.alloc)?)),

@@ -45,7 +45,7 @@ module _ (w : WindowState) (c : ClientState) (most : ℕ) (kept : List KeptValue
     arrives = All-weaker (MayArrive w c.next) (MayArrive (pushed w page) c.next) (λ r may. record {
       past = may.past;
       first = λ at. let (more, split) = may.first at in
-        (more ++ page ∷ [], rest_pushed w c.next keeps.low keeps.high page ∙ ap (λ ys. ys ++ page ∷ []) split ∙ append_assoc r.pages more (page ∷ []));
+          (more ++ page ∷ [], rest_pushed w c.next keeps.low keeps.high page ∙ ap (λ ys. ys ++ page ∷ []) split ∙ append_assoc r.pages more (page ∷ []));
       ended = λ done. absurd (still (may.ended done).0);
     }) kept keeps.arrives;
   }
@@ -74,11 +74,11 @@ module _ (w : WindowState) (c : ClientState) (most : ℕ) (kept : List KeptValue
     -- what is left once the reply is accepted
     pub rest_accepted : from_token w c.next ≡ r.pages ++ from_token w (next_of r)
     rest_accepted =
-      let (more, split) = may.first at in
-      let here : next_of r - w.base ≡ (c.next - w.base) + length r.pages = omega (arith, at, keeps.low) in
-      let left : from_token w (next_of r) ≡ more =
+        let (more, split) = may.first at in
+        let here : next_of r - w.base ≡ (c.next - w.base) + length r.pages = omega (arith, at, keeps.low) in
+        let left : from_token w (next_of r) ≡ more =
         ap (λ n. drop n w.held) here ∙ sym (drop-drop (length r.pages) (c.next - w.base) w.held) ∙ ap (drop (length r.pages)) split ∙ drop_at r.pages more (length r.pages) refl in
-      split ∙ ap (λ ys. r.pages ++ ys) (sym left)
+        split ∙ ap (λ ys. r.pages ++ ys) (sym left)
 
     pub keeps_accepted : KeepsTokens w (accepted c r) most kept
     keeps_accepted = record {
@@ -89,9 +89,9 @@ module _ (w : WindowState) (c : ClientState) (most : ℕ) (kept : List KeptValue
       arrives = All-weaker (MayArrive w c.next) (MayArrive w (next_of r)) (λ s one. record {
         past = omega (arith, at, one.past);
         first = λ on.
-          let still : next_of r ≡ c.next = omega (arith, at, one.past, on) in
-          let (more, split) = one.first (on ∙ still) in
-          (more, ap (from_token w) still ∙ split);
+            let still : next_of r ≡ c.next = omega (arith, at, one.past, on) in
+            let (more, split) = one.first (on ∙ still) in
+            (more, ap (from_token w) still ∙ split);
         ended = one.ended;
       }) kept keeps.arrives;
     }
@@ -106,8 +106,8 @@ fresh_arrives f keeps = record {
   past = omega arith;
   first = λ _. (drop f.most (rest f), sym (take-append-drop f.most (rest f)));
   ended = λ done.
-    let both = and_parts f.window.is_ended (f.client.next + length (take f.most (rest f)) == end_of f.window) done in
-    (both.0, eqb-true _ _ both.1);
+      let both = and_parts f.window.is_ended (f.client.next + length (take f.most (rest f)) == end_of f.window) done in
+      (both.0, eqb-true _ _ both.1);
 }
 
 -- what holds of a value may be said of it in a weaker way

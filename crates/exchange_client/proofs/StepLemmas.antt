@@ -36,9 +36,9 @@ pub fresh_gives : (f : FetchState) → KeepsTokens f.window f.client f.most f.ke
 fresh_gives f keeps = record {
   empty = none_taken f.most (rest f) keeps.some;
   whole = λ ended none.
-    let at_end : f.client.next + length (take f.most (rest f)) ≡ end_of f.window =
+      let at_end : f.client.next + length (take f.most (rest f)) ≡ end_of f.window =
       omega (arith, length-take f.most (rest f), ap length none, rest_length f.window f.client.next keeps.low keeps.high) in
-    and_from f.window.is_ended (f.client.next + length (take f.most (rest f)) == end_of f.window) ended (eq-eqb _ _ at_end);
+      and_from f.window.is_ended (f.client.next + length (take f.most (rest f)) == end_of f.window) ended (eq-eqb _ _ at_end);
 }
 
 module _ (P : KeptValue → Type 0) where
@@ -75,7 +75,6 @@ module _ (old begun after new : FetchState) (due : Bool) (arrived : Option KeptV
     (same : StaysToBeGiven old begun) (is : due ≡ is_due old) (h : HasArrived due begun arrived after)
     (gives : GivesWhatIsLeft begun (fresh_of begun)) (given : pages ≡ pages_given after.client arrived)
     (left : rest after ≡ pages ++ rest new) (end : new ≡ taken after arrived) where
-
   rest_before : rest after ≡ rest old
   rest_before = ap rest h.after ∙ same.pages
 

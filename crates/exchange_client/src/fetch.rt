@@ -97,7 +97,8 @@ impl<C: Courier> Fetch<C> {
 
     /// No more pages will come.
     pub fn end(&mut self)
-        ensures { self.new ≡ record self.old { window = record self.old.window { is_ended = true } } }
+        ensures ended { self.new ≡ record self.old { window = record self.old.window { is_ended = true } } }
+        ensures carries { (put given : List TypedPage) → Carries put given self.old → Carries put given self.new }
     {
         self.window.end();
     }
@@ -212,7 +213,8 @@ impl<C: Courier> Fetch<C> {
         ensures may { IfOk result (MayArrive self.now.window self.now.client.next) }
         ensures gives { GivesWhatIsLeft self.now (fresh_of self.now) }
     {
-        match self.window.fetch(self.alloc, self.client.next_token(), self.most) {
+        let next = self.client.next_token();
+        match self.window.fetch(self.alloc, next, self.most) {
             Ok(reply) => KeptReply::of(self.alloc, reply),
             Err(FetchFault::Memory) => Err(Memory),
             Err(_) => unreachable!(),

@@ -109,9 +109,10 @@ impl PageWindow {
         if token < self.base {
             return Err(FetchFault::TokenGone { base: self.base });
         }
-        let end = self.end_token();
-        if end < token {
-            return Err(FetchFault::TokenAhead { end });
+        if token > self.end_token() {
+            return Err(FetchFault::TokenAhead {
+                end: self.end_token(),
+            });
         }
         Ok(self.reply(alloc, token, most)?)
     }

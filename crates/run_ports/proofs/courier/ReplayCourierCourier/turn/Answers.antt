@@ -1,0 +1,1 @@
+use Rattle.run_ports.proofs.courier.ReplayCourierCourier.turn.Goals as goal

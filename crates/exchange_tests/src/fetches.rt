@@ -1,7 +1,3 @@
-ghost use Rattle.std.specs.Prelude.{◌≡◌, ◌≤◌, ◌<◌, length};
-ghost use Rattle.run_ports.specs.Counts.{Rose};
-ghost use Rattle.run_ports.specs.Delivering.{IfMissed};
-
 use crate::numbered::{number_behind, numbered};
 use exchange_client::Fetch;
 use page_window::PushMemory;
@@ -58,7 +54,7 @@ impl<'a> Courier for Script<'a> {
 }
 
 /// Puts the page of this number where there is room, and says whether there was.
-fn put<C: Courier>(fetch: &mut Fetch<C>, alloc: Global, number: u64) -> Result<bool, Memory> {
+fn put<C: Courier>(fetch: &mut Fetch<C>, alloc: Global, number: u32) -> Result<bool, Memory> {
     if fetch.is_ended() || !fetch.has_room() {
         return Ok(false);
     }
@@ -73,9 +69,9 @@ fn put<C: Courier>(fetch: &mut Fetch<C>, alloc: Global, number: u64) -> Result<b
 fn put_all<C: Courier>(
     fetch: &mut Fetch<C>,
     alloc: Global,
-    first: u64,
+    first: u32,
     count: u8,
-) -> Result<u64, Memory> {
+) -> Result<u32, Memory> {
     let mut number = first;
     for _ in 0..count {
         if put(fetch, alloc, number)? {
@@ -86,7 +82,7 @@ fn put_all<C: Courier>(
 }
 
 /// Takes a step, and gives the number behind the pages that it gave, or none where they are not in a row.
-fn step<C: Courier>(fetch: &mut Fetch<C>, given: u64) -> Result<Option<u64>, Memory> {
+fn step<C: Courier>(fetch: &mut Fetch<C>, given: u32) -> Result<Option<u32>, Memory> {
     Ok(number_behind(fetch.step()?, given))
 }
 
@@ -116,7 +112,7 @@ fn gives<C: Courier>(
     let mut given = 0;
     for (puts, wants) in puts.iter().zip(wants) {
         put = put_all(fetch, alloc, put, puts.saturating_sub(b'0'))?;
-        let want = u64::from(wants.saturating_sub(b'0')).saturating_add(given);
+        let want = u32::from(wants.saturating_sub(b'0')).saturating_add(given);
         if step(fetch, given)? != Some(want) {
             return Ok(false);
         }
@@ -160,7 +156,11 @@ fn an_earlier_reply_arrives_as_it_was(rt: HostRuntime) -> Result<(), Memory> {
 }
 
 /// Whether a page that was put comes at the step after so many that give none.
-fn comes_after<C: Courier>(fetch: &mut Fetch<C>, alloc: Global, count: u32) -> Result<bool, Memory> {
+fn comes_after<C: Courier>(
+    fetch: &mut Fetch<C>,
+    alloc: Global,
+    count: u32,
+) -> Result<bool, Memory> {
     put(fetch, alloc, 0)?;
     for _ in 0..count {
         if step(fetch, 0)? != Some(0) {
@@ -183,7 +183,7 @@ fn run<C: Courier>(
     fetch: &mut Fetch<C>,
     alloc: Global,
     steps: u32,
-) -> Result<Option<(u64, u64)>, Memory> {
+) -> Result<Option<(u32, u32)>, Memory> {
     let mut put = 0;
     let mut given = 0;
     for number in 0..steps {
@@ -197,7 +197,7 @@ fn run<C: Courier>(
 }
 
 /// Whether an ended fetch gives the pages that are left, up to this number, and then is complete.
-fn ends_at<C: Courier>(fetch: &mut Fetch<C>, first: u64, end: u64) -> Result<bool, Memory> {
+fn ends_at<C: Courier>(fetch: &mut Fetch<C>, first: u32, end: u32) -> Result<bool, Memory> {
     fetch.end();
     let mut given = first;
     for _ in 0..300 {

@@ -8,7 +8,7 @@ use sql_values::Memory;
 use std::alloc::Global;
 
 /// Puts the page of this number.
-fn put(window: &mut PageWindow, alloc: Global, number: u64) -> Result<(), Memory>
+fn put(window: &mut PageWindow, alloc: Global, number: u32) -> Result<(), Memory>
     requires going { window.old.is_ended ≡ false }
     requires room { end_of window.old < 2 ^ 32 }
     ensures going { OnOk result (window.new.is_ended ≡ false) }
@@ -22,13 +22,14 @@ fn put(window: &mut PageWindow, alloc: Global, number: u64) -> Result<(), Memory
 }
 
 /// Whether a reply has so many pages from this token on.
-fn is_reply(answer: Result<Reply, FetchFault>, token: u64, count: u64, complete: bool) -> bool {
+fn is_reply(answer: Result<Reply, FetchFault>, token: u32, count: u32, complete: bool) -> bool {
     match answer {
         Ok(reply) => {
-            reply.token == token
-                && reply.next == token.saturating_add(count)
+            let next = token.saturating_add(count);
+            reply.token == u64::from(token)
+                && reply.next == u64::from(next)
                 && reply.complete == complete
-                && number_behind(reply.pages, token) == Some(token.saturating_add(count))
+                && number_behind(reply.pages, token) == Some(next)
         }
         Err(_) => false,
     }

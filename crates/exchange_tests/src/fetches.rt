@@ -1,3 +1,5 @@
+ghost use Rattle.std.specs.Prelude.{◌≡◌};
+
 use crate::numbered::{number_behind, numbered};
 use exchange_client::Fetch;
 use page_window::PushMemory;
@@ -21,6 +23,15 @@ impl<'a> Script<'a> {
             missed: 0,
         }
     }
+
+    fn next_word(&mut self) -> u8
+        ensures { self.new.missed ≡ self.old.missed }
+    {
+        let word = self.words.get(self.at).copied().unwrap_or(b'F');
+        let next = self.at.saturating_add(1);
+        self.at = if next < self.words.len() { next } else { 0 };
+        word
+    }
 }
 
 fn delivery_of(word: u8) -> Delivery {
@@ -43,13 +54,8 @@ impl<'a> Courier for Script<'a> {
     }
 
     fn turn(&mut self) -> Delivery {
-        let word = self.words.get(self.at).copied().unwrap_or(b'F');
-        self.at = self.at.saturating_add(1);
-        if self.at >= self.words.len() {
-            self.at = 0;
-        }
         self.missed = self.missed.saturating_add(1);
-        delivery_of(word)
+        delivery_of(self.next_word())
     }
 }
 
@@ -81,17 +87,46 @@ fn put_all<C: Courier>(
     Ok(number)
 }
 
-/// Takes a step, and gives the number behind the pages that it gave, or none where they are not in a row.
-fn step<C: Courier>(fetch: &mut Fetch<C>, given: u32) -> Result<Option<u32>, Memory> {
-    Ok(number_behind(fetch.step()?, given))
+/// The number behind the pages that were put, and behind those that were given.
+#[derive(Drop)]
+struct Progress {
+    put: u32,
+    given: u32,
+}
+
+impl Progress {
+    fn new() -> Progress {
+        Progress { put: 0, given: 0 }
+    }
+
+    /// Takes a step, and says how many pages it gave, or nothing where they do not go on in a row.
+    fn step<C: Courier>(&mut self, fetch: &mut Fetch<C>) -> Result<Option<u32>, Memory> {
+        let given = self.given;
+        let Some(behind) = number_behind(fetch.step()?, given) else {
+            return Ok(None);
+        };
+        self.given = behind;
+        Ok(Some(behind.saturating_sub(given)))
+    }
+
+    /// The same, once so many pages were put, as far as there is room.
+    fn put_and_step<C: Courier>(
+        &mut self,
+        fetch: &mut Fetch<C>,
+        alloc: Global,
+        puts: u8,
+    ) -> Result<Option<u32>, Memory> {
+        self.put = put_all(fetch, alloc, self.put, puts)?;
+        self.step(fetch)
+    }
 }
 
 /// Whether a window that is full has room again after two steps, and not before.
 fn has_room_after_two<C: Courier>(fetch: &mut Fetch<C>, alloc: Global) -> Result<bool, Memory> {
-    let full = put_all(fetch, alloc, 0, 33)? == 32 && !fetch.has_room();
-    let first = step(fetch, 0)? == Some(16) && !fetch.has_room();
-    let second = step(fetch, 16)? == Some(32) && fetch.has_room();
-    Ok(full && first && second)
+    let mut progress = Progress::new();
+    let first = progress.put_and_step(fetch, alloc, 33)? == Some(16) && !fetch.has_room();
+    let second = progress.step(fetch)? == Some(16) && fetch.has_room();
+    Ok(first && second && progress.put == 32)
 }
 
 #[test]
@@ -101,6 +136,11 @@ fn a_full_window_has_room_after_two_steps(rt: HostRuntime) -> Result<(), Memory>
     Ok(())
 }
 
+/// The number that a digit stands for.
+fn digit(word: u8) -> u8 {
+    word.saturating_sub(b'0')
+}
+
 /// Whether steps give so many pages: before each step so many are put. The numbers are digits.
 fn gives<C: Courier>(
     fetch: &mut Fetch<C>,
@@ -108,15 +148,12 @@ fn gives<C: Courier>(
     puts: &[u8],
     wants: &[u8],
 ) -> Result<bool, Memory> {
-    let mut put = 0;
-    let mut given = 0;
-    for (puts, wants) in puts.iter().zip(wants) {
-        put = put_all(fetch, alloc, put, puts.saturating_sub(b'0'))?;
-        let want = u32::from(wants.saturating_sub(b'0')).saturating_add(given);
-        if step(fetch, given)? != Some(want) {
+    let mut progress = Progress::new();
+    for (place, puts) in puts.iter().enumerate() {
+        let want = wants.get(place).map(|&want| u32::from(digit(want)));
+        if progress.put_and_step(fetch, alloc, digit(*puts))? != want {
             return Ok(false);
         }
-        given = want;
     }
     Ok(true)
 }
@@ -161,13 +198,14 @@ fn comes_after<C: Courier>(
     alloc: Global,
     count: u32,
 ) -> Result<bool, Memory> {
-    put(fetch, alloc, 0)?;
-    for _ in 0..count {
-        if step(fetch, 0)? != Some(0) {
+    let mut progress = Progress::new();
+    for number in 0..count {
+        let puts = u8::from(number == 0);
+        if progress.put_and_step(fetch, alloc, puts)? != Some(0) {
             return Ok(false);
         }
     }
-    Ok(step(fetch, 0)? == Some(1))
+    Ok(progress.step(fetch)? == Some(1))
 }
 
 #[test]
@@ -177,36 +215,32 @@ fn a_page_comes_after_64_steps_that_gave_none(rt: HostRuntime) -> Result<(), Mem
     Ok(())
 }
 
-/// Takes so many steps, each after some pages were put, and gives the number behind the pages that were put,
-/// where those that were given are in a row, and the number behind these.
+/// Takes so many steps, each after some pages were put, and says whether the pages that were given are in a row.
 fn run<C: Courier>(
+    progress: &mut Progress,
     fetch: &mut Fetch<C>,
     alloc: Global,
     steps: u32,
-) -> Result<Option<(u32, u32)>, Memory> {
-    let mut put = 0;
-    let mut given = 0;
+) -> Result<bool, Memory> {
     for number in 0..steps {
-        put = put_all(fetch, alloc, put, (number % 7) as u8)?;
-        match step(fetch, given)? {
-            Some(behind) => given = behind,
-            None => return Ok(None),
+        if progress
+            .put_and_step(fetch, alloc, (number % 7) as u8)?
+            .is_none()
+        {
+            return Ok(false);
         }
     }
-    Ok(Some((put, given)))
+    Ok(true)
 }
 
-/// Whether an ended fetch gives the pages that are left, up to this number, and then is complete.
-fn ends_at<C: Courier>(fetch: &mut Fetch<C>, first: u32, end: u32) -> Result<bool, Memory> {
-    fetch.end();
-    let mut given = first;
+/// Whether an ended fetch gives the pages that are left, and then is complete.
+fn ends<C: Courier>(progress: &mut Progress, fetch: &mut Fetch<C>) -> Result<bool, Memory> {
     for _ in 0..300 {
-        match step(fetch, given)? {
-            Some(behind) => given = behind,
-            None => return Ok(false),
+        if progress.step(fetch)?.is_none() {
+            return Ok(false);
         }
     }
-    Ok(given == end && fetch.is_complete())
+    Ok(progress.given == progress.put && fetch.is_complete())
 }
 
 /// Whether each page that is put in so many steps is given once, in order.
@@ -215,10 +249,10 @@ fn gives_each_once<C: Courier>(
     alloc: Global,
     steps: u32,
 ) -> Result<bool, Memory> {
-    match run(fetch, alloc, steps)? {
-        Some((put, given)) => Ok(put > 100 && ends_at(fetch, given, put)?),
-        None => Ok(false),
-    }
+    let mut progress = Progress::new();
+    let in_a_row = run(&mut progress, fetch, alloc, steps)?;
+    fetch.end();
+    Ok(in_a_row && ends(&mut progress, fetch)? && progress.put > 100)
 }
 
 #[test]

@@ -1,4 +1,6 @@
 //! Pages of one row and one column, which hold a number each.
+ghost use Rattle.std.specs.Prelude.{◌<◌, length};
+
 use col_pages::{Page, PageBuilder, PageList};
 use sql_values::{Memory, SqlType, ValueRef};
 use std::alloc::Global;
@@ -6,6 +8,12 @@ use std::alloc::Global;
 /// A page of this number.
 pub(crate) fn numbered(alloc: Global, number: u32) -> Result<Page, Memory> {
     let mut builder = PageBuilder::new(alloc, &[SqlType::Bigint], 1)?;
+    fill(&mut builder, number)
+}
+
+fn fill(builder: &mut PageBuilder, number: u32) -> Result<Page, Memory>
+    requires { length builder.old.rows < builder.old.room }
+{
     builder.put(ValueRef::Bigint(i64::from(number)))?;
     builder.end_row();
     builder.build()

@@ -118,6 +118,13 @@ impl<C: Courier> Fetch<C> {
         self.client.is_complete()
     }
 
+    /// Whether no page that was put is still to be given.
+    pub fn is_drained(&self) -> bool
+        ensures { IsTrue result ↔ (rest self.now ≡ []) }
+    {
+        self.client.next_token() == self.window.end_token()
+    }
+
     /// Asks for the next pages, and gives those that arrive, at most `most`. It gives none where none was left,
     /// or where the courier missed a turn. After Memory the pages still to be given are as before.
     pub fn step(&mut self) -> Result<PageList, Memory>
@@ -214,7 +221,7 @@ impl<C: Courier> Fetch<C> {
         ensures gives { GivesWhatIsLeft self.now (fresh_of self.now) }
     {
         let next = self.client.next_token();
-        match self.window.fetch(self.alloc, next, self.most) {
+        match self.window.fetch(next, self.most) {
             Ok(reply) => KeptReply::of(self.alloc, reply),
             Err(FetchFault::Memory) => Err(Memory),
             Err(_) => unreachable!(),

@@ -240,7 +240,7 @@ fn ends<C: Courier>(progress: &mut Progress, fetch: &mut Fetch<C>) -> Result<boo
             return Ok(false);
         }
     }
-    Ok(progress.given == progress.put && fetch.is_complete())
+    Ok(progress.given == progress.put && fetch.is_drained() && fetch.is_complete())
 }
 
 /// Whether each page that is put in so many steps is given once, in order.

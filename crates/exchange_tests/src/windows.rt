@@ -48,23 +48,23 @@ fn is_ack_ahead(answer: Result<(), AckAhead>, end: u64) -> bool {
 }
 
 /// Whether a window of three pages answers as was worked out by hand.
-fn answers_of_three(window: &mut PageWindow, alloc: Global) -> bool {
-    let first = is_reply(window.fetch(alloc, 0, 16), 0, 3, false);
-    let again = is_reply(window.fetch(alloc, 0, 16), 0, 3, false);
-    let two = is_reply(window.fetch(alloc, 1, 1), 1, 1, false);
+fn answers_of_three(window: &mut PageWindow) -> bool {
+    let first = is_reply(window.fetch(0, 16), 0, 3, false);
+    let again = is_reply(window.fetch(0, 16), 0, 3, false);
+    let two = is_reply(window.fetch(1, 1), 1, 1, false);
     let acknowledged = window.ack(2).is_ok() & (window.base() == 2) & (window.end_token() == 3);
-    let gone = is_gone(window.fetch(alloc, 1, 16), 2);
-    let ahead = is_ahead(window.fetch(alloc, 4, 16), 3);
+    let gone = is_gone(window.fetch(1, 16), 2);
+    let ahead = is_ahead(window.fetch(4, 16), 3);
     let beyond = is_ack_ahead(window.ack(4), 3);
     first & again & two & acknowledged & gone & ahead & beyond
 }
 
 /// Whether the same window, once it is ended, is complete at its end alone.
-fn ends_at_three(window: &mut PageWindow, alloc: Global) -> bool {
-    let going = is_reply(window.fetch(alloc, 3, 16), 3, 0, false);
+fn ends_at_three(window: &mut PageWindow) -> bool {
+    let going = is_reply(window.fetch(3, 16), 3, 0, false);
     window.end();
-    let last = is_reply(window.fetch(alloc, 2, 16), 2, 1, true);
-    going & last & is_reply(window.fetch(alloc, 3, 16), 3, 0, true)
+    let last = is_reply(window.fetch(2, 16), 2, 1, true);
+    going & last & is_reply(window.fetch(3, 16), 3, 0, true)
 }
 
 #[test]
@@ -74,14 +74,14 @@ fn a_window_is_read_by_token_and_acknowledged(rt: HostRuntime) -> Result<(), Mem
     put(&mut window, alloc, 0)?;
     put(&mut window, alloc, 1)?;
     put(&mut window, alloc, 2)?;
-    assert!(rt; answers_of_three(&mut window, alloc));
-    assert!(rt; ends_at_three(&mut window, alloc));
+    assert!(rt; answers_of_three(&mut window));
+    assert!(rt; ends_at_three(&mut window));
     Ok(())
 }
 
 /// Whether the client takes a reply of two pages from token 0 on, once.
-fn takes_two(client: &mut PageClient, window: &PageWindow, alloc: Global) -> bool {
-    match window.fetch(alloc, 0, 16) {
+fn takes_two(client: &mut PageClient, window: &PageWindow) -> bool {
+    match window.fetch(0, 16) {
         Ok(reply) => match client.accept(reply) {
             Ok(pages) => number_behind(pages, 0) == Some(2),
             Err(_) => false,
@@ -91,8 +91,8 @@ fn takes_two(client: &mut PageClient, window: &PageWindow, alloc: Global) -> boo
 }
 
 /// Whether the client refuses the same reply, and hands it back.
-fn refuses_two(client: &mut PageClient, window: &PageWindow, alloc: Global) -> bool {
-    match window.fetch(alloc, 0, 16) {
+fn refuses_two(client: &mut PageClient, window: &PageWindow) -> bool {
+    match window.fetch(0, 16) {
         Ok(reply) => match client.accept(reply) {
             Ok(_) => false,
             Err(Stale { next, reply }) => next == 2 && is_reply(Ok(reply), 0, 2, false),
@@ -108,8 +108,8 @@ fn a_client_takes_a_reply_once(rt: HostRuntime) -> Result<(), Memory> {
     put(&mut window, alloc, 0)?;
     put(&mut window, alloc, 1)?;
     let mut client = PageClient::new();
-    assert!(rt; takes_two(&mut client, &window, alloc));
-    assert!(rt; refuses_two(&mut client, &window, alloc));
+    assert!(rt; takes_two(&mut client, &window));
+    assert!(rt; refuses_two(&mut client, &window));
     assert!(rt; client.next_token() == 2 && !client.is_complete());
     Ok(())
 }

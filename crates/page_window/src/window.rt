@@ -14,6 +14,7 @@ use std::marker::Model;
 /// The pages that were put and not yet acknowledged.
 #[derive(Drop)]
 pub struct PageWindow {
+    alloc: Global,
     base: u64,
     held: VecDeque<Page>,
     is_ended: bool,
@@ -37,6 +38,7 @@ impl PageWindow {
         ensures put { IsWindowOf [] result }
     {
         PageWindow {
+            alloc,
             base: 0,
             held: VecDeque::new(alloc),
             is_ended: false,
@@ -101,7 +103,7 @@ impl PageWindow {
     }
 
     /// Copies the pages from a token on, at most `most`.
-    pub fn fetch(&self, alloc: Global, token: u64, most: u32) -> Result<Reply, FetchFault>
+    pub fn fetch(&self, token: u64, most: u32) -> Result<Reply, FetchFault>
         requires { 0 < most }
         ensures answer { IsFetched self.now token most result }
         ensures put { IfOk result (λ r. ArePagesOf self.now token most r.pages) }
@@ -114,15 +116,15 @@ impl PageWindow {
                 end: self.end_token(),
             });
         }
-        Ok(self.reply(alloc, token, most)?)
+        Ok(self.reply(token, most)?)
     }
 
     /// Copies the pages from a token on that the window has.
-    fn reply(&self, alloc: Global, token: u64, most: u32) -> Result<Reply, Memory>
+    fn reply(&self, token: u64, most: u32) -> Result<Reply, Memory>
         requires { HasToken self.now token }
         ensures { IfOk result (IsReplyOf self.now token most) }
     {
-        let pages = self.copies(alloc, (token - self.base) as usize, most as usize)?;
+        let pages = self.copies((token - self.base) as usize, most as usize)?;
         let next = token + pages.len() as u64;
         Ok(Reply {
             token,
@@ -133,14 +135,14 @@ impl PageWindow {
     }
 
     /// Copies the held pages from a place on, at most `most`.
-    fn copies(&self, alloc: Global, from: usize, most: usize) -> Result<PageList, Memory>
+    fn copies(&self, from: usize, most: usize) -> Result<PageList, Memory>
         requires { from ≤ length self.now.held }
         ensures { IfOk result (λ pages. pages ≡ take most (drop from self.now.held)) }
     {
-        let mut pages = PageList::new(alloc);
+        let mut pages = PageList::new(self.alloc);
         let end = from + most.min(self.held.len() - from);
         for place in from..end {
-            pages.push(self.held[place].copy(alloc)?)?;
+            pages.push(self.held[place].copy(self.alloc)?)?;
         }
         Ok(pages)
     }

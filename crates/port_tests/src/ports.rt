@@ -162,12 +162,21 @@ const DELIVERIES: &str = "\
 18446744073709551615 4294967295 Fresh Nothing Fresh Fresh Fresh Nothing Again:2 Fresh Again:0 Fresh Fresh Again:2 Fresh Fresh Again:0 Again:0 Again:3 Again:2 Nothing Fresh Nothing Fresh Fresh Nothing
 123456789 42 Nothing Again:1 Fresh Again:3 Nothing Nothing Fresh Again:0 Fresh Again:3 Fresh Fresh Fresh Fresh Nothing Again:3 Again:0 Fresh Fresh Nothing Again:0 Fresh Fresh Fresh";
 
+fn is_again(word: &str, back: u32) -> bool {
+    let Some(number) = word.strip_prefix("Again:") else {
+        return false;
+    };
+    match number.parse::<u32>() {
+        Ok(number) => number == back,
+        Err(_) => false,
+    }
+}
+
 /// Whether a turn delivers what a word says.
 fn is_delivered(delivery: Delivery, word: &str) -> bool {
     match delivery {
         Delivery::Fresh => word == "Fresh",
-        Delivery::Again(back) => word.strip_prefix("Again:").and_then(|n| n.parse().ok())
-            == Some(back),
+        Delivery::Again(back) => is_again(word, back),
         Delivery::Nothing => word == "Nothing",
     }
 }

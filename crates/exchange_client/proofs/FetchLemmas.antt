@@ -1,7 +1,7 @@
 -- What a fetch keeps of its tokens.
-use Rattle.std.proofs.Common.{◌≡◌, ◌⊎◌, ℕ, ◌+◌, ◌-◌, ◌<◌, ◌≤◌, List, [], ◌∷◌, ◌++◌, length, take, drop, max, All, Bool, true, false, ◌&&◌, ◌||◌, ◌==◌, arith, ap, sym, ◌∙◌, refl, subst, Result, Ok, Err, OnOk, OnErr, IfOk, inl, inr}
-use Rattle.std.proofs.lemmas.List.{length-append, length-drop, drop-append-le, drop-drop, drop_at, drop_all, take-append-drop, append_assoc, nil_from_length}
-use Rattle.std.proofs.lemmas.List.Elements.{All-weaker, All-nil, All-push, All-drop}
+use Rattle.std.proofs.Common.{◌≡◌, ◌⊎◌, ℕ, ◌+◌, ◌-◌, ◌≤◌, List, [], ◌∷◌, ◌++◌, length, take, drop, max, true, false, ◌==◌, arith, ap, sym, ◌∙◌, refl, subst, Result, Ok, Err, OnOk, OnErr, IfOk, inl, inr}
+use Rattle.std.proofs.lemmas.List.{length-append, length-drop, drop-append-le, drop-drop, drop_at, drop_all, take-append-drop, append_assoc}
+use Rattle.std.proofs.lemmas.List.Elements.{All-weaker, All-push, All-drop}
 use Rattle.std.proofs.lemmas.Bool.{and_parts, or_cases, eqb-true}
 use Rattle.col_pages.specs.Pages.{TypedPage}
 use Rattle.page_window.specs.Windows.{WindowState, end_of, from_token, pushed, acknowledged}

@@ -1,16 +1,16 @@
 -- A step of a fetch: what arrives, and what it gives.
-use Rattle.std.proofs.Common.{zero, suc, ◌≡◌, ◌⊎◌, ℕ, ◌+◌, ◌-◌, ◌<◌, ◌≤◌, List, [], ◌∷◌, ◌++◌, length, take, All, Bool, true, false, not, ◌&&◌, ◌||◌, ◌==◌, Option, Some, None, option_map, IfSome, slice_get, arith, ap, sym, ◌∙◌, refl, subst, inl, inr}
+use Rattle.std.proofs.Common.{zero, suc, ◌≡◌, ◌⊎◌, ℕ, ◌+◌, ◌<◌, List, [], ◌∷◌, ◌++◌, length, take, All, Bool, true, false, not, ◌&&◌, ◌==◌, Option, Some, None, option_map, IfSome, slice_get, arith, ap, sym, ◌∙◌, refl, subst, inl, inr}
 use Rattle.std.proofs.lemmas.List.{append_assoc, nil_from_length, length-take}
 use Rattle.std.proofs.lemmas.List.Elements.{All-head, All-tail}
-use Rattle.std.proofs.lemmas.Bool.{and_parts, and_from, eq-eqb, eqb-true, cond-true, cases_Bool, leb-false, not-true, or_right, false_from_ne_true}
+use Rattle.std.proofs.lemmas.Bool.{and_parts, and_from, eq-eqb, eqb-true, cond-true, leb-false, not-true, or_right, false_from_ne_true}
 use Rattle.col_pages.specs.Pages.{TypedPage}
-use Rattle.page_window.specs.Windows.{WindowState, end_of, from_token}
+use Rattle.page_window.specs.Windows.{end_of}
 use Rattle.page_window.specs.declared.reply.Reply.{Reply}
 use Rattle.run_ports.specs.Counts.{Rose}
 use Rattle.run_ports.specs.declared.courier.Delivery.{Delivery}
 use Rattle.run_ports.specs.declared.courier.Delivery.TheVariants.{Fresh, Again, Nothing}
 use Rattle.exchange_client.specs.Clients.{ClientState, KeptValue, kept_as, pages_given, client_after}
-use Rattle.exchange_client.specs.Fetches.{FetchState, rest, Carries, MayArrive, KeepsTokens, fresh_of, is_used_up, last_token, StaysToBeGiven, GivesWhatIsLeft}
+use Rattle.exchange_client.specs.Fetches.{FetchState, rest, Carries, KeepsTokens, fresh_of, is_used_up, last_token, StaysToBeGiven, GivesWhatIsLeft}
 use Rattle.exchange_client.specs.Steps.{arriving, IsDelivered, HasArrived, HasMissed, is_due, taken, most_fruitless}
 use Rattle.exchange_client.proofs.FetchLemmas.{rest_length, rest_at_end}
 

@@ -6,7 +6,7 @@ use Rattle.run_ports.specs.Delivering.{IfMissed}
 use Rattle.run_ports.specs.declared.courier.Delivery.{Delivery}
 use Rattle.run_ports.specs.declared.courier.Delivery.TheVariants.{Fresh, Again, Nothing}
 use Rattle.exchange_client.specs.Clients.{KeptValue, pages_given, client_after, is_next}
-use Rattle.exchange_client.specs.Fetches.{FetchState, rest, prepared, fresh_of}
+use Rattle.exchange_client.specs.Fetches.{FetchState, prepared, fresh_of}
 
 -- after so many steps in a row without an accepted reply the courier is not asked
 abbrev pub most_fruitless : ℕ

@@ -1,6 +1,6 @@
 -- The pages of a window by their places.
 use Rattle.std.proofs.Common.{◌≡◌, ℕ, ◌+◌, ◌-◌, ◌<◌, ◌≤◌, List, [], ◌∷◌, ◌++◌, length, get_or, take, drop, min, arith, ap, sym, ◌∙◌}
-use Rattle.std.proofs.lemmas.List.{take_more, drop-append-le, drop-drop, drop-take, length-take-le, get_or_read, take_min, length-drop}
+use Rattle.std.proofs.lemmas.List.{take_more, drop-append-le, drop-drop, drop-take, length-take-le, take_min, length-drop}
 use Rattle.col_pages.specs.Pages.{TypedPage}
 use Rattle.page_window.specs.Windows.{WindowState, IsWindowOf, from_token}
 

@@ -1,4 +1,4 @@
-use Rattle.std.proofs.Common.{◌≡◌, ◌++◌, ap, sym, ◌∙◌, subst}
+use Rattle.std.proofs.Common.{◌++◌, ap, sym, ◌∙◌, subst}
 use Rattle.page_window.specs.Windows.{from_token}
 use Rattle.exchange_client.specs.Clients.{kept_as, next_of}
 use Rattle.exchange_client.specs.Fetches.{MayArrive, KeepsTokens, rest}

@@ -1,6 +1,6 @@
 use Rattle.std.proofs.Common.{option_map}
 use Rattle.exchange_client.specs.Clients.{kept_as}
-use Rattle.exchange_client.proofs.StepLemmas.{carries_on, stepped_rest, stepped_empty, stepped_complete, stepped_ended}
+use Rattle.exchange_client.proofs.StepLemmas.{carries_on, stepped_rest, stepped_empty, stepped_complete}
 use Rattle.exchange_client.proofs.fetch.Fetch.step.Goals as goal
 
 pub returns-clause-rest : goal.returns-clause-rest

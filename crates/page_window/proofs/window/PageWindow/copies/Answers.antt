@@ -1,4 +1,4 @@
-use Rattle.std.proofs.Common.{rules, ◌≡◌, ◌+◌, ◌-◌, ℕ, take, drop, length, min, arith, ap, ◌∙◌}
+use Rattle.std.proofs.Common.{rules, ◌≡◌, ◌+◌, ◌-◌, take, drop, length, min, arith, ap, ◌∙◌}
 use Rattle.page_window.proofs.WindowLemmas.{between_end}
 use Rattle.page_window.proofs.window.PageWindow.copies.Goals as goal
 

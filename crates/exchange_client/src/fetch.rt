@@ -1,4 +1,4 @@
-ghost use Rattle.std.specs.Prelude.{◌≡◌, ◌⊎◌, ◌↔◌, ◌<◌, ◌≤◌, ◌++◌, ◌∷◌, ◌+◌, [], List, length, min, false, true, Some, option_map, IsTrue, IfOk, IfErr, OnOk, OnErr, IfSome, MatchOption};
+ghost use Rattle.std.specs.Prelude.{◌≡◌, ◌⊎◌, ◌↔◌, ◌<◌, ◌≤◌, ◌++◌, ◌∷◌, [], List, false, true, Some, option_map, IsTrue, IfOk, IfErr, OnOk, OnErr, IfSome};
 ghost use Rattle.col_pages.specs.Pages.{TypedPage};
 ghost use Rattle.page_window.specs.Windows.{pushed, acknowledged};
 ghost use Rattle.exchange_client.specs.Clients.{kept_as, pages_given};

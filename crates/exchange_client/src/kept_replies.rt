@@ -1,5 +1,5 @@
-ghost use Rattle.std.specs.Prelude.{◌≡◌, ◌≤◌, ◌++◌, ◌∷◌, [], length, None, Some, MatchOption, OnOk, OnErr};
-ghost use Rattle.exchange_client.specs.Steps.{arriving, behind_latest, latest, most_kept};
+ghost use Rattle.std.specs.Prelude.{◌≡◌, ◌++◌, ◌∷◌, [], None, Some, MatchOption, OnOk, OnErr};
+ghost use Rattle.exchange_client.specs.Steps.{arriving, behind_latest, latest};
 
 use crate::kept_reply::KeptReply;
 use run_ports::Delivery;

@@ -1,4 +1,4 @@
-ghost use Rattle.std.specs.Prelude.{◌≡◌, ◌+◌, ◌-◌, ◌^◌, ◌<◌, ◌≤◌, [], true, false, List, ◌∷◌, ◌++◌, ◌↔◌, length, take, drop, IsTrue, IfOk, IfErr, OnOk, OnErr};
+ghost use Rattle.std.specs.Prelude.{◌≡◌, ◌-◌, ◌^◌, ◌<◌, ◌≤◌, [], true, false, List, ◌∷◌, ◌++◌, ◌↔◌, length, take, drop, IsTrue, IfOk, IfErr, OnOk, OnErr};
 ghost use Rattle.col_pages.specs.Pages.{TypedPage};
 ghost use Rattle.page_window.specs.Windows.{IsWindowOf, end_of, pushed, acknowledged};
 ghost use Rattle.page_window.specs.Fetches.{HasToken, IsReplyOf, IsFetched, ArePagesOf, IsAcknowledged};

@@ -2,7 +2,8 @@
 ghost use Rattle.std.specs.Prelude.{◌≡◌, ◌<◌, length};
 ghost use Rattle.output_buffer.specs.Edges.{end_count};
 
-use crate::pieces::{END, gathered, page_of, shared, told};
+use crate::numbered::numbered;
+use crate::pieces::{END, gathered, shared, told};
 use output_buffer::{Gather, GatherPut, GatherTake, Piece, Spread, SpreadPut, SpreadTake};
 use sql_values::Memory;
 use std::alloc::Global;
@@ -17,12 +18,12 @@ fn put_number<R: Wait>(
     rt: &R,
     alloc: Global,
     put: &mut GatherPut<'_>,
-    number: i64,
+    number: u32,
 ) -> Result<Result<u32, i64>, Memory>
     requires { end_count put.old.put ≡ 0 }
     ensures { end_count put.new.put ≡ 0 }
 {
-    let page = page_of(alloc, number)?;
+    let page = numbered(alloc, number)?;
     Ok(told(alloc, put.put(rt, Piece::Rows(page))))
 }
 
@@ -88,12 +89,12 @@ fn spread_number<R: Wait>(
     rt: &R,
     alloc: Global,
     put: &mut SpreadPut<'_>,
-    number: i64,
+    number: u32,
 ) -> Result<Result<u32, i64>, Memory>
     requires { end_count put.old.put ≡ 0 }
     ensures { end_count put.new.put ≡ 0 }
 {
-    let page = page_of(alloc, number)?;
+    let page = numbered(alloc, number)?;
     Ok(told(alloc, put.put(rt, Piece::Rows(page))))
 }
 

@@ -2,22 +2,14 @@
 ghost use Rattle.std.specs.Prelude.{◌≡◌};
 
 use blocked::{Bell, Due};
-use col_pages::{Page, PageBuilder};
+use col_pages::Page;
 use output_buffer::{GatherTake, Piece, PutFault, SpreadTake, Took};
-use sql_values::{Memory, SqlType, ValueRef};
+use sql_values::ValueRef;
 use std::alloc::Global;
 use std::sync::Wait;
 
 /// What stands for an End where numbers are told.
 pub(crate) const END: i64 = -1;
-
-/// A page of one row.
-pub(crate) fn page_of(alloc: Global, number: i64) -> Result<Page, Memory> {
-    let mut builder = PageBuilder::new(alloc, &[SqlType::Bigint], 1)?;
-    builder.put(ValueRef::Bigint(number))?;
-    builder.end_row();
-    builder.build()
-}
 
 /// The number of a piece, or `END`.
 pub(crate) fn number_of(piece: &Piece) -> i64 {

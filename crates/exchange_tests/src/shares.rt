@@ -4,7 +4,8 @@ ghost use Rattle.std.specs.Thread.{IsSync};
 ghost use Rattle.output_buffer.specs.Edges.{end_count};
 ghost use Rattle.output_buffer.specs.Seats.{AreSpreadTakesOf, EdgeId, MaySpread};
 
-use crate::pieces::{page_of, rung, shared};
+use crate::numbered::numbered;
+use crate::pieces::{rung, shared};
 use output_buffer::{Piece, PutFault, Spread, SpreadPut, SpreadTake, settle_spread, stop_spread};
 use sql_values::Memory;
 use std::alloc::{AllocError, Global};
@@ -44,7 +45,7 @@ fn put_pages<R: Wait>(rt: &R, alloc: Global, put: &mut SpreadPut<'_>) -> Result<
     ensures edge { put.new.edge ≡ put.old.edge }
 {
     for number in 0..PAGES {
-        let page = page_of(alloc, i64::from(number))?;
+        let page = numbered(alloc, number)?;
         put_surely(rt, alloc, put, Piece::Rows(page));
     }
     Ok(())

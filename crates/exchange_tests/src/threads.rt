@@ -4,7 +4,8 @@ ghost use Rattle.std.specs.Thread.{IsSync};
 ghost use Rattle.output_buffer.specs.Edges.{end_count};
 ghost use Rattle.output_buffer.specs.Seats.{AreGatherPutsOf, EdgeId, MayPut};
 
-use crate::pieces::{gathered, page_of, rung};
+use crate::numbered::numbered;
+use crate::pieces::{gathered, rung};
 use output_buffer::{Gather, GatherPut, GatherTake, Piece, PutFault, settle_gather, stop_gather};
 use sql_values::Memory;
 use std::alloc::{AllocError, Global};
@@ -40,7 +41,7 @@ fn put_pages<R: Wait>(
     rt: &R,
     alloc: Global,
     put: &mut GatherPut<'_>,
-    first: i64,
+    first: u32,
 ) -> Result<(), Memory>
     requires { end_count put.old.put ≡ 0 }
     ensures going { end_count put.new.put ≡ 0 }
@@ -48,7 +49,7 @@ fn put_pages<R: Wait>(
     ensures edge { put.new.edge ≡ put.old.edge }
 {
     for number in 0..PAGES {
-        let page = page_of(alloc, first.wrapping_add(i64::from(number)))?;
+        let page = numbered(alloc, first.wrapping_add(number))?;
         put_surely(rt, alloc, put, Piece::Rows(page));
     }
     Ok(())
@@ -60,7 +61,7 @@ fn put_all<'e, R: Wait>(rt: &R, alloc: Global, mut put: GatherPut<'e>) -> Gather
     ensures { result.edge ≡ put.entry.edge }
 {
     let number = put.number();
-    let first = i64::from(number).wrapping_mul(i64::from(PAGES));
+    let first = number.wrapping_mul(PAGES);
     let _ = put_pages(rt, alloc, &mut put, first);
     put_surely(rt, alloc, &mut put, Piece::End(number));
     put

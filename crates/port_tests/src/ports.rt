@@ -149,3 +149,67 @@ fn first_turn<C: Courier + Send, M: Meet + Sync>(courier: &C, meet: &M) -> Deliv
 fn a_courier_delivers(rt: HostRuntime) {
     assert!(rt; matches!(first_turn(&ReplayCourier::new(), &NoMeet), Delivery::Fresh));
 }
+
+/// The number of a run and of an edge, and what the courier of that edge delivers, turn by turn.
+const DELIVERIES: &str = "\
+0 0 Fresh Fresh Fresh Fresh Fresh Fresh Fresh Fresh Fresh Fresh Fresh Fresh Fresh Fresh Fresh Fresh Fresh Fresh Fresh Fresh Fresh Fresh Fresh Fresh
+0 7 Fresh Fresh Fresh Fresh Fresh Fresh Fresh Fresh Fresh Fresh Fresh Fresh Fresh Fresh Fresh Fresh Fresh Fresh Fresh Fresh Fresh Fresh Fresh Fresh
+1 0 Again:3 Fresh Fresh Again:1 Again:2 Nothing Again:1 Again:1 Fresh Again:3 Nothing Again:1 Fresh Fresh Again:1 Fresh Again:2 Nothing Fresh Fresh Nothing Fresh Again:3 Again:2
+1 1 Fresh Again:3 Fresh Fresh Nothing Nothing Fresh Again:0 Fresh Again:1 Nothing Again:2 Again:3 Again:0 Fresh Again:1 Again:1 Fresh Again:0 Nothing Fresh Again:3 Fresh Again:2
+7 0 Again:0 Nothing Fresh Fresh Fresh Nothing Fresh Fresh Nothing Again:0 Nothing Nothing Fresh Fresh Fresh Again:3 Fresh Nothing Fresh Nothing Fresh Fresh Again:0 Again:2
+7 3 Fresh Again:0 Nothing Again:3 Fresh Nothing Nothing Nothing Fresh Fresh Nothing Nothing Again:3 Fresh Nothing Fresh Nothing Fresh Fresh Fresh Nothing Again:1 Again:2 Again:2
+18446744073709551615 1 Nothing Fresh Fresh Fresh Fresh Nothing Fresh Nothing Fresh Nothing Nothing Again:1 Again:2 Fresh Fresh Again:2 Fresh Again:0 Nothing Nothing Again:2 Fresh Nothing Again:2
+18446744073709551615 4294967295 Fresh Nothing Fresh Fresh Fresh Nothing Again:2 Fresh Again:0 Fresh Fresh Again:2 Fresh Fresh Again:0 Again:0 Again:3 Again:2 Nothing Fresh Nothing Fresh Fresh Nothing
+123456789 42 Nothing Again:1 Fresh Again:3 Nothing Nothing Fresh Again:0 Fresh Again:3 Fresh Fresh Fresh Fresh Nothing Again:3 Again:0 Fresh Fresh Nothing Again:0 Fresh Fresh Fresh";
+
+fn is_again(word: &str, back: u32) -> bool {
+    let Some(number) = word.strip_prefix("Again:") else {
+        return false;
+    };
+    match number.parse::<u32>() {
+        Ok(number) => number == back,
+        Err(_) => false,
+    }
+}
+
+/// Whether a turn delivers what a word says.
+fn is_delivered(delivery: Delivery, word: &str) -> bool {
+    match delivery {
+        Delivery::Fresh => word == "Fresh",
+        Delivery::Again(back) => is_again(word, back),
+        Delivery::Nothing => word == "Nothing",
+    }
+}
+
+/// Whether a courier delivers what the words say, one a turn.
+fn are_delivered<C: Courier>(courier: &mut C, words: &str) -> bool {
+    for word in words.split(' ') {
+        if !is_delivered(courier.turn(), word) {
+            return false;
+        }
+    }
+    true
+}
+
+/// Whether the courier of a line's edge delivers what the line says.
+fn is_replayed(line: &str) -> bool {
+    let Some((number, rest)) = line.split_once(' ') else {
+        return false;
+    };
+    let Some((edge, words)) = rest.split_once(' ') else {
+        return false;
+    };
+    match (number.parse(), edge.parse()) {
+        (Ok(number), Ok(edge)) => {
+            are_delivered(&mut ReplayCourier::new().for_edge(number, edge), words)
+        }
+        _ => false,
+    }
+}
+
+#[test]
+fn a_replay_courier_follows_its_generator(rt: HostRuntime) {
+    for line in DELIVERIES.lines() {
+        assert!(rt; is_replayed(line));
+    }
+}

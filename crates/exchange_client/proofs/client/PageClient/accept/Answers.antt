@@ -1,0 +1,1 @@
+use Rattle.exchange_client.proofs.client.PageClient.accept.Goals as goal

@@ -1,0 +1,1 @@
+use Rattle.exchange_client.proofs.fetch.Fetch.acknowledge.Goals as goal

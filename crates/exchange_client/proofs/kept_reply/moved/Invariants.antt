@@ -1,0 +1,9 @@
+use Rattle.std.proofs.Common.{◌≡◌, ◌++◌, length}
+use Rattle.exchange_client.proofs.kept_reply.moved.Given as goal
+
+-- what was moved, and what is left
+abbrev pub invariant-loop-page : goal.invariant-loop-page
+invariant-loop-page l = l.kept.items ++ l.pages ≡ l.fn.pages
+
+abbrev pub decreases-loop-page : goal.decreases-loop-page
+decreases-loop-page l = length l.pages

@@ -1,0 +1,3 @@
+pub mod Clients
+pub mod Fetches
+pub mod Steps

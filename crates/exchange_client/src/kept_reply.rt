@@ -1,0 +1,81 @@
+ghost use Rattle.std.specs.Prelude.{◌≡◌, IfOk};
+ghost use Rattle.exchange_client.specs.Clients.{kept_as};
+
+use col_pages::{Page, PageList};
+use page_window::Reply;
+use sql_values::Memory;
+use std::alloc::Global;
+use std::marker::Model;
+
+/// A reply that may be delivered again.
+#[derive(Drop)]
+pub(crate) struct KeptReply {
+    token: u64,
+    pages: Vec<Page>,
+    next: u64,
+    complete: bool,
+}
+
+impl Model for KeptReply {
+    ghost use Rattle.std.specs.Prelude.{◌≡◌, ◌+◌, length};
+    ghost use Rattle.exchange_client.specs.Clients.{KeptValue};
+
+    ghost Value = { KeptValue };
+
+    ghost view = { λ r. record { token = r.token; pages = r.pages.items; is_complete = r.complete } };
+
+    ghost invariant = { λ r. r.next ≡ r.token + length r.pages.items };
+}
+
+impl KeptReply {
+    /// Keeps a reply, whose pages are moved.
+    pub(crate) fn of(alloc: Global, reply: Reply) -> Result<KeptReply, Memory>
+        ensures { IfOk result (λ kept. kept ≡ kept_as reply) }
+    {
+        let Reply {
+            token,
+            pages,
+            next,
+            complete,
+        } = reply;
+        let pages = moved(alloc, pages)?;
+        Ok(KeptReply {
+            token,
+            pages,
+            next,
+            complete,
+        })
+    }
+
+    /// The reply once more.
+    pub(crate) fn copy(&self, alloc: Global) -> Result<Reply, Memory>
+        ensures { IfOk result (λ reply. kept_as reply ≡ self.now) }
+    {
+        Ok(Reply {
+            token: self.token,
+            pages: copies(alloc, &self.pages)?,
+            next: self.next,
+            complete: self.complete,
+        })
+    }
+}
+
+fn moved(alloc: Global, mut pages: PageList) -> Result<Vec<Page>, Memory>
+    ensures { IfOk result (λ kept. kept.items ≡ pages) }
+{
+    let mut kept = Vec::with_capacity(alloc, pages.len())?;
+    while let Some(page) = pages.take_first() {
+        kept.push(page)?;
+    }
+    Ok(kept)
+}
+
+fn copies(alloc: Global, pages: &[Page]) -> Result<PageList, Memory>
+    ensures { IfOk result (λ list. list ≡ pages.now) }
+{
+    let mut list = PageList::new(alloc);
+    for page in pages {
+        list.push(page.copy(alloc)?)?;
+    }
+    Ok(list)
+}

@@ -1,0 +1,1 @@
+use Rattle.page_window.proofs.window.PageWindow.end.Goals as goal

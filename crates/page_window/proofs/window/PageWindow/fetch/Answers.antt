@@ -1,0 +1,1 @@
+use Rattle.page_window.proofs.window.PageWindow.fetch.Goals as goal

@@ -1,0 +1,1 @@
+use Rattle.page_window.proofs.window.PageWindow.reply.Goals as goal

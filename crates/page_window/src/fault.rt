@@ -1,0 +1,33 @@
+use col_pages::Page;
+use sql_values::Memory;
+
+/// Why a fetch gave no reply.
+#[derive(Clone, Copy, Debug)]
+pub enum FetchFault {
+    /// The page was dropped: the token is below the base, which is told.
+    TokenGone { base: u64 },
+    /// The token is past the end, which is told.
+    TokenAhead { end: u64 },
+    Memory,
+}
+
+impl From<Memory> for FetchFault {
+    ghost use Rattle.std.specs.Prelude.{◌≡◌};
+    ghost use Rattle.page_window.specs.declared.fault.FetchFault.TheVariants as fault;
+
+    ghost from_gives = { λ _ e. e ≡ fault.Memory };
+
+    fn from(_: Memory) -> FetchFault {
+        FetchFault::Memory
+    }
+}
+
+/// An acknowledgement of pages that were never put. The token behind the last page is told.
+#[derive(Clone, Copy, Debug)]
+pub struct AckAhead {
+    pub end: u64,
+}
+
+/// There was no memory for a page, which is handed back.
+#[derive(Debug, Drop)]
+pub struct PushMemory(pub Page);

@@ -1,0 +1,1 @@
+use Rattle.run_ports.proofs.courier.start.Goals as goal

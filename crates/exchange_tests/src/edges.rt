@@ -11,6 +11,7 @@ use std::sync::Wait;
 
 /// The bells of the edges here.
 const PIECE: u32 = 7;
+
 const SPACE: u32 = 8;
 
 /// Puts a page of one number.

@@ -45,7 +45,11 @@ pub(crate) fn told(alloc: Global, answer: Result<Due, PutFault>) -> Result<u32, 
 }
 
 /// The number that a take gave, and the bell that rang.
-pub(crate) fn gathered<R: Wait>(rt: &R, alloc: Global, take: &mut GatherTake<'_>) -> Option<(i64, u32)>
+pub(crate) fn gathered<R: Wait>(
+    rt: &R,
+    alloc: Global,
+    take: &mut GatherTake<'_>,
+) -> Option<(i64, u32)>
     ensures { take.new.edge ≡ take.old.edge }
 {
     let Ok(Took { piece, due }) = take.take(rt) else {
@@ -55,7 +59,11 @@ pub(crate) fn gathered<R: Wait>(rt: &R, alloc: Global, take: &mut GatherTake<'_>
 }
 
 /// The same of a spread.
-pub(crate) fn shared<R: Wait>(rt: &R, alloc: Global, take: &mut SpreadTake<'_>) -> Option<(i64, u32)>
+pub(crate) fn shared<R: Wait>(
+    rt: &R,
+    alloc: Global,
+    take: &mut SpreadTake<'_>,
+) -> Option<(i64, u32)>
     ensures { take.new.edge ≡ take.old.edge }
 {
     let Ok(Took { piece, due }) = take.take(rt) else {

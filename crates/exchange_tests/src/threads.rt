@@ -159,6 +159,7 @@ fn run_gather<'e, R: Threads + Wait + Sync>(
     };
     Ok(settle(puts, last.take, last.sum))
 }
+
 #[test]
 fn three_putters_and_a_taker_lose_nothing(rt: HostRuntime) -> Result<(), Memory> {
     let mut edge = Gather::new(rt.alloc(), 3, 4, 7, 8)?;

@@ -105,9 +105,18 @@ rows_weigh xs ys same = record { weighs = λ weight. sum_flat rows_of_piece weig
 pub rows_within : (xs ys : List Piece) → Within xs ys → Within (rows_of_pieces xs) (rows_of_pieces ys)
 rows_within xs ys w = record {
   rest = rows_of_pieces w.rest;
-  whole = record { weighs = λ weight. let same = (rows_weigh (xs ++ w.rest) ys w.whole).weighs weight in
-      omega (arith, same, sum_flat rows_of_piece weight (xs ++ w.rest), sum_by-append (λ x. sum_by weight (rows_of_piece x)) xs w.rest,
-        sum_flat rows_of_piece weight xs, sum_flat rows_of_piece weight w.rest, sum_by-append weight (rows_of_pieces xs) (rows_of_pieces w.rest)) };
+  whole = record {
+    weighs = λ weight. let same = (rows_weigh (xs ++ w.rest) ys w.whole).weighs weight in
+        omega (
+          arith,
+          same,
+          sum_flat rows_of_piece weight (xs ++ w.rest),
+          sum_by-append (λ x. sum_by weight (rows_of_piece x)) xs w.rest,
+          sum_flat rows_of_piece weight xs,
+          sum_flat rows_of_piece weight w.rest,
+          sum_by-append weight (rows_of_pieces xs) (rows_of_pieces w.rest),
+        );
+  };
 }
 
 pub settled : (took items put : List Piece) → items ≡ [] → SameWeights (took ++ items) put → SameWeights took put

@@ -31,7 +31,7 @@ pub fn stop_gather(puts: Vec<GatherPut<'_>>, take: GatherTake<'_>)
     ensures part_of_rows { Within (rows_of_pieces take.entry.took) (rows_of_pieces (put_by puts.entry.items)) }
     ensures ended { HasEnded take.entry → SameWeights take.entry.took (put_by puts.entry.items) }
     ensures rows { HasEnded take.entry
-      → SameWeights (rows_of_pieces take.entry.took) (rows_of_pieces (put_by puts.entry.items)) }
+        → SameWeights (rows_of_pieces take.entry.took) (rows_of_pieces (put_by puts.entry.items)) }
 {
     let GatherTake {
         queue,

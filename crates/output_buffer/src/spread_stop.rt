@@ -30,9 +30,9 @@ pub fn stop_spread(put: SpreadPut<'_>, takes: Vec<SpreadTake<'_>>)
     ensures part { Within (taken_by takes.entry.items) put.entry.put }
     ensures part_of_rows { Within (rows_of_pieces (taken_by takes.entry.items)) (rows_of_pieces put.entry.put) }
     ensures ended { HaveEnded put.entry takes.entry.items
-      → SameWeights (taken_by takes.entry.items) put.entry.put }
+        → SameWeights (taken_by takes.entry.items) put.entry.put }
     ensures rows { HaveEnded put.entry takes.entry.items
-      → SameWeights (rows_of_pieces (taken_by takes.entry.items)) (rows_of_pieces put.entry.put) }
+        → SameWeights (rows_of_pieces (taken_by takes.entry.items)) (rows_of_pieces put.entry.put) }
 {
     let SpreadPut {
         queue,

@@ -6,7 +6,7 @@ use page_window::Reply;
 use std::marker::Model;
 
 /// Reads a window's pages in the order of their tokens, each once.
-#[derive(Debug, Drop)]
+#[derive(Drop)]
 pub struct PageClient {
     next: u64,
     is_complete: bool,
@@ -21,7 +21,7 @@ impl Model for PageClient {
 }
 
 /// A reply whose token is not the next one, which is told. The reply is handed back.
-#[derive(Debug, Drop)]
+#[derive(Drop)]
 pub struct Stale {
     pub next: u64,
     pub reply: Reply,

@@ -1,4 +1,4 @@
-ghost use Rattle.std.specs.Prelude.{◌≡◌, IfOk};
+ghost use Rattle.std.specs.Prelude.{◌≡◌, ◌++◌, ◌∷◌, [], IfOk, OnOk};
 ghost use Rattle.exchange_client.specs.Clients.{kept_as};
 
 use col_pages::{Page, PageList};
@@ -64,10 +64,17 @@ fn moved(alloc: Global, mut pages: PageList) -> Result<Vec<Page>, Memory>
     ensures { IfOk result (λ kept. kept.items ≡ pages) }
 {
     let mut kept = Vec::with_capacity(alloc, pages.len())?;
+    move_all(&mut kept, &mut pages)?;
+    Ok(kept)
+}
+
+fn move_all(kept: &mut Vec<Page>, pages: &mut PageList) -> Result<(), Memory>
+    ensures { OnOk result (kept.new.items ≡ kept.old.items ++ pages.old) }
+{
     while let Some(page) = pages.take_first() {
         kept.push(page)?;
     }
-    Ok(kept)
+    Ok(())
 }
 
 fn copies(alloc: Global, pages: &[Page]) -> Result<PageList, Memory>
@@ -75,7 +82,13 @@ fn copies(alloc: Global, pages: &[Page]) -> Result<PageList, Memory>
 {
     let mut list = PageList::new(alloc);
     for page in pages {
-        list.push(page.copy(alloc)?)?;
+        push_copy(&mut list, alloc, page)?;
     }
     Ok(list)
+}
+
+fn push_copy(list: &mut PageList, alloc: Global, page: &Page) -> Result<(), Memory>
+    ensures { OnOk result (list.new ≡ list.old ++ page.now ∷ []) }
+{
+    list.push(page.copy(alloc)?)
 }

@@ -2,7 +2,7 @@ use col_pages::Page;
 use sql_values::Memory;
 
 /// Why a fetch gave no reply.
-#[derive(Clone, Copy, Debug)]
+#[derive(Clone, Copy)]
 pub enum FetchFault {
     /// The page was dropped: the token is below the base, which is told.
     TokenGone { base: u64 },
@@ -23,11 +23,11 @@ impl From<Memory> for FetchFault {
 }
 
 /// An acknowledgement of pages that were never put. The token behind the last page is told.
-#[derive(Clone, Copy, Debug)]
+#[derive(Clone, Copy)]
 pub struct AckAhead {
     pub end: u64,
 }
 
 /// There was no memory for a page, which is handed back.
-#[derive(Debug, Drop)]
+#[derive(Drop)]
 pub struct PushMemory(pub Page);

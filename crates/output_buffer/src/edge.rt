@@ -1,5 +1,8 @@
 //! The queue of an edge under its rule, and the names of the steps on it.
-ghost use Rattle.output_buffer.specs.Edges.{all_parts, edge_view};
+ghost use Rattle.std.specs.Prelude.{◌≡◌, List};
+ghost use Rattle.crossbeam_queue.specs.Passes.{view, IsPassOf};
+ghost use Rattle.output_buffer.specs.declared.piece.Piece.{Piece};
+ghost use Rattle.output_buffer.specs.Edges.{Shows};
 
 use crate::piece::Piece;
 use crossbeam_queue::protocol::{Join, Lesson, Outcome, Protocol, Split};
@@ -112,4 +115,14 @@ impl Lesson<Piece, EdgeView> for Total {
     ghost use Rattle.output_buffer.specs.Edges.{Shows};
 
     ghost fact = { Shows };
+}
+
+/// Looks at what the queue still holds: where these are all seats of the edge, that and what was taken is what was
+/// put.
+#[tactic(auto, using(crate::proofs::EdgeLemmas::shows))]
+pub(crate) fn look_at_rest(queue: &EdgeQueue, pass: &mut EdgePass)
+    requires { IsPassOf queue.now pass.old }
+    ensures rest { (items : List Piece) × Shows (view pass.old) items }
+{
+    queue.learn_as::<Total>(pass);
 }

@@ -6,7 +6,7 @@ ghost use Rattle.output_buffer.specs.Edges.{end_count, together};
 ghost use Rattle.output_buffer.specs.Joined.{JoinedPuts};
 ghost use Rattle.output_buffer.specs.Seats.{AreGatherPutsOf, HasEnded, put_by, rows_of_pieces, view_of_gather_put};
 
-use crate::edge::{EdgePass, EdgeQueue, Together, Total};
+use crate::edge::{EdgePass, EdgeQueue, Together, look_at_rest};
 use crate::gather_put::GatherPut;
 use crate::gather_take::GatherTake;
 
@@ -42,7 +42,7 @@ pub fn stop_gather(puts: Vec<GatherPut<'_>>, take: GatherTake<'_>)
         empties: _,
     } = take;
     join_puts(queue, &mut pass, puts);
-    queue.learn_as::<Total>(&mut pass);
+    look_at_rest(queue, &mut pass);
 }
 
 fn join_puts(queue: &EdgeQueue, pass: &mut EdgePass, mut puts: Vec<GatherPut<'_>>)

@@ -6,7 +6,7 @@ ghost use Rattle.output_buffer.specs.Edges.{together};
 ghost use Rattle.output_buffer.specs.Joined.{JoinedTakes};
 ghost use Rattle.output_buffer.specs.Seats.{AreSpreadTakesOf, HaveEnded, rows_of_pieces, taken_by, view_of_spread_take};
 
-use crate::edge::{EdgePass, EdgeQueue, Together, Total};
+use crate::edge::{EdgePass, EdgeQueue, Together, look_at_rest};
 use crate::spread_put::SpreadPut;
 use crate::spread_take::SpreadTake;
 
@@ -42,7 +42,7 @@ pub fn stop_spread(put: SpreadPut<'_>, takes: Vec<SpreadTake<'_>>)
         fulls: _,
     } = put;
     join_takes(queue, &mut pass, takes);
-    queue.learn_as::<Total>(&mut pass);
+    look_at_rest(queue, &mut pass);
 }
 
 fn join_takes(queue: &EdgeQueue, pass: &mut EdgePass, mut takes: Vec<SpreadTake<'_>>)

@@ -2,18 +2,14 @@ use Rattle.std.proofs.Common.{◌∙◌, sym, ap, subst}
 use Rattle.bag_laws.specs.Weights.{SameWeights, Within}
 use Rattle.output_buffer.specs.InGather.{gather_take_view}
 use Rattle.output_buffer.specs.Seats.{HasEnded, GatherTakeState, put_by}
-use Rattle.output_buffer.proofs.EdgeLemmas.{shows}
 use Rattle.output_buffer.proofs.SeatLemmas.{gather_stopped, rows_weigh, rows_within}
 use Rattle.output_buffer.proofs.gather_stop.stop_gather.Goals as goal
-
-pub learn_as-requires-clause-rule : goal.learn_as-requires-clause-rule
-learn_as-requires-clause-rule c = shows _ _
 
 pub returns-clause-part : goal.returns-clause-part
 returns-clause-part c =
     let all = c.requires.all ∙ sym (ap (λ (s : GatherTakeState). s.putters) c.take.view_is) in
     subst (λ (s : GatherTakeState). Within s.took (put_by c.args.puts.items)) c.take.view_is
-    (gather_stopped (gather_take_view c.take.inside) c.args.puts.items _ _ _ c.take.invariant.few all c.take.invariant.rest c.join_puts.ensures.joined c.learn_as.ensures.rule.1).0
+    (gather_stopped (gather_take_view c.take.inside) c.args.puts.items _ _ _ c.take.invariant.few all c.take.invariant.rest c.join_puts.ensures.joined c.look_at_rest.ensures.rest.1).0
 
 pub returns-clause-part_of_rows : goal.returns-clause-part_of_rows
 returns-clause-part_of_rows c = rows_within _ _ (returns-clause-part c)
@@ -22,7 +18,7 @@ pub returns-clause-ended : goal.returns-clause-ended
 returns-clause-ended c =
     let all = c.requires.all ∙ sym (ap (λ (s : GatherTakeState). s.putters) c.take.view_is) in
     subst (λ (s : GatherTakeState). HasEnded s → SameWeights s.took (put_by c.args.puts.items)) c.take.view_is
-    (gather_stopped (gather_take_view c.take.inside) c.args.puts.items _ _ _ c.take.invariant.few all c.take.invariant.rest c.join_puts.ensures.joined c.learn_as.ensures.rule.1).1
+    (gather_stopped (gather_take_view c.take.inside) c.args.puts.items _ _ _ c.take.invariant.few all c.take.invariant.rest c.join_puts.ensures.joined c.look_at_rest.ensures.rest.1).1
 
 pub returns-clause-rows : goal.returns-clause-rows
 returns-clause-rows c = λ ended. rows_weigh _ _ (returns-clause-ended c ended)

@@ -3,13 +3,16 @@
 //!
 //! - `states`: the groups of `accumulators`
 //! - `keys`: the index of `group_index`
-//! - `halves`: the operators of `aggregation`, in one and by halves; `python_groups` has rows and their groups
+//! - `halves`: the operators of `aggregation`, in one and by halves; `page_texts` makes pages of texts
+//!   and texts of pages, and `python_groups` has rows and their groups
 #![tactic(auto)]
 
 #[cfg(test)]
 mod halves;
 #[cfg(test)]
 mod keys;
+#[cfg(test)]
+mod page_texts;
 #[cfg(test)]
 mod python_groups;
 #[cfg(test)]

@@ -1,5 +1,5 @@
 use Rattle.std.proofs.Common.{◌≡◌}
-use Rattle.aggregation_tests.proofs.halves.copy_row.Given as goal
+use Rattle.aggregation_tests.proofs.page_texts.copy_row.Given as goal
 
 abbrev pub invariant-loop-column : goal.invariant-loop-column
 invariant-loop-column l = l.builder.types ≡ l.initial.builder.types

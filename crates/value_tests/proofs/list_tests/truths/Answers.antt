@@ -5,7 +5,7 @@ use Rattle.sql_values.specs.declared.types.SqlType.TheVariants.{Boolean}
 use Rattle.sql_values.specs.declared.value.Value.TheVariants as value
 use Rattle.sql_values.specs.Blocks.{fits}
 use Rattle.sql_values.specs.Cells.{cell}
-use Rattle.value_tests.proofs.value_tests.truths.Goals as goal
+use Rattle.value_tests.proofs.list_tests.truths.Goals as goal
 
 pub block-requires-clause-fits : goal.block-requires-clause-fits
 block-requires-clause-fits c =

@@ -1,5 +1,5 @@
 use Rattle.std.proofs.Common.{◌≡◌}
-use Rattle.aggregation_tests.proofs.halves.put_row.Given as goal
+use Rattle.aggregation_tests.proofs.page_texts.put_row.Given as goal
 
 abbrev pub invariant-loop-kind : goal.invariant-loop-kind
 invariant-loop-kind l =

@@ -19,6 +19,7 @@ bound_of kind.TableName = bound.Name
 bound_of kind.Columns = bound.Entries 1 256
 bound_of kind.ColumnName = bound.Name
 bound_of kind.Fragments = bound.Entries 1 64
+bound_of kind.FragmentId = bound.Below (2 ^ 31)
 bound_of kind.HashColumns = bound.Entries 1 16
 bound_of kind.ColumnNumber = bound.Below (2 ^ 31)
 bound_of kind.Node = bound.Levels 32

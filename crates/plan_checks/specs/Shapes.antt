@@ -98,10 +98,6 @@ is_text d = is_some (as_str d)
 abbrev pub is_flag : Data → Bool
 is_flag d = is_some (as_bool d)
 
--- a list of two numbers
-abbrev pub is_pair : Data → Bool
-is_pair d = (entries_count d == 2) && list_all is_number (entries_in d)
-
 -- a text or null
 abbrev pub is_cell : Data → Bool
 is_cell d = is_some (as_null d) || is_text d
@@ -129,7 +125,7 @@ is_order text = same_text text (codes "ASC") || same_text text (codes "DESC")
 abbrev pub has_shape : Shape → Spot → Bool
 has_shape shape.Object s = is_whole s.kind s.value
 has_shape shape.List s = is_list s.value
-has_shape shape.Pair s = is_pair s.value
+has_shape shape.Pair s = is_wide 2 s.value
 has_shape shape.Row s = is_row (row_width s.owner) s.value
 has_shape shape.Number s = is_number s.value
 has_shape shape.One s = number_of s.value == 1

@@ -103,6 +103,7 @@ fn bound_of(kind: Kind) -> Bound
         },
         Kind::ColumnName => Bound::Name,
         Kind::Fragments => Bound::Entries { least: 1, most: 64 },
+        Kind::FragmentId => Bound::Below(1 << 31),
         Kind::HashColumns => Bound::Entries { least: 1, most: 16 },
         Kind::ColumnNumber => Bound::Below(1 << 31),
         Kind::Node => Bound::Levels(32),

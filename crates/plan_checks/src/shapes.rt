@@ -2,7 +2,7 @@ ghost use Rattle.std.specs.Prelude.{◌≡◌, map, option_map, not, IfOk};
 ghost use Rattle.std.specs.List.{find, list_all, position_from};
 ghost use Rattle.serde_json.specs.View.{view};
 ghost use Rattle.plan_grammar.specs.Spots.{spot_of};
-ghost use Rattle.plan_checks.specs.Shapes.{bad_cell, cell_steps, fault_path, has_keys, has_shape, index_steps, is_cell, is_flag, is_join_kind, is_list, is_misshapen, is_number, is_order, is_pair, is_placement, is_row, is_text, is_whole, is_wide, row_width, shape_of};
+ghost use Rattle.plan_checks.specs.Shapes.{bad_cell, cell_steps, fault_path, has_keys, has_shape, index_steps, is_cell, is_flag, is_join_kind, is_list, is_misshapen, is_number, is_order, is_placement, is_row, is_text, is_whole, is_wide, row_width, shape_of};
 
 use plan_grammar::{
     Kind, OpWord, OutputWord, Part, Place, StepWord, entries_count, entries_in, entries_under,
@@ -20,7 +20,7 @@ pub enum Shape {
     /// An object with exactly the keys of its table.
     Object,
     List,
-    /// A list of two numbers.
+    /// A list of two entries, each a place of its own.
     Pair,
     /// A list of texts and nulls, as long as its node's types.
     Row,
@@ -126,7 +126,7 @@ fn has_shape(shape: Shape, place: &Place<'_>) -> bool
     match shape {
         Shape::Object => is_whole(place.kind, value),
         Shape::List => value.is_array(),
-        Shape::Pair => is_pair(value),
+        Shape::Pair => is_wide(2, value),
         Shape::Row => is_row(row_width(place.owner), value),
         Shape::Number => is_number(value),
         Shape::One => number_of(value) == 1,
@@ -163,23 +163,6 @@ fn is_number(value: &Value) -> bool
     ensures { result ≡ is_number (view value.now) }
 {
     value.as_u64().is_some()
-}
-
-fn is_pair(value: &Value) -> bool
-    ensures { result ≡ is_pair (view value.now) }
-{
-    entries_count(value) == 2 && are_numbers(entries_in(value))
-}
-
-fn are_numbers(values: &[Value]) -> bool
-    ensures { result ≡ list_all is_number (map view values.now) }
-{
-    for value in values {
-        if !is_number(value) {
-            return false;
-        }
-    }
-    true
 }
 
 fn row_width(node: &Value) -> usize

@@ -112,7 +112,16 @@ pub const CASES: &str = "\
 'kind':'INNER' | 'kind':'FULL' | 2 /fragments/1/root/input/kind\n\
 [2,3] | [2,3,4] | 2 /fragments/1/root/input/on/0\n\
 [2,3] | [2] | 2 /fragments/1/root/input/on/0\n\
-[2,3] | [2,'3'] | 2 /fragments/1/root/input/on/0\n\
+[2,3] | [2,'3'] | 2 /fragments/1/root/input/on/0/1\n\
+[2,3] | ['x',3] | 2 /fragments/1/root/input/on/0/0\n\
+[2,3] | [-1,3] | 2 /fragments/1/root/input/on/0/0\n\
+[2,3] | [2.5,3] | 2 /fragments/1/root/input/on/0/0\n\
+[2,3] | [[2],3] | 2 /fragments/1/root/input/on/0/0\n\
+[2,3] | [2,null] | 2 /fragments/1/root/input/on/0/1\n\
+[2,3] | ['x',-1] | 2 /fragments/1/root/input/on/0/0\n\
+[2,3] | ['x'] | 2 /fragments/1/root/input/on/0\n\
+[2,3] | ['x',3],[2] | 2 /fragments/1/root/input/on/0/0\n\
+[2,3] | [2],['x',3] | 2 /fragments/1/root/input/on/0\n\
 [2,3] | {} | 2 /fragments/1/root/input/on/0\n\
 'filters': | 'filter': | 2 /fragments/1/root/input\n\
 'wait':false}] | 'wait':false},7] | 2 /fragments/1/root/input/filters/1\n\
@@ -144,6 +153,10 @@ pub const CASES: &str = "\
 'id':15 | 'id':4294967296 | 3 /fragments/3/root/right/input/input/id\n\
 'count':12 | 'count':2147483647 | 10 /fragments/1\n\
 'count':12 | 'count':2147483648 | 3 /fragments/3/root/right/count\n\
+{'id':3,'placement' | {'id':2147483647,'placement' | 10 /fragments/1\n\
+{'id':3,'placement' | {'id':2147483648,'placement' | 3 /fragments/3/id\n\
+{'id':3,'placement' | {'id':18446744073709551615,'placement' | 3 /fragments/3/id\n\
+'fragment':2 | 'fragment':2147483647 | 10 /fragments/1\n\
 'fragment':2 | 'fragment':2147483648 | 3 /fragments/1/root/input/left/fragment\n\
 'filters':[{'id':0 | 'filters':[{'id':4294967295 | 10 /fragments/1\n\
 'filters':[{'id':0 | 'filters':[{'id':4294967296 | 3 /fragments/1/root/input/filters/0/id\n\
@@ -152,6 +165,7 @@ pub const CASES: &str = "\
 'key':4 | 'key':2147483648 | 3 /fragments/1/root/input/filters/0/key\n\
 'column':5 | 'column':2147483648 | 3 /fragments/1/root/input/filters/0/column\n\
 [2,3] | [2,2147483648] | 3 /fragments/1/root/input/on/0/1\n\
+[2,3] | [2,2147483647] | 10 /fragments/1\n\
 [6] | [2147483648] | 3 /fragments/2/output/columns/0\n\
 [8] | [2147483648] | 3 /fragments/2/root/keys/0\n\
 'column':9 | 'column':2147483648 | 3 /fragments/2/root/calls/1/column\n\
@@ -182,6 +196,10 @@ pub const CASES: &str = "\
 'output':['x','y'],'tables':[ | 'output':[],'tables':[7, | 2 /tables/0\n\
 {'name':'u','columns':[{'name':'a','type':'date'}]} | {'name':'t','columns':[]} | 3 /tables/1/columns\n\
 'version':1,'output':['x','y'] | 'output':7,'version':2 | 2 /version\n\
+[2,3] | [2147483648,'x'] | 2 /fragments/1/root/input/on/0/1\n\
+'fragment':1}}},{'id':1, | 'fragment':2147483648}}},{'id':2147483648, | 3 /fragments/0/root/input/fragment\n\
+{'id':2,'placement':'SOURCE','output':{'kind':'HASH','columns':[6]} | {'id':2147483648,'placement':'SOURCE','output':{'kind':'HASH','columns':[]} | 3 /fragments/2/id\n\
+{'id':3,'placement':'SOURCE','output':{'kind':'BROADCAST'},'root':{'id':11, | {'id':2147483648,'placement':'SOURCE','output':{'kind':'BROADCAST'},'root':{'id':1, | 3 /fragments/3/id\n\
 {'column':13,'order':'DESC'} | {'order':0,'column':''} | 2 /fragments/3/root/right/input/keys/0/column\n\
 {'id':0,'key':4,'scan':10,'column':5,'wait':false} | {'wait':0,'column':0,'scan':'','key':0,'id':0} | 2 /fragments/1/root/input/filters/0/scan";
 
@@ -226,6 +244,8 @@ pub const SCAN: &str = "{'id':1,'op':'scan','table':'t','columns':['a']}";
 pub const ROOTS: &str = "\
 ROOT | SCAN | 0\n\
 'id':0,'placement':'SINGLE','root':ROOT | 'id':1,'placement':'SINGLE','root':SCAN | 6 /fragments/0/id\n\
+'id':0,'placement':'SINGLE','root':ROOT | 'id':2147483647,'placement':'SINGLE','root':SCAN | 6 /fragments/0/id\n\
+'id':0,'placement':'SINGLE','root':ROOT | 'id':2147483648,'placement':'SINGLE','root':SCAN | 3 /fragments/0/id\n\
 ROOT | {'id':2,'op':'filter','predicate':{'col':0},'input':SCAN} | 0\n\
 ROOT | {'id':2,'op':'project','columns':[{'col':7}],'input':SCAN} | 0\n\
 ROOT | {'id':2,'op':'limit','step':'SINGLE','count':1,'input':SCAN} | 0\n\
@@ -254,7 +274,9 @@ ROOT | {'id':2,'op':'limit','step':'SINGLE','count':2147483648,'input':SCAN} | 3
 pub const LINKS: &str = "\
 'version':1, | 'version':1, |\n\
 {'id':3,'placement' | {'id':2,'placement' | /fragments/3/id\n\
+{'id':3,'placement' | {'id':2147483647,'placement' | /fragments/3/id\n\
 'fragment':3 | 'fragment':4 | /fragments/1/root/input/right/fragment\n\
+'fragment':3 | 'fragment':2147483647 | /fragments/1/root/input/right/fragment\n\
 'fragment':3 | 'fragment':2 | /fragments/1/root/input/right/fragment\n\
 'fragment':3 | 'fragment':1 | /fragments/1/root/input/right/fragment\n\
 {'id':6,'op':'remote','fragment':3} | {'id':6,'op':'scan','table':'u','columns':['a']} | /fragments/3";

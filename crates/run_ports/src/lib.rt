@@ -5,7 +5,7 @@
 //! where its count rose in that call: so no caller can blame the outside for a fault that it did
 //! not have. Where an object tells what it holds, its clauses pin the bytes. `specs/Counts.antt`
 //! says what it means that a count rose, `specs/Reading.antt`, `specs/Writing.antt` and
-//! `specs/Delivering.antt` what the calls leave behind.
+//! `specs/Delivering.antt` what the calls leave behind, and `specs/Replays.antt` what a `ReplayCourier` delivers.
 //!
 //! - `files`, `sink`, `courier`, `meet`: the traits, and the couriers and meetings of this crate
 //! - `mem_files`, `mem_sink`: files and sinks in memory, which fail where they are told to

@@ -10,7 +10,7 @@ use Rattle.run_ports.specs.Counts.{Rose}
 use Rattle.run_ports.specs.declared.courier.Delivery.{Delivery}
 use Rattle.run_ports.specs.declared.courier.Delivery.TheVariants.{Fresh, Again, Nothing}
 use Rattle.exchange_client.specs.Clients.{ClientState, KeptValue, kept_as, pages_given, client_after}
-use Rattle.exchange_client.specs.Fetches.{FetchState, rest, Carries, KeepsTokens, fresh_of, is_used_up, last_token, StaysToBeGiven, GivesWhatIsLeft}
+use Rattle.exchange_client.specs.Fetches.{FetchState, rest, Carries, KeepsTokens, fresh_of, is_used_up, last_token, KeepsRest, GivesWhatIsLeft}
 use Rattle.exchange_client.specs.Steps.{arriving, IsDelivered, HasArrived, HasMissed, is_due, taken, most_fruitless}
 use Rattle.exchange_client.proofs.FetchLemmas.{rest_length, rest_at_end}
 
@@ -72,7 +72,7 @@ complete_next c o r is at whole =
     ap (λ u. (client_after c u).is_complete) is ∙ ap (λ k. k.is_complete) (cond-true (r.token == c.next) _ c (eq-eqb _ _ at)) ∙ or_right c.is_complete r.is_complete whole
 
 module _ (old begun after new : FetchState) (due : Bool) (arrived : Option KeptValue) (pages : List TypedPage)
-    (same : StaysToBeGiven old begun) (is : due ≡ is_due old) (h : HasArrived due begun arrived after)
+    (same : KeepsRest old begun) (is : due ≡ is_due old) (h : HasArrived due begun arrived after)
     (gives : GivesWhatIsLeft begun (fresh_of begun)) (given : pages ≡ pages_given after.client arrived)
     (left : rest after ≡ pages ++ rest new) (end : new ≡ taken after arrived) where
   rest_before : rest after ≡ rest old

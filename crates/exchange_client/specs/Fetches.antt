@@ -73,7 +73,7 @@ fresh_of f = record {
 }
 
 -- the same pages are still to be given, and nothing else changed that a caller counts on
-pub record StaysToBeGiven (old new : FetchState) : Type 0 where
+pub record KeepsRest (old new : FetchState) : Type 0 where
   pub pages : rest new ≡ rest old
   pub ended : new.window.is_ended ≡ old.window.is_ended
   pub turns : new.missed ≡ old.missed

@@ -2,7 +2,7 @@ ghost use Rattle.std.specs.Prelude.{◌≡◌, ◌⊎◌, ◌↔◌, ◌<◌, �
 ghost use Rattle.col_pages.specs.Pages.{TypedPage};
 ghost use Rattle.page_window.specs.Windows.{pushed, acknowledged};
 ghost use Rattle.exchange_client.specs.Clients.{kept_as, pages_given};
-ghost use Rattle.exchange_client.specs.Fetches.{Carries, HasRoom, MayArrive, rest, prepared, begun_anew, is_used_up, fresh_of, StaysToBeGiven, GivesWhatIsLeft};
+ghost use Rattle.exchange_client.specs.Fetches.{Carries, HasRoom, MayArrive, rest, prepared, begun_anew, is_used_up, fresh_of, KeepsRest, GivesWhatIsLeft};
 ghost use Rattle.exchange_client.specs.Steps.{IsDelivered, HasArrived, HasStepped, HasMissed, is_due, begun, taken, arriving};
 
 use crate::client::PageClient;
@@ -125,8 +125,9 @@ impl<C: Courier> Fetch<C> {
         self.client.next_token() == self.window.end_token()
     }
 
-    /// Asks for the next pages, and gives those that arrive, at most `most`. It gives none where none was left,
-    /// or where the courier missed a turn. After Memory the pages still to be given are as before.
+    /// Asks for the next pages, and gives those that arrive. It gives none only where none was left, or where the
+    /// courier missed a turn before 64 steps in a row had none accepted. After Memory the pages still to be given
+    /// are as before.
     pub fn step(&mut self) -> Result<PageList, Memory>
         ensures step { IfOk result (λ pages. HasStepped (is_due self.old) (begun self.old) pages self.new) }
         ensures rest { IfOk result (λ pages. rest self.old ≡ pages ++ rest self.new) }
@@ -137,9 +138,10 @@ impl<C: Courier> Fetch<C> {
         ensures complete { OnOk result (self.old.window.is_ended ≡ true → rest self.old ≡ []
             → (self.new.client.is_complete ≡ true) ⊎ HasMissed self.old self.new) }
         ensures later { self.old.missed ≤ self.new.missed }
+        ensures unasked { is_due self.old ≡ true → self.new.missed ≡ self.old.missed }
         ensures ended { self.new.window.is_ended ≡ self.old.window.is_ended }
         ensures err { OnErr result (self.new ≡ record (begun self.old) { missed = self.new.missed }) }
-        ensures held { OnErr result (rest self.new ≡ rest self.old) }
+        ensures same_rest { OnErr result (rest self.new ≡ rest self.old) }
     {
         let due = self.begin();
         let arrived = self.deliver(due)?;
@@ -150,7 +152,7 @@ impl<C: Courier> Fetch<C> {
     fn begin(&mut self) -> bool
         ensures due { result ≡ is_due self.old }
         ensures begun { self.new ≡ begun self.old }
-        ensures same { StaysToBeGiven self.old self.new }
+        ensures same { KeepsRest self.old self.new }
     {
         self.prepare();
         let due = MOST_FRUITLESS <= self.fruitless;
@@ -161,7 +163,7 @@ impl<C: Courier> Fetch<C> {
     /// Starts anew where all tokens are used, and else acknowledges what was given.
     fn prepare(&mut self)
         ensures prepared { self.new ≡ prepared self.old }
-        ensures same { StaysToBeGiven self.old self.new }
+        ensures same { KeepsRest self.old self.new }
     {
         if self.is_used_up() {
             self.begin_anew();
@@ -180,7 +182,7 @@ impl<C: Courier> Fetch<C> {
     fn begin_anew(&mut self)
         requires { is_used_up self.old ≡ true }
         ensures anew { self.new ≡ begun_anew self.old }
-        ensures same { StaysToBeGiven self.old self.new }
+        ensures same { KeepsRest self.old self.new }
     {
         self.window = PageWindow::new(self.alloc);
         self.client = PageClient::new();
@@ -191,7 +193,7 @@ impl<C: Courier> Fetch<C> {
         ensures acknowledged { self.new ≡ record self.old {
           window = acknowledged self.old.window self.old.client.next;
         } }
-        ensures same { StaysToBeGiven self.old self.new }
+        ensures same { KeepsRest self.old self.new }
     {
         let Ok(()) = self.window.ack(self.client.next_token()) else {
             unreachable!()
@@ -205,6 +207,7 @@ impl<C: Courier> Fetch<C> {
             (λ r. MayArrive self.old.window self.old.client.next (kept_as r))) }
         ensures gives { GivesWhatIsLeft self.old (fresh_of self.old) }
         ensures later { self.old.missed ≤ self.new.missed }
+        ensures unasked { due ≡ true → self.new.missed ≡ self.old.missed }
         ensures err { OnErr result (self.new ≡ record self.old { missed = self.new.missed }) }
     {
         let fresh = self.fresh()?;

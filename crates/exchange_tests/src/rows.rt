@@ -4,14 +4,14 @@ ghost use Rattle.std.specs.Prelude.{◌<◌};
 use crate::fetches::put_all;
 use crate::numbered::{number_behind, numbered};
 use col_pages::PageList;
-use exchange_client::{Fetch, PageClient};
+use exchange_client::{Fetch, PageClient, Stale};
 use page_window::{AckAhead, FetchFault, PageWindow, PushMemory, Reply};
 use run_ports::ReplayCourier;
 use sql_values::Memory;
 use std::alloc::Global;
 
 /// A call with two numbers, and its answer with three: of a reply its token, how many pages it has and the next token;
-/// of `gone` the base; of `ahead` the end token; of `stale` the next token. `push`, `fetch`, `ack`, `end` and `tokens`
+/// of `gone` the base; of `ahead` the end token; of `stale` the next token, and the reply's token and pages. `push`, `fetch`, `ack`, `end` and `tokens`
 /// are calls of one window; `give`, `accept` and `client` of another and its client; `put`, `step` and `room` of a
 /// fetch.
 const ROWS: &str = "\
@@ -33,8 +33,9 @@ fetch 2 16|complete 2 1 3\n\
 fetch 3 16|complete 3 0 3\n\
 give 0 0|done 0 0 0\n\
 give 0 0|done 0 0 0\n\
+accept 1 16|stale 0 1 1\n\
 accept 0 16|pages 2 0 0\n\
-accept 0 16|stale 2 0 0\n\
+accept 0 16|stale 2 0 2\n\
 client 0 0|client 2 0 0\n\
 put 33 0|put 32 0 0\n\
 room 0 0|room 0 0 0\n\
@@ -118,11 +119,22 @@ fn of_window(
     }
 }
 
+/// The next token, and the token and the pages of the reply that came back.
+fn handed_back(stale: Stale) -> Answer<'static> {
+    let token = stale.reply.token;
+    (
+        "stale",
+        stale.next,
+        token,
+        counted(stale.reply.pages, token),
+    )
+}
+
 fn accepted(client: &mut PageClient, reply: Reply) -> Answer<'static> {
     let next = client.next_token();
     match client.accept(reply) {
         Ok(pages) => ("pages", counted(pages, next), 0, 0),
-        Err(stale) => ("stale", stale.next, 0, 0),
+        Err(stale) => handed_back(stale),
     }
 }
 
@@ -241,6 +253,6 @@ fn windows_clients_and_fetches_answer_as_told(rt: HostRuntime) -> Result<(), Mem
         client: PageClient::new(),
         fetch: Fetch::new(alloc, ReplayCourier::new(), 16),
     };
-    assert!(rt; rows_that_hold(&mut desk, alloc)? == 27);
+    assert!(rt; rows_that_hold(&mut desk, alloc)? == 28);
     Ok(())
 }

@@ -13,7 +13,7 @@ pub enum Delivery {
 
 /// Decides what reaches the clients of the edges. It has no fault.
 pub trait Courier: Sized + Drop {
-    // How many turns did not deliver the fresh reply.
+    // A count of missed turns: it rises in each turn that does not deliver the fresh reply.
     ghost missed: { Self → ℕ };
 
     /// The courier of an edge, under a run's number.

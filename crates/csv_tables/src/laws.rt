@@ -7,7 +7,7 @@ ghost use Rattle.sql_values.specs.ColumnRows.{fits_row};
 ghost use Rattle.sql_values.specs.Cells.{lent_value};
 ghost use Rattle.scalar_texts.specs.Dates.{has_date};
 ghost use Rattle.sql_values.specs.Texts.{longest_text};
-ghost use Rattle.sql_values.specs.Types.{HasType, IsType};
+ghost use Rattle.sql_values.specs.Types.{IsType, has_type};
 ghost use Rattle.sql_values.specs.declared.types.SqlType.TheVariants as type;
 ghost use Rattle.sql_values.specs.declared.value.Value.TheVariants as value;
 
@@ -80,7 +80,7 @@ fn date_reads_back(day: i32)
 #[tactic(auto, using(crate::proofs::ReadBackLemmas::null_back))]
 pub fn field_reads_back(kind: SqlType, value: ValueRef<'_>)
     requires is_type { IsType kind }
-    requires has_type { HasType kind (lent_value value) }
+    requires has_type { IsTrue (has_type kind (lent_value value)) }
     ensures { value_of_field kind (field_text kind (lent_value value.entry))
         ≡ Ok (lent_value value.entry) }
 {

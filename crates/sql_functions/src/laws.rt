@@ -1,7 +1,7 @@
 //! What follows from the definitions.
-ghost use Rattle.std.specs.Prelude.{◌≡◌, ◌≢◌, true, false, not, Ok};
+ghost use Rattle.std.specs.Prelude.{◌≡◌, ◌≢◌, IsTrue, true, false, not, Ok};
 ghost use Rattle.sql_values.specs.Cells.{lent_value};
-ghost use Rattle.sql_values.specs.Types.{HasType, IsType};
+ghost use Rattle.sql_values.specs.Types.{IsType, has_type};
 ghost use Rattle.sql_functions.specs.Casts.{cast_of};
 ghost use Rattle.sql_functions.specs.Comparison.{compared, distinct};
 ghost use Rattle.sql_functions.specs.Outcomes.{and_then};
@@ -45,7 +45,7 @@ pub fn distinct_values_are_not_the_same(a: ValueRef<'_>, b: ValueRef<'_>)
 pub fn cast_to_text_reads_back(kind: SqlType, value: ValueRef<'_>)
     requires is_type { IsType kind }
     requires not_null { lent_value value ≢ Value.Null }
-    requires has_type { HasType kind (lent_value value) }
+    requires has_type { IsTrue (has_type kind (lent_value value)) }
     ensures { and_then (cast_of kind SqlType.Varchar (lent_value value.entry)) (cast_of SqlType.Varchar kind) ≡ Ok (lent_value value.entry) }
 {
     text_reads_back(kind, value);

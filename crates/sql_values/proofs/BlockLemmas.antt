@@ -7,7 +7,7 @@ use Rattle.sql_values.specs.declared.value.Value.{Value}
 use Rattle.sql_values.specs.declared.value.Value.TheVariants as value
 use Rattle.sql_values.specs.declared.types.SqlType.{SqlType}
 use Rattle.sql_values.specs.declared.types.SqlType.TheVariants.{Boolean, Bigint, Decimal, Varchar, Date}
-use Rattle.sql_values.specs.Types.{HasType}
+use Rattle.sql_values.specs.Types.{has_type}
 use Rattle.sql_values.specs.declared.block.Held.{Held}
 use Rattle.sql_values.specs.Blocks.{TypedCells, fits, offered, or_null, with_cells}
 use Rattle.sql_values.specs.Held.{typed}
@@ -36,7 +36,7 @@ of_values-more kind vs i block next taken v b e l t n f =
     ∙ ap (λ (x : Value). record { kind = kind; cells = take i vs ++ x ∷ [] }) e ∙ ap (λ (xs : List Value). record { kind = kind; cells = xs }) (sym (take_more vs i v l))
 
 -- a value of a type has its variant
-pub typed_fits : (kind : SqlType) (v : Value) → HasType kind v → fits kind v ≡ true
+pub typed_fits : (kind : SqlType) (v : Value) → has_type kind v ≡ true → fits kind v ≡ true
 typed_fits Boolean value.Null h = refl
 typed_fits Bigint value.Null h = refl
 typed_fits (Decimal p s) value.Null h = refl
@@ -47,7 +47,7 @@ typed_fits Bigint (value.Bigint n) h = refl
 typed_fits (Decimal p s) (value.Decimal unscaled) h = refl
 typed_fits Varchar (value.Varchar text) h = refl
 typed_fits Date (value.Date day) h = refl
-typed_fits kind v h = absurd h
+typed_fits kind v h = cc
 
 pub ruleset blocks = (length-map, take-map, drop-map, get_or-or_null, gather-or_null)
 

@@ -3,7 +3,7 @@ ghost use Rattle.columns.specs.Present.{gather};
 ghost use Rattle.sql_values.specs.declared.value.Value.TheVariants as value_is;
 ghost use Rattle.sql_values.specs.Cells.{lent_value};
 ghost use Rattle.sql_values.specs.Blocks.{fits, offered, with_cells};
-ghost use Rattle.sql_values.specs.Types.{HasType};
+ghost use Rattle.sql_values.specs.Types.{has_type};
 
 use crate::block_cells::{
     bigint_or_null, boolean_or_null, date_or_null, decimal_or_null, push_bigint, push_boolean,
@@ -252,6 +252,6 @@ impl Block {
 /// The law that a value of a type may stand in a block of that type.
 #[tactic(auto, using(crate::proofs::BlockLemmas::typed_fits))]
 pub fn typed_values_fit_blocks(kind: SqlType, value: ValueRef<'_>)
-    requires { HasType kind (lent_value value) }
+    requires { IsTrue (has_type kind (lent_value value)) }
     ensures { IsTrue (fits kind (lent_value value.entry)) }
 {}

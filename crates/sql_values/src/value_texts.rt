@@ -1,8 +1,8 @@
-ghost use Rattle.std.specs.Prelude.{◌≡◌, ◌≢◌, ◌++◌, MatchResult, OnOk, OnErr, Some};
+ghost use Rattle.std.specs.Prelude.{◌≡◌, ◌≢◌, ◌++◌, IsTrue, MatchResult, OnOk, OnErr, Some};
 ghost use Rattle.scalar_texts.specs.Appends.{AppendsStart};
 ghost use Rattle.sql_values.specs.Cells.{lent_value};
 ghost use Rattle.sql_values.specs.Texts.{FailsToParse, scale_of, text_of_value, value_of_text};
-ghost use Rattle.sql_values.specs.Types.{HasType, IsType};
+ghost use Rattle.sql_values.specs.Types.{IsType, has_type};
 
 use crate::memory::Memory;
 use crate::text::Text;
@@ -131,7 +131,7 @@ fn scale(kind: SqlType) -> u8
 pub fn text_reads_back(kind: SqlType, value: ValueRef<'_>)
     requires is_type { IsType kind }
     requires not_null { lent_value value ≢ Value.Null }
-    requires has_type { HasType kind (lent_value value) }
+    requires has_type { IsTrue (has_type kind (lent_value value)) }
     ensures { value_of_text kind (text_of_value kind (lent_value value.entry))
         ≡ Some (lent_value value.entry) }
 {
@@ -146,7 +146,7 @@ pub fn text_reads_back(kind: SqlType, value: ValueRef<'_>)
 
 fn decimal_text_reads_back(kind: SqlType, unscaled: i128)
     requires is_type { IsType kind }
-    requires has_type { HasType kind (Value.Decimal unscaled) }
+    requires has_type { IsTrue (has_type kind (Value.Decimal unscaled)) }
     ensures { value_of_text kind (text_of_value kind (Value.Decimal unscaled))
         ≡ Some (Value.Decimal unscaled) }
 {
@@ -156,7 +156,7 @@ fn decimal_text_reads_back(kind: SqlType, unscaled: i128)
 }
 
 fn date_text_reads_back(kind: SqlType, day: i32)
-    requires { HasType kind (Value.Date day) }
+    requires { IsTrue (has_type kind (Value.Date day)) }
     ensures { value_of_text kind (text_of_value kind (Value.Date day)) ≡ Some (Value.Date day) }
 {
     if kind == SqlType::Date {

@@ -21,7 +21,9 @@ use Rattle.bag_laws.specs.Weights.{SameWeights}
 use Rattle.bag_laws.proofs.BagLemmas.{same-from_equal, same-trans}
 use Rattle.bag_laws.proofs.BucketLemmas.{key_bucket-below, same-buckets}
 use Rattle.output_buffer.specs.Partitions.{Partition, all_rows, hash_of, part_of, parts_of, places_of, rows_at}
-use Rattle.output_buffer.proofs.PlaceLemmas.{all_told, range_more}
+use Rattle.bag_laws.proofs.FilterLemmas.{filter-map}
+use Rattle.sum_laws.proofs.SumLemmas.{range_push}
+use Rattle.output_buffer.proofs.PlaceLemmas.{all_told}
 
 -- no column is hashed yet
 pub none_hashed : (rows : List (List Value)) → replicate (length rows) 14695981039346656037 ≡ map (hash_of []) rows
@@ -89,16 +91,6 @@ module _ {X : Type 0} where
   filter-agree p q (x ∷ xs) agree =
       λ i. if All-head (λ y. p y ≡ q y) x xs agree i then x ∷ filter-agree p q xs (All-tail (λ y. p y ≡ q y) x xs agree) i else filter-agree p q xs (All-tail (λ y. p y ≡ q y) x xs agree) i
 
-  module _ {Y : Type 0} (p : Y → Bool) (f : X → Y) where
-    kept_at : (x : X) (xs : List X) (b : Bool) → map f (filter (λ y. p (f y)) xs) ≡ filter p (map f xs)
-        → map f (if b then x ∷ filter (λ y. p (f y)) xs else filter (λ y. p (f y)) xs) ≡ (if b then f x ∷ filter p (map f xs) else filter p (map f xs))
-    kept_at x xs true e = ap (λ ys. f x ∷ ys) e
-    kept_at x xs false e = e
-
-    map-filter : (xs : List X) → map f (filter (λ x. p (f x)) xs) ≡ filter p (map f xs)
-    map-filter [] = refl
-    map-filter (x ∷ xs) = kept_at x xs (p (f x)) (map-filter xs)
-
 -- the rows at the places of a bucket are the rows of the bucket
 pub rows_at-places : (bucket : List Value → ℕ) (rows : List (List Value)) (k : ℕ) → rows_at rows (places_of (map bucket rows) k) ≡ of_bucket bucket k rows
 rows_at-places bucket rows k =
@@ -108,7 +100,7 @@ rows_at-places bucket rows k =
     (λ j d lt. let below : j < n = omega (arith, lt, length-range_with_len 0 n) in
     let here : get_or (range_with_len 0 n) j d ≡ 0 + j = get_or-range_with_len 0 n j d below in
     ap (λ b. b == k) (get_or-map bucket rows (get_or (range_with_len 0 n) j d) [] 0 (omega (arith, here, below, long)))))
-    ∙ map-filter (λ row. bucket row == k) (λ place. get_or rows place []) (range_with_len 0 n)
+    ∙ sym (filter-map (λ row. bucket row == k) (λ place. get_or rows place []) (range_with_len 0 n))
     ∙ ap (filter (λ row. bucket row == k)) (pick_l_whole [] rows n (sym long))
 
 -- the pages that are selected by places are those of the parts
@@ -125,7 +117,7 @@ gathered : (rows : ℕ → List (List Value)) (n : ℕ) → flat_map rows (range
 gathered rows zero = refl
 gathered rows (suc n) =
     let here : 0 + n ≡ n = omega arith in
-    ap (flat_map rows) (range_more 0 n ∙ ap (λ (j : ℕ). range_with_len 0 n ++ j ∷ []) here)
+    ap (flat_map rows) (range_push 0 n ∙ ap (λ (j : ℕ). range_with_len 0 n ++ j ∷ []) here)
     ∙ flat_map-append rows (range_with_len 0 n) (n ∷ [])
     ∙ ap (λ items. items ++ (rows n ++ [])) (gathered rows n)
     ∙ ap (λ items. gather n rows ++ items) (append-nil (rows n))

@@ -8,6 +8,7 @@ use Rattle.std.proofs.lemmas.List.{append-nil, get_or-set_same, get_or-set_other
 use Rattle.std.proofs.lemmas.List.Elements.{All-head, All-tail, filter-append}
 use Rattle.std.proofs.lemmas.List.FromFn.{get_or-map-range_with_len, length-map-range_with_len}
 use Rattle.std.proofs.lemmas.List.Sums.{count_by-le-length, count_by_more_no, count_by_more_yes}
+use Rattle.sum_laws.proofs.SumLemmas.{range_push}
 
 -- how many of the buckets are this one
 abbrev pub count_of : List ℕ → ℕ → ℕ
@@ -16,10 +17,6 @@ count_of buckets k = count_by (λ bucket. bucket == k) buckets
 -- the places of a bucket, of those before a place
 abbrev pub places_before : List ℕ → ℕ → ℕ → List ℕ
 places_before buckets to k = filter (λ place. get_or buckets place 0 == k) (range_with_len 0 to)
-
-pub range_more : (a n : ℕ) → range_with_len a (suc n) ≡ range_with_len a n ++ (a + n) ∷ []
-range_more a zero = ap (λ k. k ∷ []) (omega arith)
-range_more a (suc n) = ap (λ xs. a ∷ xs) (range_more (a + 1) n ∙ ap (λ k. range_with_len (a + 1) n ++ k ∷ []) (omega arith))
 
 module _ {X : Type 0} where
   set_at : (f g : ℕ → X) (n b : ℕ) (x : X) → b < n → x ≡ g b → ((k : ℕ) → ¬ (k ≡ b) → f k ≡ g k) → (k : ℕ) (d : X) → k < n → (k ≡ b) ⊎ (¬ (k ≡ b))
@@ -57,7 +54,7 @@ placed_here buckets i k b e =
     let next : i + 1 ≡ suc i = add-one i in
     let here : 0 + i ≡ i = omega arith in
     ap (λ n. places_before buckets n k) next
-    ∙ ap (filter (λ place. get_or buckets place 0 == k)) (range_more 0 i ∙ ap (λ (j : ℕ). range_with_len 0 i ++ j ∷ []) here)
+    ∙ ap (filter (λ place. get_or buckets place 0 == k)) (range_push 0 i ∙ ap (λ (j : ℕ). range_with_len 0 i ++ j ∷ []) here)
     ∙ filter-append (λ place. get_or buckets place 0 == k) (range_with_len 0 i) (i ∷ [])
     ∙ ap (λ c. places_before buckets i k ++ (if c then i ∷ [] else [])) e
 

@@ -3,7 +3,8 @@ use Rattle.std.proofs.Common.{◌≡◌, ℕ, zero, suc, ◌+◌, ◌-◌, ◌<�
 use Rattle.std.specs.Prelude.{flat_map, sum_by, All}
 use Rattle.std.proofs.lemmas.List.{length_push}
 use Rattle.std.proofs.lemmas.List.Elements.{All-push}
-use Rattle.std.proofs.lemmas.List.Sums.{sum_by-append, sum_by-cons, sum_by_push}
+use Rattle.std.proofs.lemmas.List.Sums.{sum_by-append, sum_by_push}
+use Rattle.bag_laws.proofs.BagLemmas.{weight-flat_map}
 use Rattle.bag_laws.specs.Weights.{SameWeights, Within}
 use Rattle.output_buffer.specs.declared.edge.EdgeView.{EdgeView}
 use Rattle.output_buffer.specs.declared.piece.Piece.{Piece}
@@ -29,12 +30,8 @@ pub new_gather_puts_are_new : (edge : EdgeId) (n : ℕ) → All (λ (s : GatherP
 new_gather_puts_are_new edge n = each_new_gather_put (λ (s : GatherPutState). end_count s.put ≡ 0) edge n (λ number. refl)
 
 module _ {A B : Type 0} (f : A → List B) (weight : B → ℕ) where
-  pub sum_flat : (xs : List A) → sum_by weight (flat_map f xs) ≡ sum_by (λ x. sum_by weight (f x)) xs
-  sum_flat [] = refl
-  sum_flat (x ∷ xs) = omega (arith, sum_by-append weight (f x) (flat_map f xs), sum_by-cons (λ x. sum_by weight (f x)) x xs, sum_flat xs)
-
   pub sum_flat_push : (xs : List A) (y : A) → sum_by weight (flat_map f (xs ++ y ∷ [])) ≡ sum_by weight (flat_map f xs) + sum_by weight (f y)
-  sum_flat_push xs y = omega (arith, sum_flat (xs ++ y ∷ []), sum_flat xs, sum_by_push (λ x. sum_by weight (f x)) xs y)
+  sum_flat_push xs y = omega (arith, weight-flat_map weight f (xs ++ y ∷ []), weight-flat_map weight f xs, sum_by_push (λ x. sum_by weight (f x)) xs y)
 
 -- a putter's view with one more piece
 pub view_with_put : (v : EdgeView) (x : Piece) (n : ℕ) → v ≡ edge_view n (1 - end_count v.put) v.put [] → with_put v x ≡ edge_view n (1 - end_count (v.put ++ x ∷ [])) (v.put ++ x ∷ []) []
@@ -97,27 +94,6 @@ held take puts before after items few all is j shows = (
 
 pub within : (took items put : List Piece) → SameWeights (took ++ items) put → Within took put
 within took items put same = record { rest = items; whole = same }
-
--- pieces that are the same as bags have the same rows
-pub rows_weigh : (xs ys : List Piece) → SameWeights xs ys → SameWeights (rows_of_pieces xs) (rows_of_pieces ys)
-rows_weigh xs ys same = record { weighs = λ weight. sum_flat rows_of_piece weight xs ∙ same.weighs (λ x. sum_by weight (rows_of_piece x)) ∙ sym (sum_flat rows_of_piece weight ys) }
-
-pub rows_within : (xs ys : List Piece) → Within xs ys → Within (rows_of_pieces xs) (rows_of_pieces ys)
-rows_within xs ys w = record {
-  rest = rows_of_pieces w.rest;
-  whole = record {
-    weighs = λ weight. let same = (rows_weigh (xs ++ w.rest) ys w.whole).weighs weight in
-        omega (
-          arith,
-          same,
-          sum_flat rows_of_piece weight (xs ++ w.rest),
-          sum_by-append (λ x. sum_by weight (rows_of_piece x)) xs w.rest,
-          sum_flat rows_of_piece weight xs,
-          sum_flat rows_of_piece weight w.rest,
-          sum_by-append weight (rows_of_pieces xs) (rows_of_pieces w.rest),
-        );
-  };
-}
 
 pub settled : (took items put : List Piece) → items ≡ [] → SameWeights (took ++ items) put → SameWeights took put
 settled took items put none same = record { weighs = λ weight. omega (arith, same.weighs weight, sum_by-append weight took items, ap (sum_by weight) none) }

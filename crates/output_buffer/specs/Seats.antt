@@ -113,7 +113,7 @@ MaySpread seat (End number) = end_count seat.put < seat.takers
 abbrev pub AreSpreadTakesOf : EdgeId → List SpreadTakeState → Type 0
 AreSpreadTakesOf edge seats = All (λ s. s.edge ≡ edge) seats
 
--- a taker took an End, and takes no more
+-- a taker took an End
 abbrev pub HasTakenEnd : SpreadTakeState → Type 0
 HasTakenEnd seat = 0 < end_count seat.took
 

@@ -20,7 +20,7 @@ pub struct EdgeView {
 }
 
 /// The bells of an edge.
-#[derive(Clone, Copy, Debug)]
+#[derive(Clone, Copy)]
 pub struct EdgeBells {
     /// Rung when a piece came.
     pub piece: u32,
@@ -117,8 +117,8 @@ impl Lesson<Piece, EdgeView> for Total {
     ghost fact = { Shows };
 }
 
-/// Looks at what the queue still holds: where these are all seats of the edge, that and what was taken is what was
-/// put.
+/// Looks at what the queue still holds. Where this is the pass of all seats, what was taken and what is held
+/// together are what was put.
 #[tactic(auto, using(crate::proofs::EdgeLemmas::shows))]
 pub(crate) fn look_at_rest(queue: &EdgeQueue, pass: &mut EdgePass)
     requires { IsPassOf queue.now pass.old }

@@ -1,8 +1,10 @@
 use Rattle.std.proofs.Common.{◌∙◌, sym, ap, subst}
+use Rattle.bag_laws.proofs.BagLemmas.{same-flat_map}
+use Rattle.bag_laws.proofs.WithinLemmas.{within-flat_map}
 use Rattle.bag_laws.specs.Weights.{SameWeights, Within}
 use Rattle.output_buffer.specs.InGather.{gather_take_view}
-use Rattle.output_buffer.specs.Seats.{HasEnded, GatherTakeState, put_by}
-use Rattle.output_buffer.proofs.SeatLemmas.{gather_stopped, rows_weigh, rows_within}
+use Rattle.output_buffer.specs.Seats.{HasEnded, GatherTakeState, put_by, rows_of_piece}
+use Rattle.output_buffer.proofs.SeatLemmas.{gather_stopped}
 use Rattle.output_buffer.proofs.gather_stop.stop_gather.Goals as goal
 
 pub returns-clause-part : goal.returns-clause-part
@@ -12,7 +14,7 @@ returns-clause-part c =
     (gather_stopped (gather_take_view c.take.inside) c.args.puts.items _ _ _ c.take.invariant.few all c.take.invariant.rest c.join_puts.ensures.joined c.look_at_rest.ensures.rest.1).0
 
 pub returns-clause-part_of_rows : goal.returns-clause-part_of_rows
-returns-clause-part_of_rows c = rows_within _ _ (returns-clause-part c)
+returns-clause-part_of_rows c = within-flat_map rows_of_piece (returns-clause-part c)
 
 pub returns-clause-ended : goal.returns-clause-ended
 returns-clause-ended c =
@@ -21,4 +23,4 @@ returns-clause-ended c =
     (gather_stopped (gather_take_view c.take.inside) c.args.puts.items _ _ _ c.take.invariant.few all c.take.invariant.rest c.join_puts.ensures.joined c.look_at_rest.ensures.rest.1).1
 
 pub returns-clause-rows : goal.returns-clause-rows
-returns-clause-rows c = λ ended. rows_weigh _ _ (returns-clause-ended c ended)
+returns-clause-rows c = λ ended. same-flat_map rows_of_piece (returns-clause-ended c ended)

@@ -1,0 +1,4 @@
+pub mod DigitLemmas
+pub mod DayLemmas
+pub mod LengthLemmas
+pub mod CallLemmas

@@ -1,0 +1,34 @@
+//! What follows from the definitions.
+ghost use Rattle.std.specs.Prelude.{IsTrue};
+ghost use Rattle.sql_functions.specs.CallTypes.{call_type};
+ghost use Rattle.sql_functions.specs.Calls.{binary_of, unary_of};
+ghost use Rattle.sql_values.specs.Cells.{lent_value};
+ghost use Rattle.sql_values.specs.Types.{has_type};
+ghost use Rattle.type_laws.specs.Keeps.{KeepsType};
+
+use sql_functions::CallName;
+use sql_values::{SqlType, ValueRef};
+
+/// The law that a call of one argument, of a value of the type, gives a value of the type of the call
+/// where it gives one.
+#[tactic(auto, using(crate::proofs::CallLemmas::unary_keeps))]
+pub fn calls_of_one_keep_types(name: CallName, kind: SqlType, value: ValueRef<'_>)
+    requires has_type { IsTrue (has_type kind (lent_value value)) }
+    ensures { KeepsType (call_type name kind SqlType.Boolean) (unary_of name kind (lent_value value.entry)) }
+{}
+
+/// The law that a call of two arguments, of values of the types, gives a value of the type of the call
+/// where it gives one.
+#[tactic(auto, using(crate::proofs::CallLemmas::binary_keeps))]
+pub fn calls_of_two_keep_types(
+    name: CallName,
+    left: SqlType,
+    right: SqlType,
+    first: ValueRef<'_>,
+    second: ValueRef<'_>,
+)
+    requires left { IsTrue (has_type left (lent_value first)) }
+    requires right { IsTrue (has_type right (lent_value second)) }
+    ensures { KeepsType (call_type name left right)
+        (binary_of name left right (lent_value first.entry) (lent_value second.entry)) }
+{}

@@ -1,5 +1,5 @@
 -- Calls of values of their types give values of the type of the call.
-use Rattle.std.proofs.Common.{◌≡◌, ℕ, ◌+◌, ◌≤◌, ◌^◌, ◌<◌, ◌++◌, ◌+ℤ◌, List, Bool, true, false, if◌then◌else◌, Option, Some, None, ℤ, pos, refl, arith, lit<, sym, length-append}
+use Rattle.std.proofs.Common.{◌≡◌, ℕ, ◌+◌, ◌≤◌, ◌^◌, ◌<◌, ◌++◌, ◌+ℤ◌, List, Bool, true, false, if◌then◌else◌, Option, Some, None, ℤ, pos, refl, arith, lit<, length-append}
 use Rattle.std.specs.Prelude.{Ok, Err, neg_ℤ, nat_le, length, ◌*ℤ◌, ◌||◌, chars, is_some, int_div, int_rem, unsigned_abs, ◌-ℤ◌}
 use Rattle.std.specs.Ordering.{int_eq}
 use Rattle.std.proofs.lemmas.Bool.Decides.{nat_tests}

@@ -26,7 +26,7 @@ bounds_of_type p s h = grind (arith, nat_tests)
 pub type_of_bounds : (p s : ℕ) → 1 ≤ p → p ≤ 38 → s ≤ p → is_decimal_type p s ≡ true
 type_of_bounds p s some most scale = grind (arith, nat_tests)
 
-digits_below : (p : ℕ) (z : ℤ) → has_digits p z ≡ true → nat_abs z < 10 ^ p
+pub digits_below : (p : ℕ) (z : ℤ) → has_digits p z ≡ true → nat_abs z < 10 ^ p
 digits_below p z h = grind (arith, nat_tests)
 
 below_digits : (p : ℕ) (z : ℤ) → nat_abs z < 10 ^ p → has_digits p z ≡ true

@@ -1,12 +1,11 @@
 -- The lengths of texts: a text has no more code points than bytes, and the text of a value is short.
 use Rattle.std.proofs.Common.{◌≡◌, ℕ, zero, suc, ◌+◌, ◌-◌, ◌/◌, ◌%◌, ◌<◌, ◌≤◌, ◌^◌, List, [], ◌∷◌, ◌++◌, length, Bool, true, false, replicate, refl, arith, lit<, ℤ, pos, negsuc, ◌+ℤ◌, unsigned_abs, nat_abs, if◌then◌else◌, length-append}
-use Rattle.std.specs.Prelude.{◌*◌, ◌==◌, nat_le}
+use Rattle.std.specs.Prelude.{◌*◌, ◌==◌}
 use Rattle.std.specs.Str.{chars, chars_after, continuation_len, lead_bits}
 use Rattle.std.specs.Fmt.{decimal, signed_decimal}
 use Rattle.std.proofs.lemmas.Bool.Decides.{nat_tests}
 use Rattle.std.proofs.lemmas.Fmt.{length-decimal-le_wide, length_signed_le}
 use Rattle.std.proofs.lemmas.List.{length-replicate}
-use Rattle.decimals.proofs.MagnitudeLemmas.{power_positive}
 use Rattle.scalar_texts.specs.Booleans.{boolean_text}
 use Rattle.scalar_texts.specs.Numbers.{has_64_bits, padded}
 use Rattle.scalar_texts.specs.Decimals.{decimal_text, magnitude_text, pointed_text}

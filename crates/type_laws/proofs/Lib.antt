@@ -2,3 +2,4 @@ pub mod DigitLemmas
 pub mod DayLemmas
 pub mod LengthLemmas
 pub mod CallLemmas
+pub mod CastLemmas

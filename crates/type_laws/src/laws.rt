@@ -1,9 +1,10 @@
 //! What follows from the definitions.
 ghost use Rattle.std.specs.Prelude.{IsTrue};
-ghost use Rattle.sql_functions.specs.CallTypes.{call_type};
+ghost use Rattle.sql_functions.specs.CallTypes.{call_type, can_cast};
 ghost use Rattle.sql_functions.specs.Calls.{binary_of, unary_of};
+ghost use Rattle.sql_functions.specs.Casts.{cast_of};
 ghost use Rattle.sql_values.specs.Cells.{lent_value};
-ghost use Rattle.sql_values.specs.Types.{has_type};
+ghost use Rattle.sql_values.specs.Types.{IsType, has_type};
 ghost use Rattle.type_laws.specs.Keeps.{KeepsType};
 
 use sql_functions::CallName;
@@ -31,4 +32,14 @@ pub fn calls_of_two_keep_types(
     requires right { IsTrue (has_type right (lent_value second)) }
     ensures { KeepsType (call_type name left right)
         (binary_of name left right (lent_value first.entry) (lent_value second.entry)) }
+{}
+
+/// The law that a cast that there is, of a value of the one type, gives a value of the other where it
+/// gives one.
+#[tactic(auto, using(crate::proofs::CastLemmas::cast_keeps))]
+pub fn casts_keep_types(from: SqlType, to: SqlType, value: ValueRef<'_>)
+    requires is_type { IsType to }
+    requires can_cast { IsTrue (can_cast from to) }
+    requires has_type { IsTrue (has_type from (lent_value value)) }
+    ensures { KeepsType to (cast_of from to (lent_value value.entry)) }
 {}

@@ -19,7 +19,7 @@ use Rattle.sql_functions.specs.DecimalNumbers.{decimal_parts, from_units}
 use Rattle.sql_functions.specs.Casts.{bigint_of_decimal, bigint_of_units, cast_of, decimal_of_decimal, from_text, to_decimal}
 use Rattle.sql_functions.specs.CallTypes.{can_cast}
 use Rattle.type_laws.specs.Keeps.{KeepsType}
-use Rattle.type_laws.proofs.DigitLemmas.{bounds_of_type, digits_below, is_number, rescaled_is_number, tests_of, type_of_bounds}
+use Rattle.type_laws.proofs.DigitLemmas.{bounds_of_type, digits_below, of_type, rescaled_is_number, tests_of, type_of_bounds}
 use Rattle.type_laws.proofs.DayLemmas.{read_is_day}
 use Rattle.type_laws.proofs.LengthLemmas.{bigint_within, boolean_within, date_within, decimal_within}
 use Rattle.type_laws.proofs.CallLemmas.{bigint_by, bigint_has_64_bits, text_is_short, units_keep}
@@ -38,7 +38,7 @@ read_units : (p s : ℕ) (text : List ℕ) (z : ℤ) → IsType (type.Decimal p 
 read_units p s text z is e =
     let small = passed (has_digits p) (signed_of (magnitude_of s) text) z e in
     let within : nat_abs z < 10 ^ p = grind (arith, nat_tests) in
-    is_number z p s (type_of_bounds p s is.0 is.1 is.2) within
+    of_type z p s (type_of_bounds p s is.0 is.1 is.2) within
 
 read_cases : {A : Type 0} (k : SqlType) (make : A → Value) (o : Option A) → ((x : A) → o ≡ Some x → has_type k (make x) ≡ true) → KeepsType k (from_text (option_map make o))
 read_cases k make (Some x) each = each x refl

@@ -59,9 +59,14 @@ first_day = day_count-early (pos 1) 10000 1 1 refl (omega arith) (omega arith) (
 
 not_before_first : (y m d : ℕ) → 1 ≤ y → 1 ≤ d → 3_652_791 ≤ day_count (pos y) m d
 not_before_first y m d year day =
-    omega (arith, signed_arith, first_day, day_count-day_of_year (pos y) m d day,
-    day_count-next_year (pos 0) (pos 1) (omega (arith, signed_arith)) refl,
-    day_count-later_year (pos 0) (pos y) (omega (arith, signed_arith)) (omega (arith, signed_arith)))
+    omega (
+      arith,
+      signed_arith,
+      first_day,
+      day_count-day_of_year (pos y) m d day,
+      day_count-next_year (pos 0) (pos 1) (omega (arith, signed_arith)) refl,
+      day_count-later_year (pos 0) (pos y) (omega (arith, signed_arith)) (omega (arith, signed_arith)),
+    )
 
 number_is_day : (d : CalendarDay) → is_day d ≡ true → has_date (days_from_civil (pos d.year) d.month d.day) ≡ true
 number_is_day d h =

@@ -32,8 +32,8 @@ digits_below p z h = grind (arith, nat_tests)
 below_digits : (p : ℕ) (z : ℤ) → nat_abs z < 10 ^ p → has_digits p z ≡ true
 below_digits p z h = grind (arith, nat_tests)
 
-pub is_number : (z : ℤ) (p s : ℕ) → is_decimal_type p s ≡ true → nat_abs z < 10 ^ p → is_some (checked_parts z p s) ≡ true
-is_number z p s kind small = rw (kind, below_digits p z small) refl
+pub of_type : (z : ℤ) (p s : ℕ) → is_decimal_type p s ≡ true → nat_abs z < 10 ^ p → is_some (checked_parts z p s) ≡ true
+of_type z p s kind small = rw (kind, below_digits p z small) refl
 
 -- the number with its type
 abbrev number : (z : ℤ) (p s : ℕ) → is_some (checked_parts z p s) ≡ true → Decimal
@@ -58,25 +58,25 @@ product_type_is p s q r h j within =
 pub sum_is_number : (a b z : ℤ) (p s q r : ℕ) → is_some (checked_parts a p s) ≡ true → is_some (checked_parts b q r) ≡ true
     → sum_of (a, p, s) (b, q, r) ≡ Some z → is_some (checked_parts z (sum_precision p s q r) (sum_scale s r)) ≡ true
 sum_is_number a b z p s q r h j e =
-    is_number z (sum_precision p s q r) (sum_scale s r) (sum_type_is p s q r (tests_of a p s h).0 (tests_of b q r j).0)
+    of_type z (sum_precision p s q r) (sum_scale s r) (sum_type_is p s q r (tests_of a p s h).0 (tests_of b q r j).0)
     (sum_in_range (number a p s h) (number b q r j) z e)
 
 pub difference_is_number : (a b z : ℤ) (p s q r : ℕ) → is_some (checked_parts a p s) ≡ true → is_some (checked_parts b q r) ≡ true
     → difference_of (a, p, s) (b, q, r) ≡ Some z → is_some (checked_parts z (sum_precision p s q r) (sum_scale s r)) ≡ true
 difference_is_number a b z p s q r h j e =
-    is_number z (sum_precision p s q r) (sum_scale s r) (sum_type_is p s q r (tests_of a p s h).0 (tests_of b q r j).0)
+    of_type z (sum_precision p s q r) (sum_scale s r) (sum_type_is p s q r (tests_of a p s h).0 (tests_of b q r j).0)
     (difference_in_range (number a p s h) (number b q r j) z e)
 
 pub product_is_number : (a b z : ℤ) (p s q r : ℕ) → is_some (checked_parts a p s) ≡ true → is_some (checked_parts b q r) ≡ true → nat_le (s + r) 38 ≡ true
     → product_of (a, p, s) (b, q, r) ≡ Some z → is_some (checked_parts z (product_precision p q) (s + r)) ≡ true
 product_is_number a b z p s q r h j within e =
-    is_number z (product_precision p q) (s + r) (product_type_is p s q r (tests_of a p s h).0 (tests_of b q r j).0 within)
+    of_type z (product_precision p q) (s + r) (product_type_is p s q r (tests_of a p s h).0 (tests_of b q r j).0 within)
     (product_in_range (number a p s h) (number b q r j) z e)
 
 pub opposite_is_number : (z : ℤ) (p s : ℕ) → is_some (checked_parts z p s) ≡ true → is_some (checked_parts (neg_ℤ z) p s) ≡ true
 opposite_is_number z p s h =
     let tests = tests_of z p s h in
-    is_number (neg_ℤ z) p s tests.0 (rw (nat_abs-neg_ℤ z) (digits_below p z tests.1))
+    of_type (neg_ℤ z) p s tests.0 (rw (nat_abs-neg_ℤ z) (digits_below p z tests.1))
 
 -- of two numbers the one that is taken has the digits
 either_has : (b : Bool) (p : ℕ) (x y z : ℤ) → (if b then of_digits p x else of_digits p y) ≡ Some z → nat_abs z < 10 ^ p
@@ -85,4 +85,4 @@ either_has false p x y z e = (of_digits_some p y z e).1
 
 pub rescaled_is_number : (a : Parts) (p s : ℕ) (z : ℤ) → is_decimal_type p s ≡ true → rescaled a p s ≡ Some z → is_some (checked_parts z p s) ≡ true
 rescaled_is_number a p s z kind e =
-    is_number z p s kind (either_has (nat_le a.2 s) p (scaled (s - a.2) a.0) (rounded (a.2 - s) a.0) z e)
+    of_type z p s kind (either_has (nat_le a.2 s) p (scaled (s - a.2) a.0) (rounded (a.2 - s) a.0) z e)

@@ -3,3 +3,4 @@ pub mod DayLemmas
 pub mod LengthLemmas
 pub mod CallLemmas
 pub mod CastLemmas
+pub mod ValueLemmas

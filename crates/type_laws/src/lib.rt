@@ -11,4 +11,7 @@
 
 mod laws;
 
-pub use laws::{calls_of_one_keep_types, calls_of_two_keep_types, casts_keep_types};
+pub use laws::{
+    calls_of_one_keep_types, calls_of_two_keep_types, calls_of_values_give_values,
+    casts_keep_types, casts_of_values_give_values,
+};

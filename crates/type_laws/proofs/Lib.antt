@@ -4,3 +4,4 @@ pub mod LengthLemmas
 pub mod CallLemmas
 pub mod CastLemmas
 pub mod ValueLemmas
+pub mod FormLemmas

@@ -1,14 +1,19 @@
 //! What follows from the definitions.
-ghost use Rattle.std.specs.Prelude.{◌≢◌, IsTrue, Ok};
+ghost use Rattle.std.specs.Prelude.{◌≡◌, ◌≢◌, IsTrue, Ok};
 ghost use Rattle.sql_functions.specs.CallTypes.{call_type, can_cast, takes_one, takes_two};
 ghost use Rattle.sql_functions.specs.Calls.{binary_of, unary_of};
 ghost use Rattle.sql_functions.specs.Casts.{cast_of};
 ghost use Rattle.sql_values.specs.Cells.{lent_value};
-ghost use Rattle.sql_values.specs.Types.{IsType, has_type};
-ghost use Rattle.type_laws.specs.Keeps.{KeepsType};
+ghost use Rattle.sql_values.specs.Types.{IsType, has_type, row_has_types};
+ghost use Rattle.sql_exprs.specs.Forms.{form_view};
+ghost use Rattle.sql_exprs.specs.Meaning.{value_of};
+ghost use Rattle.sql_exprs.specs.Typing.{form_type};
+ghost use Rattle.type_laws.specs.Keeps.{CastsToTypes, KeepsType};
 
+use plan_places::Step;
+use sql_exprs::Expr;
 use sql_functions::CallName;
-use sql_values::{SqlType, Value, ValueRef};
+use sql_values::{Row, SqlType, Value, ValueRef};
 
 /// The law that a call of one argument, of a value of the type, gives a value of the type of the call
 /// where it gives one.
@@ -74,4 +79,20 @@ pub fn casts_of_values_give_values(from: SqlType, to: SqlType, value: ValueRef<'
     requires has_type { IsTrue (has_type from (lent_value value)) }
     requires not_null { lent_value value ≢ Value.Null }
     ensures { cast_of from to (lent_value value.entry) ≢ Ok Value.Null }
+{}
+
+/// The law that the value of a typed expression on a row that has its columns' types, if there is one,
+/// has the expression's type, where each type that a cast names is a type.
+#[tactic(auto, using(crate::proofs::FormLemmas::value_keeps))]
+pub fn typed_expressions_keep_types(
+    columns: &[SqlType],
+    row: &Row,
+    path: &[Step],
+    expr: &Expr,
+    kind: SqlType,
+)
+    requires row { IsTrue (row_has_types columns.now row.now) }
+    requires casts { CastsToTypes (form_view expr.now) }
+    requires typed { form_type columns.now path.now (form_view expr.now) ≡ Ok kind }
+    ensures { KeepsType kind (value_of columns.now (form_view expr.now) row.now) }
 {}

@@ -10,4 +10,7 @@
 
 mod laws;
 
-pub use laws::results_of_groups_have_types;
+pub use laws::{
+    partial_rows_have_types, results_of_groups_have_types, typed_partial_rows_are_taken,
+    typed_rows_are_taken,
+};

@@ -3,3 +3,5 @@ pub mod QuotientLemmas
 pub mod DigitLemmas
 pub mod SumLemmas
 pub mod GroupLemmas
+pub mod PartialLemmas
+pub mod TakenLemmas

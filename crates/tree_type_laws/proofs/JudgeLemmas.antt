@@ -1,6 +1,7 @@
 -- The rows that filters and projects keep have their types.
 use Rattle.std.proofs.Common.{◌≡◌, ◌∙◌, ap, sym, refl, Bool, true, false, List, [], ◌∷◌, map, subst}
 use Rattle.std.specs.Prelude.{All, Result, Ok, Err, if◌then◌else◌}
+use Rattle.std.proofs.lemmas.Bool.{and_from}
 use Rattle.std.proofs.lemmas.List.Elements.{All-cons, All-nil}
 use Rattle.sql_values.specs.declared.types.SqlType.{SqlType}
 use Rattle.sql_values.specs.declared.value.Value.{Value}
@@ -20,7 +21,7 @@ use Rattle.page_judges.proofs.ProjectLemmas.{ok_same}
 use Rattle.type_laws.specs.Keeps.{CastsToTypes, KeepsType}
 use Rattle.type_laws.proofs.FormLemmas.{value_keeps}
 use Rattle.tree_type_laws.specs.TypedTrees.{EachCastsToTypes}
-use Rattle.tree_type_laws.proofs.RowLemmas.{Has, both}
+use Rattle.tree_type_laws.proofs.RowLemmas.{Has}
 
 one : (types : List SqlType) (row : List Value) → Has types row → All (Has types) (row ∷ [])
 one types row h = All-cons (Has types) row [] h (All-nil (Has types))
@@ -51,7 +52,7 @@ values_at : (types : List SqlType) (form : Form) (forms : List Form) (row : List
 values_at types form forms row (Ok v) (Ok ws) vs typed casts has h l further e =
     let same : v ∷ ws ≡ vs = ok_same (all_values (Ok v ∷ map (λ c. value_of types c row) forms)) (v ∷ ws) vs (ap (with_first v) l) e in
     subst (λ xs. row_has_types (kind_of types form ∷ map (kind_of types) forms) xs ≡ true) same
-    (both (has_type (kind_of types form) v) (row_has_types (map (kind_of types) forms) ws) (value_has_type types form row v typed casts has h) (further ws l))
+    (and_from (has_type (kind_of types form) v) (row_has_types (map (kind_of types) forms) ws) (value_has_type types form row v typed casts has h) (further ws l))
 values_at types form forms row (Ok v) (Err kind) vs typed casts has h l further e = let no : with_first v (Err kind) ≡ Ok vs = ap (with_first v) (sym l) ∙ e in cc
 values_at types form forms row (Err kind) later vs typed casts has h l further e = cc
 

@@ -17,17 +17,17 @@ use Rattle.plan_trees.specs.Stopped.{MayHaveGiven}
 use Rattle.plan_trees.specs.TreeForms.{TreeForm, scan, values, remote, filter, project, join, aggregate, sort, topn, limit, union}
 use Rattle.plan_trees.specs.TreeTypes.{call_kind, types_of}
 use Rattle.tree_evaluator.specs.Fits.{FitsTables}
-use Rattle.group_type_laws.proofs.GroupLemmas.{groups_keep}
+use Rattle.group_type_laws.proofs.GroupLemmas.{groups_keep, rows_from_test, test_from_rows}
 use Rattle.tree_type_laws.specs.TypedTrees.{HaveTypes, TypedTables}
-use Rattle.tree_type_laws.proofs.RowLemmas.{All-beginning, All-sub, Has, each_has, have_each}
+use Rattle.tree_type_laws.proofs.RowLemmas.{All-beginning, All-sub, Has}
 use Rattle.tree_type_laws.proofs.JudgeLemmas.{filter_keeps, project_keeps}
 use Rattle.tree_type_laws.proofs.JoinLemmas.{join_keeps}
 
 groups_have : (types : List SqlType) (keys : List ℕ) (calls : List Call) (rows : List (List Value)) → IsTrue (are_allowed types calls) → All (Has types) rows
     → All (Has (map (type_at types) keys ++ map (call_kind types) calls)) (flat_map kept (groups_of types keys calls rows))
 groups_have types keys calls rows allowed all =
-    each_has (map (type_at types) keys ++ map (call_kind types) calls) (flat_map kept (groups_of types keys calls rows))
-    (groups_keep types keys calls rows allowed (have_each types rows all))
+    rows_from_test (map (type_at types) keys ++ map (call_kind types) calls) (flat_map kept (groups_of types keys calls rows))
+    (groups_keep types keys calls rows allowed (test_from_rows types rows all))
 
 -- both sides of a union
 union_has : (ks ls : List SqlType) (A B : List (List Value)) → ks ≡ ls → All (Has ks) A → All (Has ls) B → All (Has ks) (A ++ B)
@@ -36,8 +36,8 @@ union_has ks ls A B same a b = All-append (Has ks) A B a (subst (λ (ts : List S
 given_have : (mode : Mode) (tree : TreeForm) (tables : List (List (List Value))) → FitsTables tree tables → TypedTables tree tables → (rows : List (List Value)) → Gives mode tree tables rows
     → All (Has (types_of tree)) rows
 given_have mode (scan id table columns types) tables fit typed rows gives =
-    All-permutation (Has types) (scanned tables table columns) rows gives (each_has types (scanned tables table columns) typed)
-given_have mode (values id types constants) tables fit typed rows gives = All-permutation (Has types) constants rows gives (each_has types constants typed)
+    All-permutation (Has types) (scanned tables table columns) rows gives (rows_from_test types (scanned tables table columns) typed)
+given_have mode (values id types constants) tables fit typed rows gives = All-permutation (Has types) constants rows gives (rows_from_test types constants typed)
 given_have mode (remote id input) tables fit typed rows gives =
     All-permutation (Has (types_of input)) gives.0 rows gives.2 (given_have mode input tables fit typed gives.0 gives.1)
 given_have mode (filter id predicate input) tables fit typed rows gives =
@@ -69,8 +69,8 @@ given_have mode (union id left right) tables fit typed rows gives =
 stopped_have : (tree : TreeForm) (tables : List (List (List Value))) → FitsTables tree tables → TypedTables tree tables → (rows : List (List Value)) → MayHaveGiven tree tables rows
     → All (Has (types_of tree)) rows
 stopped_have (scan id table columns types) tables fit typed rows given =
-    All-sub (Has types) rows (scanned tables table columns) given (each_has types (scanned tables table columns) typed)
-stopped_have (values id types constants) tables fit typed rows given = All-sub (Has types) rows constants given (each_has types constants typed)
+    All-sub (Has types) rows (scanned tables table columns) given (rows_from_test types (scanned tables table columns) typed)
+stopped_have (values id types constants) tables fit typed rows given = All-sub (Has types) rows constants given (rows_from_test types constants typed)
 stopped_have (remote id input) tables fit typed rows given = All-sub (Has (types_of input)) rows given.0 given.2 (stopped_have input tables fit typed given.0 given.1)
 stopped_have (filter id predicate input) tables fit typed rows given =
     subst (All (Has (types_of input))) (sym given.2) (filter_keeps (types_of input) predicate given.0 (stopped_have input tables fit.1 typed.1 given.0 given.1))
@@ -96,8 +96,8 @@ stopped_have (union id left right) tables fit typed rows given =
 
 pub rows_keep : (mode : Mode) (tree : TreeForm) (tables : List (List (List Value))) → FitsTables tree tables → TypedTables tree tables → (rows : List (List Value)) → Gives mode tree tables rows
     → HaveTypes (types_of tree) rows
-rows_keep mode tree tables fit typed rows gives = have_each (types_of tree) rows (given_have mode tree tables fit typed rows gives)
+rows_keep mode tree tables fit typed rows gives = test_from_rows (types_of tree) rows (given_have mode tree tables fit typed rows gives)
 
 pub stopped_rows_keep : (tree : TreeForm) (tables : List (List (List Value))) → FitsTables tree tables → TypedTables tree tables → (rows : List (List Value)) → MayHaveGiven tree tables rows
     → HaveTypes (types_of tree) rows
-stopped_rows_keep tree tables fit typed rows given = have_each (types_of tree) rows (stopped_have tree tables fit typed rows given)
+stopped_rows_keep tree tables fit typed rows given = test_from_rows (types_of tree) rows (stopped_have tree tables fit typed rows given)

@@ -3,6 +3,10 @@ use Rattle.std.proofs.Common.{◌≡◌, ℕ, zero, suc, ◌+◌, List, [], ◌�
 use Rattle.std.specs.Prelude.{Result, Ok, Err, not, ◌&&◌, slice_get}
 use Rattle.std.specs.List.{list_all, list_any}
 use Rattle.plan_places.specs.declared.key.Key.TheVariants as key
+use Rattle.std.proofs.lemmas.Bool.{and_from}
+use Rattle.sql_values.proofs.BlockLemmas.{typed_fits}
+use Rattle.sql_values.specs.Blocks.{fits}
+use Rattle.sql_values.specs.ColumnRows.{fits_row}
 use Rattle.sql_values.specs.declared.types.SqlType.{SqlType}
 use Rattle.sql_values.specs.declared.types.SqlType.TheVariants as type
 use Rattle.sql_values.specs.declared.value.Value.{Value}
@@ -166,3 +170,12 @@ mutual
       decided_keeps o (value_of types test row) (value_of types result row) (chosen_of (branches_of types others row))
       (subst (λ (u : SqlType). KeepsType u (value_of types result row)) same (value_keeps types row f (under (entry path i) key.Then) result r c.1 h2))
       (choice_keeps types row f path (i + 1) others rest c.2 h3 o fit.1))))
+
+-- values of their types have the variants of these
+pub typed_row_fits : (types : List SqlType) (row : List Value) → row_has_types types row ≡ true → fits_row types row ≡ true
+typed_row_fits [] [] h = refl
+typed_row_fits [] (v ∷ row) h = cc
+typed_row_fits (kind ∷ types) [] h = cc
+typed_row_fits (kind ∷ types) (v ∷ row) h =
+    let parts = both_true (has_type kind v) (row_has_types types row) h in
+    and_from (fits kind v) (fits_row types row) (typed_fits kind v parts.0) (typed_row_fits types row parts.1)

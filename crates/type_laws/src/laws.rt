@@ -4,6 +4,7 @@ ghost use Rattle.sql_functions.specs.CallTypes.{call_type, can_cast, takes_one, 
 ghost use Rattle.sql_functions.specs.Calls.{binary_of, unary_of};
 ghost use Rattle.sql_functions.specs.Casts.{cast_of};
 ghost use Rattle.sql_values.specs.Cells.{lent_value};
+ghost use Rattle.sql_values.specs.ColumnRows.{fits_row};
 ghost use Rattle.sql_values.specs.Types.{IsType, has_type, row_has_types};
 ghost use Rattle.sql_exprs.specs.Forms.{form_view};
 ghost use Rattle.sql_exprs.specs.Meaning.{value_of};
@@ -95,4 +96,11 @@ pub fn typed_expressions_keep_types(
     requires casts { CastsToTypes (form_view expr.now) }
     requires typed { form_type columns.now path.now (form_view expr.now) ≡ Ok kind }
     ensures { KeepsType kind (value_of columns.now (form_view expr.now) row.now) }
+{}
+
+/// The law that a row which has types fits them: each of its values has the variant of its type, or is NULL.
+#[tactic(auto, using(crate::proofs::FormLemmas::typed_row_fits))]
+pub fn typed_rows_fit(types: &[SqlType], row: &Row)
+    requires { IsTrue (row_has_types types.now row.now) }
+    ensures { IsTrue (fits_row types.now row.now) }
 {}

@@ -1,0 +1,5 @@
+pub mod TypeLemmas
+pub mod QuotientLemmas
+pub mod DigitLemmas
+pub mod SumLemmas
+pub mod GroupLemmas

@@ -1,0 +1,35 @@
+//! What follows from the definitions, of rows that have their types.
+ghost use Rattle.std.specs.Prelude.{◌≡◌, ◌∷◌, ◌++◌, List, IsTrue, Ok, flat_map, length, map};
+ghost use Rattle.std.specs.List.{list_all};
+ghost use Rattle.sql_values.specs.declared.value.Value.{Value as Cell};
+ghost use Rattle.sql_values.specs.Types.{row_has_types, rows_have_types};
+ghost use Rattle.sql_functions.specs.CallTypes.{type_at};
+ghost use Rattle.relations.specs.Aggregates.{aggregates_of};
+ghost use Rattle.relations.specs.Groups.{groups_of};
+ghost use Rattle.relations.specs.Partials.{partial_of};
+ghost use Rattle.relations.specs.Verdicts.{kept};
+ghost use Rattle.plan_trees.specs.TreeTypes.{call_kind};
+ghost use Rattle.bag_laws.specs.Pieces.{partials_of};
+ghost use Rattle.accumulators.specs.Columns.{kind_in};
+ghost use Rattle.accumulators.specs.Limits.{are_allowed, is_partial, takes_row};
+
+use sql_values::{Call, Row, RowList, SqlType};
+
+/// The law that the results of calls over a group have the types of the calls, and that the rows of
+/// groups, each its key and its results, have the types of the key columns and of the calls.
+#[tactic(auto, using(crate::proofs::GroupLemmas::aggregates_keep, crate::proofs::GroupLemmas::groups_keep))]
+pub fn results_of_groups_have_types(
+    types: &[SqlType],
+    keys: &[u32],
+    calls: &[Call],
+    rows: &RowList,
+)
+    requires allowed { IsTrue (are_allowed types.now calls.now) }
+    requires typed { IsTrue (rows_have_types types.now rows.now) }
+    ensures whole { (results : List Cell) → aggregates_of types.now calls.now rows.now ≡ Ok results →
+        IsTrue (row_has_types (map (call_kind types.now) calls.now) results) }
+    ensures groups { IsTrue (rows_have_types
+        (map (type_at types.now) keys.now ++ map (call_kind types.now) calls.now)
+        (flat_map kept (groups_of types.now keys.now calls.now rows.now))) }
+{}
+

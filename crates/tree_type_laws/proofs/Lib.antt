@@ -1,0 +1,4 @@
+pub mod RowLemmas
+pub mod JudgeLemmas
+pub mod JoinLemmas
+pub mod TreeLemmas

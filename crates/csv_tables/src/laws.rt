@@ -7,7 +7,7 @@ ghost use Rattle.sql_values.specs.ColumnRows.{fits_row};
 ghost use Rattle.sql_values.specs.Cells.{lent_value};
 ghost use Rattle.scalar_texts.specs.Dates.{has_date};
 ghost use Rattle.sql_values.specs.Texts.{longest_text};
-ghost use Rattle.sql_values.specs.Types.{IsType, has_type};
+ghost use Rattle.sql_values.specs.Types.{IsType, has_type, rows_have_types};
 ghost use Rattle.sql_values.specs.declared.types.SqlType.TheVariants as type;
 ghost use Rattle.sql_values.specs.declared.value.Value.TheVariants as value;
 
@@ -24,6 +24,13 @@ pub fn records_are_one(text: &[u8])
 pub fn rows_of_a_table_fit(columns: &[Column], limit: u32, bytes: &[u8], rows: &RowList)
     requires { IsTable columns.now limit bytes.now rows.now }
     ensures { All (λ row. IsTrue (fits_row (map (λ column. column.kind) columns.now) row)) rows.now }
+{}
+
+/// The law that each value of a table is one of its column's type, its range included, or NULL.
+pub fn rows_of_a_table_have_types(columns: &[Column], limit: u32, bytes: &[u8], rows: &RowList)
+    requires types { All (λ column. IsType column.kind) columns.now }
+    requires table { IsTable columns.now limit bytes.now rows.now }
+    ensures { IsTrue (rows_have_types (map (λ column. column.kind) columns.now) rows.now) }
 {}
 
 /// The law that a table has no more rows than it may have.

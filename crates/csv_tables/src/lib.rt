@@ -21,6 +21,9 @@ mod rows;
 mod table;
 
 pub use fault::{MALFORMED, NOT_UTF8, TOO_MANY_ROWS, TableFault, WRONG_HEADER, WRONG_WIDTH};
-pub use laws::{field_reads_back, records_are_one, rows_of_a_table_are_few, rows_of_a_table_fit};
+pub use laws::{
+    field_reads_back, records_are_one, rows_of_a_table_are_few, rows_of_a_table_fit,
+    rows_of_a_table_have_types,
+};
 pub use result_text::text_of;
 pub use table::read_table;

@@ -170,7 +170,7 @@ tree_more : (n : ℕ) (f : FragmentForm) (fs : List FragmentForm) → fragment_t
 unfolding fragment_tree
 tree_more n f fs = refl
 
-tree_first : (plan : PlanForm) (f : FragmentForm) (fs : List FragmentForm) → plan.fragments ≡ f ∷ fs → tree_of plan ≡ node_tree (fragment_tree (length fs) (f ∷ fs)) f.root
+pub tree_first : (plan : PlanForm) (f : FragmentForm) (fs : List FragmentForm) → plan.fragments ≡ f ∷ fs → tree_of plan ≡ node_tree (fragment_tree (length fs) (f ∷ fs)) f.root
 unfolding tree_of
 tree_first plan f fs same = ap (λ (l : List FragmentForm). fragment_tree (length l) l 0) same ∙ tree_more (length fs) f fs
 

@@ -1,0 +1,5 @@
+pub mod FormLemmas
+pub mod CellLemmas
+pub mod ScanLemmas
+pub mod NodeLemmas
+pub mod PlanLemmas

@@ -1,0 +1,13 @@
+ghost use Rattle.std.specs.Prelude.{◌≡◌, IsTrue, Some};
+ghost use Rattle.sql_values.specs.Texts.{value_of_text};
+ghost use Rattle.sql_values.specs.Types.{IsType, has_type};
+
+use sql_values::{SqlType, Value};
+
+/// The law that the value which a text writes has the type that the text was read as.
+#[tactic(auto, using(crate::proofs::TextLemmas::parsed_has_type))]
+pub fn parsed_values_have_types(kind: SqlType, text: &str, value: &Value)
+    requires is_type { IsType kind }
+    requires parsed { value_of_text kind text.now ≡ Some value.now }
+    ensures { IsTrue (has_type kind value.now) }
+{}

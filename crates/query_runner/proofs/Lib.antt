@@ -1,3 +1,4 @@
 pub mod AppendLemmas
 pub mod TableLemmas
 pub mod CompletenessLemmas
+pub mod TypeLemmas

@@ -1,7 +1,8 @@
 -- What each answer of a run means, by what was seen of it from outside.
-use Rattle.std.specs.Prelude.{◌≡◌, ◌⊎◌, ℕ, List, [], Option, Some, None, Result, Ok, Err}
+use Rattle.std.specs.Prelude.{◌≡◌, ◌⊎◌, ℕ, List, [], IsTrue, Option, Some, None, Result, Ok, Err}
 use Rattle.std.specs.Io.KnownBytes.{Appends}
 use Rattle.sql_values.specs.declared.fail.Fail.{Fail}
+use Rattle.sql_values.specs.Types.{rows_have_types}
 use Rattle.run_ports.specs.Counts.{Rose}
 use Rattle.run_ports.specs.Writing.{AppendsPrefix}
 use Rattle.plan_docs.specs.Plans.{PlanForm}
@@ -42,11 +43,12 @@ pub record IsTextOf (plan : PlanForm) (tables : List (List Row)) (text : List �
   pub allowed : Allows (tree_of plan) tables list
   pub is_text : text ≡ result_text plan.output (types_of (tree_of plan)) list
 
--- a text that the plan allows over the tables that were asked for
+-- a text that the plan allows over the tables that were asked for, of rows that have the types of its columns
 pub record IsResult (held : Contents) (job : Job) (plan : PlanForm) (text : List ℕ) : Type 0 where
   pub tables : List (List Row)
   pub are_tables : AreTablesAsked held job plan.tables tables
   pub is_text : IsTextOf plan tables text
+  pub typed : IsTrue (rows_have_types (types_of (tree_of plan)) is_text.list)
 
 -- the result was written whole, and nothing else
 pub record WroteResult (job : Job) (plan : PlanForm) (seen : Seen) : Type 0 where

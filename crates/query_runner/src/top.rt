@@ -131,6 +131,7 @@ fn status_of(done: Result<(), Status>) -> Status
 }
 
 /// Runs the plan over its tables.
+#[tactic(auto, using(crate::proofs::TypeLemmas::result_typed))]
 fn run_plan<R, F, O>(
     rt: &R,
     alloc: Global,

@@ -1,13 +1,10 @@
 -- Casts of values of their types give values of the type of the cast.
-use Rattle.std.proofs.Common.{◌≡◌, ℕ, ◌≤◌, ◌<◌, ◌^◌, List, Bool, true, false, if◌then◌else◌, Option, Some, None, option_and_then, ℤ, nat_abs, refl, subst, arith}
-use Rattle.std.specs.Prelude.{Ok, nat_le, option_map, length, is_some}
+use Rattle.std.proofs.Common.{◌≡◌, ℕ, ◌≤◌, List, Bool, true, false, if◌then◌else◌, Option, Some, None, ℤ, nat_abs, refl, arith}
+use Rattle.std.specs.Prelude.{Ok, nat_le, length, is_some}
 use Rattle.std.proofs.lemmas.Bool.Decides.{nat_tests}
 use Rattle.decimals.specs.Arithmetic.{Parts, checked_parts, is_decimal_type, rescaled}
 use Rattle.decimals.proofs.MagnitudeLemmas.{digits_within}
-use Rattle.scalar_texts.specs.Booleans.{boolean_of}
-use Rattle.scalar_texts.specs.Numbers.{bigint_of, has_64_bits, number_of, only_if, signed_of}
-use Rattle.scalar_texts.specs.Decimals.{decimal_of, has_digits, magnitude_of}
-use Rattle.scalar_texts.specs.Dates.{date_of}
+use Rattle.scalar_texts.specs.Numbers.{has_64_bits}
 use Rattle.sql_values.specs.declared.types.SqlType.{SqlType}
 use Rattle.sql_values.specs.declared.types.SqlType.TheVariants as type
 use Rattle.sql_values.specs.declared.value.Value.{Value}
@@ -19,41 +16,18 @@ use Rattle.sql_functions.specs.DecimalNumbers.{decimal_parts, from_units}
 use Rattle.sql_functions.specs.Casts.{bigint_of_decimal, bigint_of_units, cast_of, decimal_of_decimal, from_text, to_decimal}
 use Rattle.sql_functions.specs.CallTypes.{can_cast}
 use Rattle.type_laws.specs.Keeps.{KeepsType}
-use Rattle.type_laws.proofs.DigitLemmas.{bounds_of_type, digits_below, of_type, rescaled_is_number, tests_of, type_of_bounds}
-use Rattle.type_laws.proofs.DayLemmas.{read_is_day}
+use Rattle.type_laws.proofs.DigitLemmas.{bounds_of_type, digits_below, rescaled_is_number, tests_of}
+use Rattle.text_type_laws.proofs.TextLemmas.{parsed_has_type}
 use Rattle.type_laws.proofs.LengthLemmas.{bigint_within, boolean_within, date_within, decimal_within}
 use Rattle.type_laws.proofs.CallLemmas.{bigint_by, bigint_has_64_bits, text_is_short, units_keep}
 
 -- from varchar
-passed_by : {A : Type 0} (test : A → Bool) (y x : A) (b : Bool) → test y ≡ b → (if b then Some y else None) ≡ Some x → test x ≡ true
-passed_by test y x true h e = let same : y ≡ x = cc in subst (λ z. test z ≡ true) same h
-passed_by test y x false h e = cc
-
--- what is left by a test passes it
-passed : {A : Type 0} (test : A → Bool) (o : Option A) (x : A) → option_and_then (only_if test) o ≡ Some x → test x ≡ true
-passed test (Some y) x e = passed_by test y x (test y) refl e
-passed test None x e = cc
-
-read_units : (p s : ℕ) (text : List ℕ) (z : ℤ) → IsType (type.Decimal p s) → decimal_of p s text ≡ Some z → is_some (checked_parts z p s) ≡ true
-read_units p s text z is e =
-    let small = passed (has_digits p) (signed_of (magnitude_of s) text) z e in
-    let within : nat_abs z < 10 ^ p = grind (arith, nat_tests) in
-    of_type z p s (type_of_bounds p s is.0 is.1 is.2) within
-
-read_cases : {A : Type 0} (k : SqlType) (make : A → Value) (o : Option A) → ((x : A) → o ≡ Some x → has_type k (make x) ≡ true) → KeepsType k (from_text (option_map make o))
-read_cases k make (Some x) each = each x refl
-read_cases k make None each = tt
-
-text_by : (b : Bool) (text : List ℕ) → nat_le (length text) longest_text ≡ b → KeepsType type.Varchar (from_text (if b then Some (Varchar text) else None))
-text_by true text h = h
-text_by false text h = tt
+read_by : (k : SqlType) (o : Option Value) → ((v : Value) → o ≡ Some v → has_type k v ≡ true) → KeepsType k (from_text o)
+read_by k (Some v) typed = typed v refl
+read_by k None typed = tt
 
 read_keeps : (k : SqlType) (text : List ℕ) → IsType k → KeepsType k (from_text (value_of_text k text))
-read_keeps type.Boolean text is = read_cases type.Boolean Boolean (boolean_of text) (λ x e. refl)
-read_keeps type.Bigint text is = read_cases type.Bigint Bigint (bigint_of text) (λ x e. passed has_64_bits (signed_of number_of text) x e)
-read_keeps (type.Decimal p s) text is = read_cases (type.Decimal p s) Decimal (decimal_of p s text) (λ x e. read_units p s text x is e)
-read_keeps type.Varchar text is = text_by (nat_le (length text) longest_text) text refl
-read_keeps type.Date text is = read_cases type.Date Date (date_of text) (λ x e. read_is_day text x e)
+read_keeps k text is = read_by k (value_of_text k text) (λ v e. parsed_has_type k is text v e)
 
 -- among the numbers
 units_to_bigint : (units : Option ℤ) → KeepsType type.Bigint (bigint_of_units units)

@@ -4,6 +4,7 @@
 //! - `bells`: of `blocked`, who is kept at a bell, and that a future is ready once it was rung
 //! - `splits`: of `split_source`, that seats on one thread and on eight draw each number once, and that a scan
 //!   gives each row once, whatever the sizes of splits and pages
+//! - `turns`: of `feedback_queue`, whole sequences of offers and takes
 #![tactic(auto)]
 
 #[cfg(test)]
@@ -12,3 +13,5 @@ mod bells;
 mod cells;
 #[cfg(test)]
 mod splits;
+#[cfg(test)]
+mod turns;

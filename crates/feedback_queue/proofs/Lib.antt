@@ -1,0 +1,4 @@
+pub mod LevelLemmas
+pub mod PickLemmas
+pub mod ChangeLemmas
+pub mod ShareLemmas

@@ -1,0 +1,4 @@
+pub mod Levels
+pub mod Picks
+pub mod Queue
+pub mod Shares

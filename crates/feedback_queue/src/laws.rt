@@ -1,0 +1,39 @@
+//! What follows from the definitions.
+ghost use Rattle.std.specs.Prelude.{◌≡◌, ℕ, Some, max};
+ghost use Rattle.feedback_queue.specs.declared.best.Best.{Best};
+ghost use Rattle.feedback_queue.specs.Levels.{weight_waited, work_of};
+ghost use Rattle.feedback_queue.specs.Picks.{IsFirstOfLeast};
+ghost use Rattle.feedback_queue.specs.Queue.{IsTaken, next_in, next_level, offered, waiting_at};
+ghost use Rattle.feedback_queue.specs.Shares.{AllWait, AreWithin, OneIsEmpty};
+
+use crate::queue::Feedback;
+
+/// The law that the level that comes next is the first of the least weight of those in which somebody waits.
+#[tactic(auto, using(crate::proofs::PickLemmas::best_is_first))]
+pub fn the_lightest_level_is_next<W>(queue: &Feedback<W>)
+    ensures { (best : Best) → next_level queue.now.levels ≡ Some best → IsFirstOfLeast weight_waited queue.now.levels best }
+{}
+
+/// The law that in a level the first of those with the least work is next.
+pub fn the_least_work_is_next<W>(queue: &Feedback<W>, level: u8)
+    ensures { (best : Best) → next_in (waiting_at queue.now.levels level) ≡ Some best → IsFirstOfLeast work_of (waiting_at queue.now.levels level) best }
+{}
+
+/// The law that a take before which somebody waits in each level leaves the weights of the levels as near to each
+/// other as they were, or within 16.
+pub fn a_take_keeps_the_shares<W>(old: &Feedback<W>, new: &Feedback<W>, taken: &(u64, W))
+    requires waited { AllWait old.now.levels }
+    requires taken { IsTaken old.now taken.now new.now }
+    ensures { (gap : ℕ) → AreWithin gap old.now.levels → AreWithin (max gap 16) new.now.levels }
+{
+    old.levels_are_low();
+}
+
+/// The law that an offer before which nobody waits in one level at most leaves the weights of the levels as near to
+/// each other as they were, or within 16.
+pub fn an_offer_keeps_the_shares<W>(queue: &Feedback<W>, work: u64, waiter: &W)
+    requires { OneIsEmpty queue.now.levels }
+    ensures { (gap : ℕ) → AreWithin gap queue.now.levels → AreWithin (max gap 16) (offered work waiter.now queue.now).levels }
+{
+    queue.levels_are_low();
+}

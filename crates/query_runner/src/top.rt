@@ -1,11 +1,11 @@
 ghost use Rattle.std.specs.Prelude.{◌≡◌, ◌↔◌, ◌≤◌, ℕ, [], map, None, Ok, Err, IfOk, MatchResult};
 ghost use Rattle.plan_docs.specs.Plans.{plan_view};
-ghost use Rattle.command_line.specs.Words.{HasBounds, asked, job_of};
+ghost use Rattle.command_line.specs.Words.{HasBounds, Job as Asked, asked, job_of};
 ghost use Rattle.plan_fits.specs.Tables.{HaveColumns, WasRead};
 ghost use Rattle.task_executor.specs.Wirings.{AreFew, IsShape};
 ghost use Rattle.tree_evaluator.specs.Fits.{TablesFit};
-ghost use Rattle.query_runner.specs.Answers.{Answered, IsComplete, IsTextOf, JobAnswered, PlanAnswered, RunFails, status_of};
-ghost use Rattle.query_runner.specs.Jobs.{Contents, rows_of};
+ghost use Rattle.query_runner.specs.Answers.{Answered, IsComplete, IsResult, IsTextOf, JobAnswered, PlanAnswered, RunFails, status_of};
+ghost use Rattle.query_runner.specs.Jobs.{AreTablesAsked, Contents, rows_of};
 
 use crate::lines::{tell, tell_first};
 use crate::load::{files_of, load_plan, load_tables};
@@ -131,7 +131,6 @@ fn status_of(done: Result<(), Status>) -> Status
 }
 
 /// Runs the plan over its tables.
-#[tactic(auto, using(crate::proofs::TypeLemmas::result_typed))]
 fn run_plan<R, F, O>(
     rt: &R,
     alloc: Global,
@@ -164,9 +163,21 @@ where
     let found = files_of(alloc, job, plan.tables.as_slice())?;
     let tables = load_tables(alloc, job, plan.tables.as_slice(), found.as_slice(), files)?;
     let text = result_of(rt, alloc, &shape_of(job), plan, tables.as_slice(), &[])?;
+    results_are_typed(plan, tables.as_slice(), text.as_slice());
     write_whole(out, text.as_slice())?;
     Ok(())
 }
+
+/// The law that a text which the plan allows over tables that were read has rows of the types of its columns.
+fn results_are_typed(plan: &Plan, tables: &[Table], text: &[u8])
+    requires read { WasRead (plan_view plan.now) }
+    requires columns { HaveColumns (plan_view plan.now).tables tables.now }
+    requires fit { TablesFit tables.now }
+    ensures { (held : Contents) (job : Asked)
+        → AreTablesAsked held job (plan_view plan.now).tables (map rows_of tables.now)
+        → IsTextOf (plan_view plan.now) (map rows_of tables.now) text.now
+        → IsResult held job (plan_view plan.now) text.now }
+{}
 
 /// The text of what the plan gives over its tables, under these picks of drivers.
 pub fn result_of<R>(

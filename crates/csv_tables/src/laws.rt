@@ -20,7 +20,7 @@ pub fn records_are_one(text: &[u8])
         → records_of text.now ≡ found }
 {}
 
-/// The law that each row of a table has, in each column, a value of the column's type or NULL.
+/// The law that each row of a table has, in each column, a value of the variant of the column's type or NULL.
 pub fn rows_of_a_table_fit(columns: &[Column], limit: u32, bytes: &[u8], rows: &RowList)
     requires { IsTable columns.now limit bytes.now rows.now }
     ensures { All (λ row. IsTrue (fits_row (map (λ column. column.kind) columns.now) row)) rows.now }

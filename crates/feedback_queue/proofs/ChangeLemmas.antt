@@ -1,12 +1,11 @@
 -- A list with one item changed, and levels of which one was offered to or gave a turn.
-use Rattle.std.proofs.Common.{◌≡◌, ℕ, ◌<◌, zero, suc, List, [], ◌∷◌, Option, Some, None, length, map, refl, sym, ap, ◌∙◌, subst, slice_get, slice_set, arith}
+use Rattle.std.proofs.Common.{◌≡◌, ℕ, zero, suc, List, [], ◌∷◌, Option, Some, None, map, refl, sym, ap, ◌∙◌, subst, slice_get, slice_set}
 use Rattle.std.specs.Prelude.{flat_map, unwrap_or, option_map, option_and_then, MatchOption, OnOk, IfErr, Result, Ok, Err}
 use Rattle.std.proofs.lemmas.Option.{none-some}
 use Rattle.feedback_queue.specs.declared.best.Best.{Best}
 use Rattle.feedback_queue.specs.declared.level.Entry.{Entry}
 use Rattle.feedback_queue.specs.Levels.{LevelState, weight_if, weight_waited}
-use Rattle.feedback_queue.specs.Picks.{best_from}
-use Rattle.feedback_queue.specs.Queue.{FeedbackState, IsNext, IsTaken, TakenAt, TakenFrom, changed_at, gave_turn, held, next_in, next_level, offered_to, pick_of, waiting_at, with_entry, caught_up}
+use Rattle.feedback_queue.specs.Queue.{FeedbackState, IsNext, IsTaken, TakenAt, TakenFrom, changed_at, gave_turn, held, next_in, next_level, offered_to, waiting_at, with_entry, caught_up}
 use Rattle.feedback_queue.proofs.PickLemmas.{best_is_first, none_measured}
 
 pub on_ok : {A E : Type 0} {P Q : Type 0} (r : Result A E) → (P → Q) → OnOk r P → OnOk r Q

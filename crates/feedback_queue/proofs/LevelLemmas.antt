@@ -1,5 +1,5 @@
 -- What a turn of a level weighs.
-use Rattle.std.proofs.Common.{◌≡◌, ℕ, ◌+◌, ◌-◌, ◌*◌, ◌/◌, ◌^◌, ◌<◌, ◌≤◌, max, zero, suc, arith}
+use Rattle.std.proofs.Common.{ℕ, ◌+◌, ◌-◌, ◌*◌, ◌/◌, ◌^◌, ◌<◌, ◌≤◌, max, zero, suc, arith}
 
 pub power_few : (n : ℕ) → n ≤ 4 → 2 ^ n ≤ 16
 power_few zero few = omega arith

@@ -1,12 +1,13 @@
 -- An offer and a take leave the weights of the levels as near as they were, or within 16.
-use Rattle.std.proofs.Common.{◌≡◌, ◌⊎◌, inl, inr, ℕ, ◌+◌, ◌-◌, ◌*◌, ◌/◌, ◌^◌, ◌<◌, ◌≤◌, max, zero, suc, List, [], ◌∷◌, Bool, true, false, Option, Some, None, map, length, refl, sym, ap, ◌∙◌, subst, slice_get, arith}
+use Rattle.std.proofs.Common.{◌≡◌, ◌⊎◌, inl, inr, ℕ, ◌+◌, ◌*◌, ◌^◌, ◌≤◌, max, zero, suc, List, [], ◌∷◌, Bool, true, false, Option, Some, None, map, refl, sym, ap, ◌∙◌, subst, slice_get, arith}
 use Rattle.std.specs.Prelude.{nat_lt, if◌then◌else◌, option_and_then, option_map}
 use Rattle.std.proofs.lemmas.Option.{none-some, slice_get-map, slice_get_past}
 use Rattle.feedback_queue.specs.declared.best.Best.{Best}
 use Rattle.feedback_queue.specs.declared.level.Entry.{Entry}
-use Rattle.feedback_queue.specs.Levels.{LevelState, level_of, weight, weight_if, weight_waited}
-use Rattle.feedback_queue.specs.Queue.{FeedbackState, IsTaken, Pick, caught_up, changed_at, gave_turn, most_turns, next_in, next_level, offered, offered_to, turns_for, waiting_at, with_entry, with_turn}
-use Rattle.feedback_queue.specs.Shares.{AllWait, AreLow, AreWithin, OneIsEmpty}
+use Rattle.feedback_queue.specs.Levels.{LevelState, level_of, weight, weight_if, weight_waited, work_of}
+use Rattle.feedback_queue.specs.Picks.{IsFirstOfLeast}
+use Rattle.feedback_queue.specs.Queue.{FeedbackState, IsFirstOfAll, IsTaken, Pick, changed_at, gave_turn, most_turns, next_in, next_level, pick_of, offered, offered_to, turns_for, waiting_at, with_entry}
+use Rattle.feedback_queue.specs.Shares.{AllWait, AreLow, IsWithin, OneIsEmpty}
 use Rattle.feedback_queue.proofs.PickLemmas.{best_is_first}
 
 module _ {X : Type 0} where
@@ -71,10 +72,6 @@ raised turns (suc (suc (suc zero))) least few = record { above = omega arith; be
 raised turns (suc (suc (suc (suc zero)))) least few = record { above = omega arith; below = omega arith }
 raised turns (suc (suc (suc (suc (suc n))))) least few = absurd (omega (arith, few))
 
-level_of_pick : (level : ℕ) (pick : Pick) (inner : Option Best) → option_map (λ (b : Best). record { level = level; place = b.place }) inner ≡ Some pick → level ≡ pick.level
-level_of_pick level pick None e = absurd (none-some pick e)
-level_of_pick level pick (Some b) e = ap (λ (p : Pick). p.level) (some_item (record { level = level; place = b.place }) pick e)
-
 few_numbers : (i n : ℕ) → slice_get (0 ∷ 1 ∷ 2 ∷ 3 ∷ 4 ∷ []) i ≡ Some n → n ≤ 4
 few_numbers zero n e = omega (arith, some_item 0 n e)
 few_numbers (suc zero) n e = omega (arith, some_item 1 n e)
@@ -88,18 +85,47 @@ module _ {W : Type 0} where
   waited level [] e some = absurd (some e)
   waited level (entry ∷ entries) e some = ap (λ es. weight_if es (weight level)) e
 
-  -- the level of a pick is the one that comes next
+  -- the level of a pick is the one that comes next, and its place that of who comes next in it
   record Picked (levels : List (LevelState W)) (pick : Pick) : Type 0 where
     best : Best
     is_next : next_level levels ≡ Some best
     is_level : best.place ≡ pick.level
+    entry : Best
+    is_entry : next_in (waiting_at levels best.place) ≡ Some entry
+    is_place : entry.place ≡ pick.place
+
+  picked_in : (levels : List (LevelState W)) (pick : Pick) (best : Best) → next_level levels ≡ Some best → (inner : Option Best) → next_in (waiting_at levels best.place) ≡ inner
+      → option_map (λ (b : Best). record { level = best.place; place = b.place }) inner ≡ Some pick → Picked levels pick
+  picked_in levels pick best is None within e = absurd (none-some pick e)
+  picked_in levels pick best is (Some entry) within e =
+      let same = some_item (record { level = best.place; place = entry.place }) pick e in
+      record {
+        best = best;
+        is_next = is;
+        is_level = ap (λ (p : Pick). p.level) same;
+        entry = entry;
+        is_entry = within;
+        is_place = ap (λ (p : Pick). p.place) same;
+      }
 
   picked_from : (levels : List (LevelState W)) (pick : Pick) (next : Option Best) → next_level levels ≡ next
       → option_and_then (λ (level : Best). option_map (λ (b : Best). record { level = level.place; place = b.place }) (next_in (waiting_at levels level.place))) next ≡ Some pick
       → Picked levels pick
   picked_from levels pick None is e = absurd (none-some pick e)
-  picked_from levels pick (Some best) is e =
-      record { best = best; is_next = is; is_level = level_of_pick best.place pick (next_in (waiting_at levels best.place)) e }
+  picked_from levels pick (Some best) is e = picked_in levels pick best is (next_in (waiting_at levels best.place)) refl e
+
+  pub pick_is_first : (queue : FeedbackState W) (pick : Pick) → pick_of queue ≡ Some pick → IsFirstOfAll queue pick
+  pick_is_first queue pick e =
+      let p = picked_from queue.levels pick (next_level queue.levels) refl e in
+      record {
+        level = p.best;
+        is_level = p.is_level;
+        lightest = best_is_first weight_waited queue.levels p.best p.is_next;
+        entry = p.entry;
+        is_place = p.is_place;
+        least = subst (λ (n : ℕ). IsFirstOfLeast work_of (waiting_at queue.levels n) p.entry) p.is_level
+            (best_is_first work_of (waiting_at queue.levels p.best.place) p.entry p.is_entry);
+      }
 
   same_level : (levels : List (LevelState W)) (i j : ℕ) (k l : LevelState W) → i ≡ j → slice_get levels i ≡ Some k → slice_get levels j ≡ Some l → k ≡ l
   same_level levels i j k l e a b = some_item k l (sym a ∙ ap (slice_get levels) e ∙ b)
@@ -119,9 +145,9 @@ module _ {W : Type 0} where
       (with_turn_grew (nat_lt c.old.turns most_turns) c.old.turns c.old.number (low i c.old c.there))
 
   -- a take where somebody waits in each level
-  pub take_within : (old new : FeedbackState W) (taken : ℕ × W) (gap : ℕ) → AreLow old.levels → AllWait old.levels → IsTaken old taken new
-      → AreWithin gap old.levels → AreWithin (max gap 16) new.levels
-  take_within old new taken gap low all t within i j k l at_i at_j =
+  pub take_within : (old new : FeedbackState W) (taken : ℕ × W) (gap i j : ℕ) → AreLow old.levels → AllWait old.levels → IsTaken old taken new
+      → IsWithin gap i j old.levels → IsWithin (max gap 16) i j new.levels
+  take_within old new taken gap i j low all t within k l at_i at_j =
       pair (changed_get f old.levels t.pick.level i k (subst (λ ls. slice_get ls i ≡ Some k) t.is_given at_i))
       (changed_get f old.levels t.pick.level j l (subst (λ ls. slice_get ls j ≡ Some l) t.is_given at_j))
     where
@@ -132,7 +158,7 @@ module _ {W : Type 0} where
       p = picked_from old.levels t.pick (next_level old.levels) refl t.is_pick
 
       pair : Changed f old.levels t.pick.level i k ⊎ (slice_get old.levels i ≡ Some k) → Changed f old.levels t.pick.level j l ⊎ (slice_get old.levels j ≡ Some l) → weight k ≤ weight l + max gap 16
-      pair (inr a) (inr b) = omega (arith, within i j k l a b)
+      pair (inr a) (inr b) = omega (arith, within k l a b)
       pair (inl a) (inr b) =
           omega (
             arith,
@@ -140,7 +166,7 @@ module _ {W : Type 0} where
             lightest old.levels all p.best p.is_next i j a.old l (a.same ∙ sym p.is_level) a.there b,
           )
       pair (inr a) (inl b) =
-          omega (arith, within i j k b.old a b.there, (gave_grew old.levels low t.pick.place t.pick.level j l b).least)
+          omega (arith, within k b.old a b.there, (gave_grew old.levels low t.pick.place t.pick.level j l b).least)
       pair (inl a) (inl b) =
           omega (arith, ap weight (a.is ∙ ap f (same_level old.levels i j a.old b.old (a.same ∙ sym b.same) a.there b.there) ∙ sym b.is))
 
@@ -154,9 +180,9 @@ module _ {W : Type 0} where
   offer_weighs (Some b) entry level [] is few = inr (is, b, refl, raised level.turns level.number b.measure few)
   offer_weighs best entry level (first ∷ entries) is few = inl refl
 
-  pub offer_within : (old : FeedbackState W) (work : ℕ) (waiter : W) (gap : ℕ) → AreLow old.levels → OneIsEmpty old.levels
-      → AreWithin gap old.levels → AreWithin (max gap 16) (offered work waiter old).levels
-  offer_within old work waiter gap low one within i j k l at_i at_j =
+  pub offer_within : (old : FeedbackState W) (work : ℕ) (waiter : W) (gap i j : ℕ) → AreLow old.levels → OneIsEmpty old.levels
+      → IsWithin gap i j old.levels → IsWithin (max gap 16) i j (offered work waiter old).levels
+  offer_within old work waiter gap i j low one within k l at_i at_j =
       pair (changed_get f old.levels (level_of work) i k at_i) (changed_get f old.levels (level_of work) j l at_j)
     where
       entry : Entry W
@@ -171,12 +197,12 @@ module _ {W : Type 0} where
       -- against a level that the offer left
       beside : (x : LevelState W) → slice_get old.levels i ≡ Some x → slice_get old.levels j ≡ Some l → OfferedWeight best x k
           → (entries : List (Entry W)) → l.waiting ≡ entries → weight k ≤ weight l + max gap 16
-      beside x there b (inl same) entries is = omega (arith, same, within i j x l there b)
+      beside x there b (inl same) entries is = omega (arith, same, within x l there b)
       beside x there b (inr (none, best', next, r)) [] is =
           omega (arith, ap weight (same_level (changed_at (level_of work) f old.levels) i j k l (one i j x l there b none is) at_i at_j))
       beside x there b (inr (none, best', next, r)) (e ∷ es) is =
           let least = (best_is_first weight_waited old.levels best' next).least j (weight l) l b (ap (λ entries. weight_if entries (weight l)) is) in
-          omega (arith, r.below, least, within i j x l there b)
+          omega (arith, r.below, least, within x l there b)
 
       above : (x y : LevelState W) → OfferedWeight best x y → weight x ≤ weight y
       above x y (inl same) = omega (arith, same)
@@ -187,9 +213,9 @@ module _ {W : Type 0} where
 
       pair : Changed f old.levels (level_of work) i k ⊎ (slice_get old.levels i ≡ Some k) → Changed f old.levels (level_of work) j l ⊎ (slice_get old.levels j ≡ Some l)
           → weight k ≤ weight l + max gap 16
-      pair (inr a) (inr b) = omega (arith, within i j k l a b)
+      pair (inr a) (inr b) = omega (arith, within k l a b)
       pair (inl a) (inr b) = beside a.old a.there b (weighs i k a) l.waiting refl
-      pair (inr a) (inl b) = omega (arith, within i j k b.old a b.there, above b.old l (weighs j l b))
+      pair (inr a) (inl b) = omega (arith, within k b.old a b.there, above b.old l (weighs j l b))
       pair (inl a) (inl b) =
           omega (arith, ap weight (a.is ∙ ap f (same_level old.levels i j a.old b.old (a.same ∙ sym b.same) a.there b.there) ∙ sym b.is))
 

@@ -1,10 +1,10 @@
 -- A queue of five levels: who comes next, and what an offer and a take make of it.
-use Rattle.std.specs.Prelude.{◌≡◌, ℕ, zero, suc, ◌+◌, ◌-◌, ◌/◌, ◌^◌, max, List, [], ◌∷◌, ◌++◌, flat_map, nat_lt, if◌then◌else◌, Option, Some, None, option_map, option_and_then, slice_get, unwrap_or}
+use Rattle.std.specs.Prelude.{◌≡◌, ℕ, zero, suc, ◌+◌, ◌-◌, ◌/◌, ◌^◌, max, List, [], ◌∷◌, ◌++◌, flat_map, map, nat_lt, if◌then◌else◌, Option, Some, None, option_map, option_and_then, slice_get, unwrap_or}
 use Rattle.std.specs.List.{remove}
 use Rattle.feedback_queue.specs.declared.best.Best.{Best}
 use Rattle.feedback_queue.specs.declared.level.Entry.{Entry}
 use Rattle.feedback_queue.specs.Levels.{LevelState, level_of, weight_waited, work_of}
-use Rattle.feedback_queue.specs.Picks.{best_from}
+use Rattle.feedback_queue.specs.Picks.{IsFirstOfLeast, best_from}
 
 -- turns are counted up to here
 abbrev pub most_turns : ℕ
@@ -59,6 +59,13 @@ offered_to best entry level = with_entry best entry level level.waiting
 pub record FeedbackState (W : Type 0) : Type 0 where
   pub levels : List (LevelState W)
 
+abbrev pub empty_level : {W : Type 0} → ℕ → LevelState W
+empty_level number = record { number = number; turns = 0; waiting = [] }
+
+-- nobody waits, and no level had a turn
+abbrev pub empty_queue : {W : Type 0} → FeedbackState W
+empty_queue = record { levels = map empty_level (0 ∷ 1 ∷ 2 ∷ 3 ∷ 4 ∷ []) }
+
 -- all who wait
 abbrev pub held : {W : Type 0} → FeedbackState W → List (Entry W)
 held queue = flat_map (λ level. level.waiting) queue.levels
@@ -94,6 +101,16 @@ abbrev pub pick_of : {W : Type 0} → FeedbackState W → Option Pick
 pick_of queue =
     option_and_then (λ level. option_map (λ best. record { level = level.place; place = best.place }) (next_in (waiting_at queue.levels level.place)))
     (next_level queue.levels)
+
+-- the pick's level is the first of the least weight of those in which somebody waits, and its place the first of the
+-- least work in it
+pub record IsFirstOfAll {W : Type 0} (queue : FeedbackState W) (pick : Pick) : Type 0 where
+  pub level : Best
+  pub is_level : level.place ≡ pick.level
+  pub lightest : IsFirstOfLeast weight_waited queue.levels level
+  pub entry : Best
+  pub is_place : entry.place ≡ pick.place
+  pub least : IsFirstOfLeast work_of (waiting_at queue.levels pick.level) entry
 
 -- who is picked got a turn of its level, and waits no more
 pub record IsTaken {W : Type 0} (old : FeedbackState W) (taken : ℕ × W) (new : FeedbackState W) : Type 0 where

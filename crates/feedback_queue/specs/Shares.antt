@@ -2,9 +2,9 @@
 use Rattle.std.specs.Prelude.{◌≡◌, ℕ, ◌+◌, ◌≤◌, List, [], Some, slice_get}
 use Rattle.feedback_queue.specs.Levels.{LevelState, weight}
 
--- the weights of any two levels differ by so much at most
-abbrev pub AreWithin : {W : Type 0} → ℕ → List (LevelState W) → Type 0
-AreWithin {W} gap levels = (i j : ℕ) (k l : LevelState W) → slice_get levels i ≡ Some k → slice_get levels j ≡ Some l → weight k ≤ weight l + gap
+-- the weight of the level at i is at most so much above that of the level at j
+abbrev pub IsWithin : {W : Type 0} → ℕ → ℕ → ℕ → List (LevelState W) → Type 0
+IsWithin {W} gap i j levels = (k l : LevelState W) → slice_get levels i ≡ Some k → slice_get levels j ≡ Some l → weight k ≤ weight l + gap
 
 -- somebody waits in each level
 abbrev pub AllWait : {W : Type 0} → List (LevelState W) → Type 0

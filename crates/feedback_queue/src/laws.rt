@@ -3,8 +3,8 @@ ghost use Rattle.std.specs.Prelude.{◌≡◌, ℕ, Some, max};
 ghost use Rattle.feedback_queue.specs.declared.best.Best.{Best};
 ghost use Rattle.feedback_queue.specs.Levels.{weight_waited, work_of};
 ghost use Rattle.feedback_queue.specs.Picks.{IsFirstOfLeast};
-ghost use Rattle.feedback_queue.specs.Queue.{IsTaken, next_in, next_level, offered, waiting_at};
-ghost use Rattle.feedback_queue.specs.Shares.{AllWait, AreWithin, OneIsEmpty};
+ghost use Rattle.feedback_queue.specs.Queue.{FeedbackState, IsFirstOfAll, IsTaken, Pick, next_in, next_level, offered, pick_of, waiting_at};
+ghost use Rattle.feedback_queue.specs.Shares.{AllWait, IsWithin, OneIsEmpty};
 
 use crate::queue::Feedback;
 
@@ -19,21 +19,28 @@ pub fn the_least_work_is_next<W>(queue: &Feedback<W>, level: u8)
     ensures { (best : Best) → next_in (waiting_at queue.now.levels level) ≡ Some best → IsFirstOfLeast work_of (waiting_at queue.now.levels level) best }
 {}
 
-/// The law that a take before which somebody waits in each level leaves the weights of the levels as near to each
+/// The law that who is picked is the first of the least work in the first of the lightest levels.
+#[tactic(auto, using(crate::proofs::ShareLemmas::pick_is_first))]
+pub fn the_pick_is_the_first_of_the_least<W>(queue: &Feedback<W>)
+    ensures { (pick : Pick) → pick_of queue.now ≡ Some pick → IsFirstOfAll queue.now pick }
+{}
+
+/// The law that a take before which somebody waits in each level leaves the weights of any two levels as near to each
 /// other as they were, or within 16.
-pub fn a_take_keeps_the_shares<W>(old: &Feedback<W>, new: &Feedback<W>, taken: &(u64, W))
-    requires waited { AllWait old.now.levels }
-    requires taken { IsTaken old.now taken.now new.now }
-    ensures { (gap : ℕ) → AreWithin gap old.now.levels → AreWithin (max gap 16) new.now.levels }
+pub fn a_take_keeps_the_shares<W>(queue: &Feedback<W>)
+    requires { AllWait queue.now.levels }
+    ensures { (taken : ℕ × W) (new : FeedbackState W) → IsTaken queue.now taken new → (gap i j : ℕ)
+        → IsWithin gap i j queue.now.levels → IsWithin (max gap 16) i j new.levels }
 {
-    old.levels_are_low();
+    queue.levels_are_numbered();
 }
 
-/// The law that an offer before which nobody waits in one level at most leaves the weights of the levels as near to
-/// each other as they were, or within 16.
+/// The law that an offer before which nobody waits in one level at most leaves the weights of any two levels as near
+/// to each other as they were, or within 16.
 pub fn an_offer_keeps_the_shares<W>(queue: &Feedback<W>, work: u64, waiter: &W)
     requires { OneIsEmpty queue.now.levels }
-    ensures { (gap : ℕ) → AreWithin gap queue.now.levels → AreWithin (max gap 16) (offered work waiter.now queue.now).levels }
+    ensures { (gap i j : ℕ)
+        → IsWithin gap i j queue.now.levels → IsWithin (max gap 16) i j (offered work waiter.now queue.now).levels }
 {
-    queue.levels_are_low();
+    queue.levels_are_numbered();
 }

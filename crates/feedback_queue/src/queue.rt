@@ -1,6 +1,5 @@
-ghost use Rattle.std.specs.Prelude.{◌≡◌, ℕ, ◌≤◌, [], ◌∷◌, IfErr, MatchOption, OnOk};
-ghost use Rattle.feedback_queue.specs.Shares.{AreLow};
-ghost use Rattle.feedback_queue.specs.Queue.{IsTaken, held, offered, turns_at};
+ghost use Rattle.std.specs.Prelude.{◌≡◌, ◌≤◌, [], ◌∷◌, map, IfErr, MatchOption, OnOk};
+ghost use Rattle.feedback_queue.specs.Queue.{IsTaken, empty_queue, held, offered, turns_at};
 
 use crate::level::{Level, level_of};
 use crate::levels::{next, offer_at, take_at};
@@ -14,7 +13,6 @@ pub struct Feedback<W> {
 }
 
 impl<W> Model for Feedback<W> {
-    ghost use Rattle.feedback_queue.specs.Shares.{AreLow};
     ghost use Rattle.feedback_queue.specs.Queue.{FeedbackState};
 
     ghost Value = { FeedbackState W };
@@ -29,8 +27,7 @@ impl<W> Model for Feedback<W> {
 impl<W> Feedback<W> {
     /// Nobody waits, and no level had a turn. Takes no memory.
     pub fn new(alloc: Global) -> Feedback<W>
-        ensures empty { held result ≡ [] }
-        ensures turns { (level : ℕ) → turns_at result.levels level ≡ 0 }
+        ensures { result ≡ empty_queue }
     {
         Feedback {
             levels: [
@@ -71,10 +68,9 @@ impl<W> Feedback<W> {
         }
     }
 
-    /// The law that levels have the numbers 0 to 4.
-    #[tactic(auto, using(crate::proofs::ShareLemmas::numbers_are_low))]
-    pub fn levels_are_low(&self)
-        ensures { AreLow self.now.levels }
+    /// The law that there are five levels, with the numbers 0 to 4 in this order.
+    pub fn levels_are_numbered(&self)
+        ensures { map (λ level. level.number) self.now.levels ≡ 0 ∷ 1 ∷ 2 ∷ 3 ∷ 4 ∷ [] }
     {
         let _ = &self.levels;
     }

@@ -50,8 +50,8 @@ pub fn casts_keep_types(from: SqlType, to: SqlType, value: ValueRef<'_>)
     ensures { KeepsType to (cast_of from to (lent_value value.entry)) }
 {}
 
-/// The law that calls of values give values: where a call takes the types of its arguments, and these
-/// are of their types and not NULL, it does not give NULL.
+/// The law that calls of values give values: where a call takes the types of its one or two arguments,
+/// and these are of their types and not NULL, it does not give NULL.
 #[tactic(auto, using(crate::proofs::ValueLemmas::unary_gives_value, crate::proofs::ValueLemmas::binary_gives_value))]
 pub fn calls_of_values_give_values(
     name: CallName,

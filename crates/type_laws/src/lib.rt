@@ -3,9 +3,9 @@
 //! typed expression, on a row that has its columns' types, is of the expression's type.
 //!
 //! Types here are more than variants: a bigint has 64 bits, a decimal has no more digits than its type,
-//! a text is not too long and a day is of the calendar. A call of values of types that it takes, and a
-//! cast that there is, never gives NULL where none of the values is NULL: so no definition ends in its
-//! answer for values of other types.
+//! a text is not too long and a day is of the calendar. A call of one or two values of types that it
+//! takes, and a cast that there is, never gives NULL where none of the values is NULL: so the cases of
+//! the definitions that answer NULL for other values never apply.
 //!
 //! - `specs/Keeps.antt`: an outcome that keeps to a type, and an expression whose casts name types
 //! - `laws`: what follows from the definitions

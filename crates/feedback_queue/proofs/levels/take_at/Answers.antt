@@ -1,4 +1,3 @@
-use Rattle.std.proofs.Common.{◌≡◌}
 use Rattle.std.proofs.lemmas.Option.{slice_get-get_or}
 use Rattle.feedback_queue.proofs.ChangeLemmas.{map-set_same, number_taken, took_at}
 use Rattle.feedback_queue.proofs.levels.take_at.Goals as goal

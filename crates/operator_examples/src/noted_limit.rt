@@ -191,11 +191,11 @@ impl Operator for NotedLimit {
         (is_reached s.note.known s.passed) };
 
     ghost full = { record {
-        full_needs_none = λ s full.
-        reached-needs_none (is_some s.note.known) s.is_told (has_row s.held)
-        (is_reached s.note.known s.passed) full;
-        full_gives = λ s X B full. reached-gives s.note.known s.passed s.held X B full;
-        full_fails = λ s X node kind full. ((λ e. e), (λ e. e));
+      full_needs_none = λ s full.
+          reached-needs_none (is_some s.note.known) s.is_told (has_row s.held)
+          (is_reached s.note.known s.passed) full;
+      full_gives = λ s X B full. reached-gives s.note.known s.passed s.held X B full;
+      full_fails = λ s X node kind full. ((λ e. e), (λ e. e));
     } };
 
     ghost needs = { λ s told held knows wanted.
@@ -207,14 +207,14 @@ impl Operator for NotedLimit {
     ghost made_again = { λ s. refl };
 
     ghost note = { record {
-        waiting_needs_none = λ s waits unknown. none-without (is_some s.note.known)
-        (not ((s.is_told || has_row s.held) || is_reached s.note.known s.passed)) unknown;
-        waiting_went = λ s T G waits went. (went.0, went.1);
-        made_knows = λ s. refl;
-        made_went = λ s. (refl, refl, refl, refl);
-        learns_as_made = λ s m. ((λ e. e), (λ e. e));
-        learns_made = λ s m e. Prim.rw e.1 (refl, refl, refl);
-        any_note = λ s m T G Z knows went learns coming. Prim.rw learns.1
-        (limit-goes_on learns.0 s.is_told s.held T G Z (went.0, went.1, went.2) coming);
+      waiting_needs_none = λ s waits unknown. none-without (is_some s.note.known)
+          (not ((s.is_told || has_row s.held) || is_reached s.note.known s.passed)) unknown;
+      waiting_went = λ s T G waits went. (went.0, went.1);
+      made_knows = λ s. refl;
+      made_went = λ s. (refl, refl, refl, refl);
+      learns_as_made = λ s m. ((λ e. e), (λ e. e));
+      learns_made = λ s m e. Prim.rw e.1 (refl, refl, refl);
+      any_note = λ s m T G Z knows went learns coming. Prim.rw learns.1
+          (limit-goes_on learns.0 s.is_told s.held T G Z (went.0, went.1, went.2) coming);
     } };
 }

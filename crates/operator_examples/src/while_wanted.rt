@@ -160,13 +160,13 @@ impl Operator for WhileWanted {
     ghost made_again = { λ s. refl };
 
     ghost note = { record {
-        waiting_needs_none = λ s waits unknown. Prim.cc;
-        waiting_went = λ s T G waits went. Prim.cc;
-        made_knows = λ s. refl;
-        made_went = λ s. refl;
-        learns_as_made = λ s m. ((λ e. e), (λ e. e));
-        learns_made = λ s m e. Prim.rw e.1 (refl, refl, refl);
-        any_note = λ s m T G Z knows went learns coming. Prim.rw learns.1
-        (wanted-goes_on (Some learns.0) s.is_told s.held T G Z went coming);
+      waiting_needs_none = λ s waits unknown. Prim.cc;
+      waiting_went = λ s T G waits went. Prim.cc;
+      made_knows = λ s. refl;
+      made_went = λ s. refl;
+      learns_as_made = λ s m. ((λ e. e), (λ e. e));
+      learns_made = λ s m e. Prim.rw e.1 (refl, refl, refl);
+      any_note = λ s m T G Z knows went learns coming. Prim.rw learns.1
+          (wanted-goes_on (Some learns.0) s.is_told s.held T G Z went coming);
     } };
 }

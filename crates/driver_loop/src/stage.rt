@@ -347,104 +347,104 @@ impl<'w> Operator for Stage<'w> {
     ] };
 
     ghost note = { record {
-        waiting_needs_none = elim [
-          | Filter op ↦ (filter_laws.note-law).waiting_needs_none op
-          | Limit op types ↦ (limit_laws.note-law).waiting_needs_none op
-          | Sort op ↦ (sort_laws.note-law).waiting_needs_none op
-          | TopN op ↦ (topn_laws.note-law).waiting_needs_none op
-          | Single op ↦ (single_laws.note-law).waiting_needs_none op
-          | Probe op types ↦ (probe_laws.note-law).waiting_needs_none op
-        ];
-        waiting_went = elim [
-          | Filter op ↦ (filter_laws.note-law).waiting_went op
-          | Limit op types ↦ (limit_laws.note-law).waiting_went op
-          | Sort op ↦ (sort_laws.note-law).waiting_went op
-          | TopN op ↦ (topn_laws.note-law).waiting_went op
-          | Single op ↦ (single_laws.note-law).waiting_went op
-          | Probe op types ↦ (probe_laws.note-law).waiting_went op
-        ];
-        made_knows = elim [
-          | Filter op ↦ (filter_laws.note-law).made_knows op
-          | Limit op types ↦ (limit_laws.note-law).made_knows op
-          | Sort op ↦ (sort_laws.note-law).made_knows op
-          | TopN op ↦ (topn_laws.note-law).made_knows op
-          | Single op ↦ (single_laws.note-law).made_knows op
-          | Probe op types ↦ (probe_laws.note-law).made_knows op
-        ];
-        made_went = elim [
-          | Filter op ↦ (filter_laws.note-law).made_went op
-          | Limit op types ↦ (limit_laws.note-law).made_went op
-          | Sort op ↦ (sort_laws.note-law).made_went op
-          | TopN op ↦ (topn_laws.note-law).made_went op
-          | Single op ↦ (single_laws.note-law).made_went op
-          | Probe op types ↦ (probe_laws.note-law).made_went op
-        ];
-        learns_as_made = elim [
-          | Filter op ↦ λ m. (
-            (λ e. (e.0, e.1, ((filter_laws.note-law).learns_as_made op e.0).0 e.2)),
-            (λ e. (e.0, e.1, ((filter_laws.note-law).learns_as_made op e.0).1 e.2)),
-          )
-          | Limit op types ↦ λ m. (
-            (λ e. (e.0, e.1, ((limit_laws.note-law).learns_as_made op e.0).0 e.2)),
-            (λ e. (e.0, e.1, ((limit_laws.note-law).learns_as_made op e.0).1 e.2)),
-          )
-          | Sort op ↦ λ m. (
-            (λ e. (e.0, e.1, ((sort_laws.note-law).learns_as_made op e.0).0 e.2)),
-            (λ e. (e.0, e.1, ((sort_laws.note-law).learns_as_made op e.0).1 e.2)),
-          )
-          | TopN op ↦ λ m. (
-            (λ e. (e.0, e.1, ((topn_laws.note-law).learns_as_made op e.0).0 e.2)),
-            (λ e. (e.0, e.1, ((topn_laws.note-law).learns_as_made op e.0).1 e.2)),
-          )
-          | Single op ↦ λ m. (
-            (λ e. (e.0, e.1, ((single_laws.note-law).learns_as_made op e.0).0 e.2)),
-            (λ e. (e.0, e.1, ((single_laws.note-law).learns_as_made op e.0).1 e.2)),
-          )
-          | Probe op types ↦ λ m. (
-            (λ e. (e.0, e.1, ((probe_laws.note-law).learns_as_made op e.0).0 e.2)),
-            (λ e. (e.0, e.1, ((probe_laws.note-law).learns_as_made op e.0).1 e.2)),
-          )
-        ];
-        learns_made = elim [
-          | Filter op ↦ λ m e.
-              let learned = (filter_laws.note-law).learns_made op e.0 e.2 in
-              Prim.rw e.1 (learned.0, learned.1, ap Filter learned.2)
-          | Limit op types ↦ λ m e.
-              let learned = (limit_laws.note-law).learns_made op e.0 e.2 in
-              Prim.rw e.1 (learned.0, learned.1, ap (λ x. Limit x types) learned.2)
-          | Sort op ↦ λ m e.
-              let learned = (sort_laws.note-law).learns_made op e.0 e.2 in
-              Prim.rw e.1 (learned.0, learned.1, ap Sort learned.2)
-          | TopN op ↦ λ m e.
-              let learned = (topn_laws.note-law).learns_made op e.0 e.2 in
-              Prim.rw e.1 (learned.0, learned.1, ap TopN learned.2)
-          | Single op ↦ λ m e.
-              let learned = (single_laws.note-law).learns_made op e.0 e.2 in
-              Prim.rw e.1 (learned.0, learned.1, ap Single learned.2)
-          | Probe op types ↦ λ m e.
-              let learned = (probe_laws.note-law).learns_made op e.0 e.2 in
-              Prim.rw e.1 (learned.0, learned.1, ap (λ x. Probe x types) learned.2)
-        ];
-        any_note = elim [
-          | Filter op ↦ λ m T G Z knows went learns coming.
-              let any = (filter_laws.note-law).any_note op learns.0 T G Z knows went learns.2 coming in
-              (any.0, Prim.rw learns.1 any.1, any.2)
-          | Limit op types ↦ λ m T G Z knows went learns coming.
-              let any = (limit_laws.note-law).any_note op learns.0 T G Z knows went learns.2 coming in
-              (any.0, Prim.rw learns.1 any.1, any.2)
-          | Sort op ↦ λ m T G Z knows went learns coming.
-              let any = (sort_laws.note-law).any_note op learns.0 T G Z knows went learns.2 coming in
-              (any.0, Prim.rw learns.1 any.1, any.2)
-          | TopN op ↦ λ m T G Z knows went learns coming.
-              let any = (topn_laws.note-law).any_note op learns.0 T G Z knows went learns.2 coming in
-              (any.0, Prim.rw learns.1 any.1, any.2)
-          | Single op ↦ λ m T G Z knows went learns coming.
-              let any = (single_laws.note-law).any_note op learns.0 T G Z knows went learns.2 coming in
-              (any.0, Prim.rw learns.1 any.1, any.2)
-          | Probe op types ↦ λ m T G Z knows went learns coming.
-              let any = (probe_laws.note-law).any_note op learns.0 T G Z knows went learns.2 coming in
-              (any.0, Prim.rw learns.1 any.1, any.2)
-        ];
+      waiting_needs_none = elim [
+        | Filter op ↦ (filter_laws.note-law).waiting_needs_none op
+        | Limit op types ↦ (limit_laws.note-law).waiting_needs_none op
+        | Sort op ↦ (sort_laws.note-law).waiting_needs_none op
+        | TopN op ↦ (topn_laws.note-law).waiting_needs_none op
+        | Single op ↦ (single_laws.note-law).waiting_needs_none op
+        | Probe op types ↦ (probe_laws.note-law).waiting_needs_none op
+      ];
+      waiting_went = elim [
+        | Filter op ↦ (filter_laws.note-law).waiting_went op
+        | Limit op types ↦ (limit_laws.note-law).waiting_went op
+        | Sort op ↦ (sort_laws.note-law).waiting_went op
+        | TopN op ↦ (topn_laws.note-law).waiting_went op
+        | Single op ↦ (single_laws.note-law).waiting_went op
+        | Probe op types ↦ (probe_laws.note-law).waiting_went op
+      ];
+      made_knows = elim [
+        | Filter op ↦ (filter_laws.note-law).made_knows op
+        | Limit op types ↦ (limit_laws.note-law).made_knows op
+        | Sort op ↦ (sort_laws.note-law).made_knows op
+        | TopN op ↦ (topn_laws.note-law).made_knows op
+        | Single op ↦ (single_laws.note-law).made_knows op
+        | Probe op types ↦ (probe_laws.note-law).made_knows op
+      ];
+      made_went = elim [
+        | Filter op ↦ (filter_laws.note-law).made_went op
+        | Limit op types ↦ (limit_laws.note-law).made_went op
+        | Sort op ↦ (sort_laws.note-law).made_went op
+        | TopN op ↦ (topn_laws.note-law).made_went op
+        | Single op ↦ (single_laws.note-law).made_went op
+        | Probe op types ↦ (probe_laws.note-law).made_went op
+      ];
+      learns_as_made = elim [
+        | Filter op ↦ λ m. (
+          (λ e. (e.0, e.1, ((filter_laws.note-law).learns_as_made op e.0).0 e.2)),
+          (λ e. (e.0, e.1, ((filter_laws.note-law).learns_as_made op e.0).1 e.2)),
+        )
+        | Limit op types ↦ λ m. (
+          (λ e. (e.0, e.1, ((limit_laws.note-law).learns_as_made op e.0).0 e.2)),
+          (λ e. (e.0, e.1, ((limit_laws.note-law).learns_as_made op e.0).1 e.2)),
+        )
+        | Sort op ↦ λ m. (
+          (λ e. (e.0, e.1, ((sort_laws.note-law).learns_as_made op e.0).0 e.2)),
+          (λ e. (e.0, e.1, ((sort_laws.note-law).learns_as_made op e.0).1 e.2)),
+        )
+        | TopN op ↦ λ m. (
+          (λ e. (e.0, e.1, ((topn_laws.note-law).learns_as_made op e.0).0 e.2)),
+          (λ e. (e.0, e.1, ((topn_laws.note-law).learns_as_made op e.0).1 e.2)),
+        )
+        | Single op ↦ λ m. (
+          (λ e. (e.0, e.1, ((single_laws.note-law).learns_as_made op e.0).0 e.2)),
+          (λ e. (e.0, e.1, ((single_laws.note-law).learns_as_made op e.0).1 e.2)),
+        )
+        | Probe op types ↦ λ m. (
+          (λ e. (e.0, e.1, ((probe_laws.note-law).learns_as_made op e.0).0 e.2)),
+          (λ e. (e.0, e.1, ((probe_laws.note-law).learns_as_made op e.0).1 e.2)),
+        )
+      ];
+      learns_made = elim [
+        | Filter op ↦ λ m e.
+            let learned = (filter_laws.note-law).learns_made op e.0 e.2 in
+            Prim.rw e.1 (learned.0, learned.1, ap Filter learned.2)
+        | Limit op types ↦ λ m e.
+            let learned = (limit_laws.note-law).learns_made op e.0 e.2 in
+            Prim.rw e.1 (learned.0, learned.1, ap (λ x. Limit x types) learned.2)
+        | Sort op ↦ λ m e.
+            let learned = (sort_laws.note-law).learns_made op e.0 e.2 in
+            Prim.rw e.1 (learned.0, learned.1, ap Sort learned.2)
+        | TopN op ↦ λ m e.
+            let learned = (topn_laws.note-law).learns_made op e.0 e.2 in
+            Prim.rw e.1 (learned.0, learned.1, ap TopN learned.2)
+        | Single op ↦ λ m e.
+            let learned = (single_laws.note-law).learns_made op e.0 e.2 in
+            Prim.rw e.1 (learned.0, learned.1, ap Single learned.2)
+        | Probe op types ↦ λ m e.
+            let learned = (probe_laws.note-law).learns_made op e.0 e.2 in
+            Prim.rw e.1 (learned.0, learned.1, ap (λ x. Probe x types) learned.2)
+      ];
+      any_note = elim [
+        | Filter op ↦ λ m T G Z knows went learns coming.
+            let any = (filter_laws.note-law).any_note op learns.0 T G Z knows went learns.2 coming in
+            (any.0, Prim.rw learns.1 any.1, any.2)
+        | Limit op types ↦ λ m T G Z knows went learns coming.
+            let any = (limit_laws.note-law).any_note op learns.0 T G Z knows went learns.2 coming in
+            (any.0, Prim.rw learns.1 any.1, any.2)
+        | Sort op ↦ λ m T G Z knows went learns coming.
+            let any = (sort_laws.note-law).any_note op learns.0 T G Z knows went learns.2 coming in
+            (any.0, Prim.rw learns.1 any.1, any.2)
+        | TopN op ↦ λ m T G Z knows went learns coming.
+            let any = (topn_laws.note-law).any_note op learns.0 T G Z knows went learns.2 coming in
+            (any.0, Prim.rw learns.1 any.1, any.2)
+        | Single op ↦ λ m T G Z knows went learns coming.
+            let any = (single_laws.note-law).any_note op learns.0 T G Z knows went learns.2 coming in
+            (any.0, Prim.rw learns.1 any.1, any.2)
+        | Probe op types ↦ λ m T G Z knows went learns coming.
+            let any = (probe_laws.note-law).any_note op learns.0 T G Z knows went learns.2 coming in
+            (any.0, Prim.rw learns.1 any.1, any.2)
+      ];
     } };
 }
 

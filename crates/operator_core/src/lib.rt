@@ -27,8 +27,8 @@
 //! told, nothing of it may fail. It refuses input before `finish` only where it holds such a row,
 //! waits, or is full: what still comes changes nothing. It says that it must wait only where a look
 //! of the call found nothing, and names the bell that it then waits at with the count which this look
-//! was handed. That bell showed it, so it was read before the look. A page that it gives has a row,
-//! and no more than its page size. Want of memory is never tied to a cause.
+//! was handed, and which that bell showed. A page that it gives has a row, and no more than its page
+//! size. Want of memory is never tied to a cause.
 //!
 //! Laws of a full state and of a note come in a group each (`specs/LawGroups.antt`): an operator that
 //! is never full, or has no note, takes `never_full` or `no_note` for it, and the ghosts' defaults.
@@ -39,8 +39,8 @@
 //!
 //! A pipeline is a list of operators, its stages. `Linked stages X Y` says that they took the rows
 //! `X` and gave `Y`, one to the next, and `ToldInTurn` that each was told to finish only where it
-//! might be, which is where its giver was finished (`specs/Stages.antt`). What follows holds of any operators and any number of
-//! them, none too, and is proved once:
+//! might be: where its giver was finished (`specs/Stages.antt`). What follows holds of any operators
+//! and any number of them, none too, and is proved once:
 //!
 //! - `laws::follows`: what they may still give continues `Y` to what they, as made, may give
 //! - `laws::finished`: where the last is finished, `Y` is what they, as made, may give for `X`, and

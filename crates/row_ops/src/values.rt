@@ -181,9 +181,9 @@ impl Operator for ValuesOp {
     ghost needs_untold = { λ s needs. Prim.cc };
 
     ghost full = { record {
-        full_needs_none = λ s full. refl;
-        full_gives = λ s X B full. ((λ e. e), (λ e. e));
-        full_fails = λ s X node kind full. ((λ e. e), (λ e. e));
+      full_needs_none = λ s full. refl;
+      full_gives = λ s X B full. ((λ e. e), (λ e. e));
+      full_fails = λ s X node kind full. ((λ e. e), (λ e. e));
     } };
 
     ghost needs = { λ s told held _ wanted. Prim.cc };

@@ -6,13 +6,12 @@ use Rattle.sql_values.specs.declared.value.Value.{Value}
 use Rattle.sql_values.specs.declared.fail.Fail.{Fail}
 use Rattle.sql_values.specs.declared.relational.Call.{Call}
 use Rattle.sql_values.specs.Bags.{SameBag}
-use Rattle.col_pages.specs.Pages.{TypedPage}
 use Rattle.relations.specs.Groups.{grouped_row, groups_of}
 use Rattle.relations.specs.Partials.{results_from}
 use Rattle.relations.specs.Verdicts.{Verdict, fails, keeps, kept}
 use Rattle.bag_laws.specs.Pieces.{all_merged, behind_key, finals_of, front_keys, partials_of}
 use Rattle.aggregation.specs.Alike.{part_rows}
-use Rattle.aggregation.specs.Giving.{FitsTypes, GroupsFail, GroupsGive, GroupsState, has_more, has_verdict, merged_with, no_groups, parts_with, verdicts_with}
+use Rattle.aggregation.specs.Giving.{GroupsFail, GroupsGive, GroupsState, has_more, has_verdict, merged_with, no_groups, parts_with, verdicts_with}
 use Rattle.aggregation.specs.Held.{first_rows}
 use Rattle.aggregation.specs.Tables.{held_in}
 use Rattle.aggregation.proofs.PartLemmas.{finals-first, made_verdicts, merged_rows-first, partials-are}
@@ -56,11 +55,6 @@ module _ (columns : List ℕ) (calls : List Call) (types given : List SqlType) (
 
   pub none-said : (X : List (List Value)) → verdicts_with g.table X ≡ groups_of types columns calls X
   none-said X = ap (λ (s : GroupsState). verdicts_with s.table X) made ∙ made_verdicts types columns calls X
-
-  pub none-pages : (kinds : List SqlType) → given ≡ kinds → (p : TypedPage) → FitsTypes g.left.types p ↔ FitsTypes kinds p
-  none-pages kinds is p =
-      let same : g.left.types ≡ kinds = ap (λ (s : GroupsState). s.left.types) made ∙ is in
-      ((λ f. subst (λ (ts : List SqlType). FitsTypes ts p) same f), (λ f. subst (λ (ts : List SqlType). FitsTypes ts p) (sym same) f))
 
   pub none-parts : (X : List (List Value)) → flat_map kept (parts_with g.table X) ≡ partials_of columns calls X
   none-parts X =

@@ -1,12 +1,10 @@
-ghost use Rattle.std.specs.Prelude.{◌≡◌, ◌<◌, ◌≤◌, ◌↔◌, ◌+◌, ◌++◌, ℕ, List, [], flat_map, map, true, false, length, Contains, IfOk, IsTrue, Err, OnOk, OnErr};
+ghost use Rattle.std.specs.Prelude.{◌≡◌, ◌<◌, ◌≤◌, ◌↔◌, ◌+◌, ℕ, List, [], flat_map, true, false, length, Contains, IfOk, IsTrue, Err};
 ghost use Rattle.std.specs.List.{list_all, range_with_len};
 ghost use Rattle.sql_values.specs.declared.fail.Fail.{Fail as Kind};
-ghost use Rattle.sql_values.specs.declared.types.SqlType.{SqlType as Typed};
 ghost use Rattle.sql_values.specs.Bags.{SameBag};
 ghost use Rattle.col_pages.specs.Pages.{TypedPage, most_rows};
 ghost use Rattle.relations.specs.Verdicts.{fails, kept};
 ghost use Rattle.bag_laws.specs.Pieces.{finals_of};
-ghost use Rattle.plan_trees.specs.TreeTypes.{call_kind};
 ghost use Rattle.operator_core.specs.Rows.{Row};
 ghost use Rattle.operator_core.specs.Calls.{IsFresh};
 ghost use Rattle.accumulators.specs.Limits.{are_allowed};
@@ -73,9 +71,6 @@ impl FinalAgg {
         ensures takes { IfOk result (λ op. (page : TypedPage)
             → ⟦<FinalAgg as Operator>⟧.takes op page
             ↔ FitsTypes (layout_types keys.items types.items calls.items) page) }
-        ensures pages { IfOk result (λ op. (before : List Typed) (page : TypedPage)
-            → ⟦<FinalAgg as Operator>⟧.may_give_page op before page
-            ↔ FitsTypes (keys.items ++ map (call_kind types.items) calls.items) page) }
         ensures layout { IfOk result (λ op. layout_in op
             ≡ record { width = length keys.items; types = types.items; calls = calls.items }) }
         ensures open { IfOk result (λ op. ⟦<FinalAgg as Operator>⟧.is_full op ≡ false) }
@@ -130,6 +125,7 @@ fn first_columns(alloc: Global, count: u32) -> Result<Vec<u32>, Memory>
 
 impl Operator for FinalAgg {
     ghost use Rattle.std.specs.Prelude.{◌≡◌, [], true, false, not, ◌&&◌, refl, length};
+    ghost use Rattle.operator_core.specs.LawGroups.{never_full, no_note};
     ghost use Rattle.operator_core.specs.Samples.{has_row};
     ghost use Rattle.operator_core.specs.NoteLaws.{none-without, told-needs_none, told-needs};
     ghost use Rattle.aggregation.specs.Giving.{FitsTypes, GroupsFail, GroupsGive, groups_made, has_more, to_give, merged_with};
@@ -142,11 +138,7 @@ impl Operator for FinalAgg {
 
     ghost takes = { λ s page. FitsTypes (taken_by s) page };
 
-    ghost may_give_page = { λ s _ page. FitsTypes s.groups.left.types page };
-
     ghost page_size = { λ s. s.groups.left.page };
-
-    ghost is_full = { λ _. false };
 
     ghost gives_late = { λ _. true };
 
@@ -160,19 +152,7 @@ impl Operator for FinalAgg {
     ghost is_finished = { λ s. s.groups.is_told
         && not (has_more s.groups.begun s.groups.left.rows (merged_with s.groups.table [])) };
 
-    ghost waits = { λ _. false };
-
-    ghost bell = { λ _. 0 };
-
-    ghost knows = { λ _. true };
-
-    ghost empty_looks = { λ _. 0 };
-
-    ghost went = { λ _ _ _. Unit {0} };
-
     ghost as_made = { λ s. record s { groups = groups_made s.groups } };
-
-    ghost may_learn = { λ _ _. ⊥ };
 
     fn needs_input(&self) -> bool {
         !self.groups.is_told()
@@ -226,29 +206,13 @@ impl Operator for FinalAgg {
 
     ghost needs_untold = { λ s. told-needs_none s.groups.is_told };
 
-    ghost full_needs_none = { λ s full. Prim.cc };
-
-    ghost full_gives = { λ s X B full. Prim.cc };
-
-    ghost full_fails = { λ s X node kind full. Prim.cc };
-
-    ghost waiting_needs_none = { λ s waits unknown. Prim.cc };
-
-    ghost waiting_went = { λ s T G waits went. Prim.cc };
+    ghost full = { never_full };
 
     ghost needs = { λ s told _ _ _. told-needs s.groups.is_told told };
 
     ghost made_untold = { λ s. refl };
 
-    ghost made_knows = { λ s. refl };
-
-    ghost made_went = { λ s. tt };
-
     ghost made_again = { λ s. refl };
 
-    ghost learns_as_made = { λ s m. ((λ e. e), (λ e. e)) };
-
-    ghost learns_made = { λ s m e. absurd e };
-
-    ghost any_note = { λ s m T G Z knows went learns coming. absurd learns };
+    ghost note = { no_note };
 }

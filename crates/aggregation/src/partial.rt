@@ -1,15 +1,12 @@
-ghost use Rattle.std.specs.Prelude.{◌≡◌, ◌<◌, ◌≤◌, ◌↔◌, ◌+◌, ◌++◌, ℕ, List, [], map, true, false, length, IfOk, IsTrue, OnOk, OnErr};
+ghost use Rattle.std.specs.Prelude.{◌≡◌, ◌<◌, ◌≤◌, ◌↔◌, ◌+◌, ℕ, List, [], true, false, IfOk, IsTrue};
 ghost use Rattle.sql_values.specs.declared.fail.Fail.{Fail as Kind};
-ghost use Rattle.sql_values.specs.declared.types.SqlType.{SqlType as Typed};
 ghost use Rattle.sql_values.specs.Bags.{SameBag};
-ghost use Rattle.sql_functions.specs.CallTypes.{type_at};
 ghost use Rattle.col_pages.specs.Pages.{TypedPage, most_rows};
 ghost use Rattle.bag_laws.specs.Pieces.{partials_of};
 ghost use Rattle.operator_core.specs.Rows.{Row};
 ghost use Rattle.operator_core.specs.Calls.{IsFresh};
 ghost use Rattle.accumulators.specs.Limits.{are_allowed};
 ghost use Rattle.aggregation.specs.Giving.{FitsTypes};
-ghost use Rattle.aggregation.specs.Layouts.{layout_types};
 
 use crate::group_rows::GroupRows;
 use crate::layouts::append_part_types;
@@ -47,9 +44,6 @@ impl PartialAgg {
             → ⟦<PartialAgg as Operator>⟧.may_still_fail op X n kind → ⊥) }
         ensures takes { IfOk result (λ op. (page : TypedPage)
             → ⟦<PartialAgg as Operator>⟧.takes op page ↔ FitsTypes types.items page) }
-        ensures pages { IfOk result (λ op. (before : List Typed) (page : TypedPage)
-            → ⟦<PartialAgg as Operator>⟧.may_give_page op before page
-            ↔ FitsTypes (layout_types (map (type_at types.items) keys.items) types.items calls.items) page) }
         ensures open { IfOk result (λ op. ⟦<PartialAgg as Operator>⟧.is_full op ≡ false) }
         ensures size { IfOk result (λ op. ⟦<PartialAgg as Operator>⟧.page_size op ≡ page) }
         ensures late { IfOk result (λ op. ⟦<PartialAgg as Operator>⟧.gives_late op ≡ true) }
@@ -67,7 +61,8 @@ impl PartialAgg {
 }
 
 impl Operator for PartialAgg {
-    ghost use Rattle.std.specs.Prelude.{◌≡◌, [], true, false, not, ◌&&◌, refl, length};
+    ghost use Rattle.std.specs.Prelude.{◌≡◌, [], true, false, not, ◌&&◌, refl};
+    ghost use Rattle.operator_core.specs.LawGroups.{never_full, no_note};
     ghost use Rattle.operator_core.specs.Samples.{has_row};
     ghost use Rattle.operator_core.specs.NoteLaws.{none-without, told-needs_none, told-needs};
     ghost use Rattle.aggregation.specs.Giving.{FitsTypes, GroupsGive, groups_made, has_more, to_give, parts_with};
@@ -79,11 +74,7 @@ impl Operator for PartialAgg {
 
     ghost takes = { λ s page. FitsTypes s.groups.table.types page };
 
-    ghost may_give_page = { λ s _ page. FitsTypes s.groups.left.types page };
-
     ghost page_size = { λ s. s.groups.left.page };
-
-    ghost is_full = { λ _. false };
 
     ghost gives_late = { λ _. true };
 
@@ -97,19 +88,7 @@ impl Operator for PartialAgg {
     ghost is_finished = { λ s. s.groups.is_told
         && not (has_more s.groups.begun s.groups.left.rows (parts_with s.groups.table [])) };
 
-    ghost waits = { λ _. false };
-
-    ghost bell = { λ _. 0 };
-
-    ghost knows = { λ _. true };
-
-    ghost empty_looks = { λ _. 0 };
-
-    ghost went = { λ _ _ _. Unit {0} };
-
     ghost as_made = { λ s. record s { groups = groups_made s.groups } };
-
-    ghost may_learn = { λ _ _. ⊥ };
 
     fn needs_input(&self) -> bool {
         !self.groups.is_told()
@@ -156,29 +135,13 @@ impl Operator for PartialAgg {
 
     ghost needs_untold = { λ s. told-needs_none s.groups.is_told };
 
-    ghost full_needs_none = { λ s full. Prim.cc };
-
-    ghost full_gives = { λ s X B full. Prim.cc };
-
-    ghost full_fails = { λ s X node kind full. Prim.cc };
-
-    ghost waiting_needs_none = { λ s waits unknown. Prim.cc };
-
-    ghost waiting_went = { λ s T G waits went. Prim.cc };
+    ghost full = { never_full };
 
     ghost needs = { λ s told _ _ _. told-needs s.groups.is_told told };
 
     ghost made_untold = { λ s. refl };
 
-    ghost made_knows = { λ s. refl };
-
-    ghost made_went = { λ s. tt };
-
     ghost made_again = { λ s. refl };
 
-    ghost learns_as_made = { λ s m. ((λ e. e), (λ e. e)) };
-
-    ghost learns_made = { λ s m e. absurd e };
-
-    ghost any_note = { λ s m T G Z knows went learns coming. absurd learns };
+    ghost note = { no_note };
 }

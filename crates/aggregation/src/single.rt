@@ -1,12 +1,9 @@
-ghost use Rattle.std.specs.Prelude.{◌≡◌, ◌<◌, ◌≤◌, ◌↔◌, ◌+◌, ◌++◌, ℕ, List, [], flat_map, map, true, false, length, Contains, IfOk, IsTrue, Err, OnOk, OnErr};
+ghost use Rattle.std.specs.Prelude.{◌≡◌, ◌<◌, ◌≤◌, ◌↔◌, ◌+◌, ℕ, List, [], flat_map, true, false, length, Contains, IfOk, IsTrue, Err};
 ghost use Rattle.sql_values.specs.declared.fail.Fail.{Fail as Kind};
-ghost use Rattle.sql_values.specs.declared.types.SqlType.{SqlType as Typed};
 ghost use Rattle.sql_values.specs.Bags.{SameBag};
-ghost use Rattle.sql_functions.specs.CallTypes.{type_at};
 ghost use Rattle.col_pages.specs.Pages.{TypedPage, most_rows};
 ghost use Rattle.relations.specs.Verdicts.{fails, kept};
 ghost use Rattle.relations.specs.Groups.{groups_of};
-ghost use Rattle.plan_trees.specs.TreeTypes.{call_kind};
 ghost use Rattle.operator_core.specs.Rows.{Row};
 ghost use Rattle.operator_core.specs.Calls.{IsFresh};
 ghost use Rattle.accumulators.specs.Limits.{are_allowed};
@@ -51,9 +48,6 @@ impl SingleAgg {
             ↔ ((n ≡ node) × Contains (groups_of types.items keys.items calls.items X) (fails kind))) }
         ensures takes { IfOk result (λ op. (page : TypedPage)
             → ⟦<SingleAgg as Operator>⟧.takes op page ↔ FitsTypes types.items page) }
-        ensures pages { IfOk result (λ op. (before : List Typed) (page : TypedPage)
-            → ⟦<SingleAgg as Operator>⟧.may_give_page op before page
-            ↔ FitsTypes (map (type_at types.items) keys.items ++ map (call_kind types.items) calls.items) page) }
         ensures open { IfOk result (λ op. ⟦<SingleAgg as Operator>⟧.is_full op ≡ false) }
         ensures size { IfOk result (λ op. ⟦<SingleAgg as Operator>⟧.page_size op ≡ page) }
         ensures late { IfOk result (λ op. ⟦<SingleAgg as Operator>⟧.gives_late op ≡ true) }
@@ -79,6 +73,7 @@ impl SingleAgg {
 
 impl Operator for SingleAgg {
     ghost use Rattle.std.specs.Prelude.{◌≡◌, [], true, false, not, ◌&&◌, refl, length};
+    ghost use Rattle.operator_core.specs.LawGroups.{never_full, no_note};
     ghost use Rattle.operator_core.specs.Samples.{has_row};
     ghost use Rattle.operator_core.specs.NoteLaws.{none-without, told-needs_none, told-needs};
     ghost use Rattle.aggregation.specs.Giving.{FitsTypes, GroupsFail, GroupsGive, groups_made, has_more, to_give, verdicts_with};
@@ -90,11 +85,7 @@ impl Operator for SingleAgg {
 
     ghost takes = { λ s page. FitsTypes s.groups.table.types page };
 
-    ghost may_give_page = { λ s _ page. FitsTypes s.groups.left.types page };
-
     ghost page_size = { λ s. s.groups.left.page };
-
-    ghost is_full = { λ _. false };
 
     ghost gives_late = { λ _. true };
 
@@ -108,19 +99,7 @@ impl Operator for SingleAgg {
     ghost is_finished = { λ s. s.groups.is_told
         && not (has_more s.groups.begun s.groups.left.rows (verdicts_with s.groups.table [])) };
 
-    ghost waits = { λ _. false };
-
-    ghost bell = { λ _. 0 };
-
-    ghost knows = { λ _. true };
-
-    ghost empty_looks = { λ _. 0 };
-
-    ghost went = { λ _ _ _. Unit {0} };
-
     ghost as_made = { λ s. record s { groups = groups_made s.groups } };
-
-    ghost may_learn = { λ _ _. ⊥ };
 
     fn needs_input(&self) -> bool {
         !self.groups.is_told()
@@ -173,29 +152,13 @@ impl Operator for SingleAgg {
 
     ghost needs_untold = { λ s. told-needs_none s.groups.is_told };
 
-    ghost full_needs_none = { λ s full. Prim.cc };
-
-    ghost full_gives = { λ s X B full. Prim.cc };
-
-    ghost full_fails = { λ s X node kind full. Prim.cc };
-
-    ghost waiting_needs_none = { λ s waits unknown. Prim.cc };
-
-    ghost waiting_went = { λ s T G waits went. Prim.cc };
+    ghost full = { never_full };
 
     ghost needs = { λ s told _ _ _. told-needs s.groups.is_told told };
 
     ghost made_untold = { λ s. refl };
 
-    ghost made_knows = { λ s. refl };
-
-    ghost made_went = { λ s. tt };
-
     ghost made_again = { λ s. refl };
 
-    ghost learns_as_made = { λ s m. ((λ e. e), (λ e. e)) };
-
-    ghost learns_made = { λ s m e. absurd e };
-
-    ghost any_note = { λ s m T G Z knows went learns coming. absurd learns };
+    ghost note = { no_note };
 }

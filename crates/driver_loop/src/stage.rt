@@ -28,6 +28,7 @@ pub enum Stage<'w> {
 impl<'w> Operator for Stage<'w> {
     ghost use Rattle.std.specs.Prelude.{◌≡◌};
     ghost use Rattle.std.proofs.Common.{ap};
+    ghost use Rattle.operator_core.specs.LawGroups.{never_full};
     ghost use Rattle.row_ops.specs.RowsHeld.{FilterState};
     ghost use Rattle.row_ops.specs.declared.limit.LimitOp.{LimitOp as LimitState};
     ghost use Rattle.driver_loop.specs.declared.stage.Stage.TheVariants.{Filter, Limit, Sort, TopN, Single, Probe};
@@ -62,15 +63,6 @@ impl<'w> Operator for Stage<'w> {
       | Probe op types ↦ ⟦<ProbeOp<'w> as Operator>⟧.takes op
     ] };
 
-    ghost may_give_page = { elim [
-      | Filter op ↦ ⟦<FilterProject as Operator>⟧.may_give_page op
-      | Limit op types ↦ ⟦<LimitOp as Operator>⟧.may_give_page op
-      | Sort op ↦ ⟦<SortOp as Operator>⟧.may_give_page op
-      | TopN op ↦ ⟦<TopNOp as Operator>⟧.may_give_page op
-      | Single op ↦ ⟦<SingleAgg as Operator>⟧.may_give_page op
-      | Probe op types ↦ ⟦<ProbeOp<'w> as Operator>⟧.may_give_page op
-    ] };
-
     ghost page_size = { elim [
       | Filter op ↦ ⟦<FilterProject as Operator>⟧.page_size op
       | Limit op types ↦ ⟦<LimitOp as Operator>⟧.page_size op
@@ -78,15 +70,6 @@ impl<'w> Operator for Stage<'w> {
       | TopN op ↦ ⟦<TopNOp as Operator>⟧.page_size op
       | Single op ↦ ⟦<SingleAgg as Operator>⟧.page_size op
       | Probe op types ↦ ⟦<ProbeOp<'w> as Operator>⟧.page_size op
-    ] };
-
-    ghost is_full = { elim [
-      | Filter op ↦ ⟦<FilterProject as Operator>⟧.is_full op
-      | Limit op types ↦ ⟦<LimitOp as Operator>⟧.is_full op
-      | Sort op ↦ ⟦<SortOp as Operator>⟧.is_full op
-      | TopN op ↦ ⟦<TopNOp as Operator>⟧.is_full op
-      | Single op ↦ ⟦<SingleAgg as Operator>⟧.is_full op
-      | Probe op types ↦ ⟦<ProbeOp<'w> as Operator>⟧.is_full op
     ] };
 
     ghost gives_late = { elim [
@@ -168,6 +151,15 @@ impl<'w> Operator for Stage<'w> {
       | TopN op ↦ ⟦<TopNOp as Operator>⟧.empty_looks op
       | Single op ↦ ⟦<SingleAgg as Operator>⟧.empty_looks op
       | Probe op types ↦ ⟦<ProbeOp<'w> as Operator>⟧.empty_looks op
+    ] };
+
+    ghost looked_at = { elim [
+      | Filter op ↦ ⟦<FilterProject as Operator>⟧.looked_at op
+      | Limit op types ↦ ⟦<LimitOp as Operator>⟧.looked_at op
+      | Sort op ↦ ⟦<SortOp as Operator>⟧.looked_at op
+      | TopN op ↦ ⟦<TopNOp as Operator>⟧.looked_at op
+      | Single op ↦ ⟦<SingleAgg as Operator>⟧.looked_at op
+      | Probe op types ↦ ⟦<ProbeOp<'w> as Operator>⟧.looked_at op
     ] };
 
     ghost went = { elim [
@@ -325,50 +317,7 @@ impl<'w> Operator for Stage<'w> {
       | Probe op types ↦ probe_laws.needs_untold-law op
     ] };
 
-    ghost full_needs_none = { elim [
-      | Filter op ↦ filter_laws.full_needs_none-law op
-      | Limit op types ↦ limit_laws.full_needs_none-law op
-      | Sort op ↦ sort_laws.full_needs_none-law op
-      | TopN op ↦ topn_laws.full_needs_none-law op
-      | Single op ↦ single_laws.full_needs_none-law op
-      | Probe op types ↦ probe_laws.full_needs_none-law op
-    ] };
-
-    ghost full_gives = { elim [
-      | Filter op ↦ filter_laws.full_gives-law op
-      | Limit op types ↦ limit_laws.full_gives-law op
-      | Sort op ↦ sort_laws.full_gives-law op
-      | TopN op ↦ topn_laws.full_gives-law op
-      | Single op ↦ single_laws.full_gives-law op
-      | Probe op types ↦ probe_laws.full_gives-law op
-    ] };
-
-    ghost full_fails = { elim [
-      | Filter op ↦ filter_laws.full_fails-law op
-      | Limit op types ↦ limit_laws.full_fails-law op
-      | Sort op ↦ sort_laws.full_fails-law op
-      | TopN op ↦ topn_laws.full_fails-law op
-      | Single op ↦ single_laws.full_fails-law op
-      | Probe op types ↦ probe_laws.full_fails-law op
-    ] };
-
-    ghost waiting_needs_none = { elim [
-      | Filter op ↦ filter_laws.waiting_needs_none-law op
-      | Limit op types ↦ limit_laws.waiting_needs_none-law op
-      | Sort op ↦ sort_laws.waiting_needs_none-law op
-      | TopN op ↦ topn_laws.waiting_needs_none-law op
-      | Single op ↦ single_laws.waiting_needs_none-law op
-      | Probe op types ↦ probe_laws.waiting_needs_none-law op
-    ] };
-
-    ghost waiting_went = { elim [
-      | Filter op ↦ filter_laws.waiting_went-law op
-      | Limit op types ↦ limit_laws.waiting_went-law op
-      | Sort op ↦ sort_laws.waiting_went-law op
-      | TopN op ↦ topn_laws.waiting_went-law op
-      | Single op ↦ single_laws.waiting_went-law op
-      | Probe op types ↦ probe_laws.waiting_went-law op
-    ] };
+    ghost full = { never_full };
 
     ghost needs = { elim [
       | Filter op ↦ filter_laws.needs-law op
@@ -388,24 +337,6 @@ impl<'w> Operator for Stage<'w> {
       | Probe op types ↦ probe_laws.made_untold-law op
     ] };
 
-    ghost made_knows = { elim [
-      | Filter op ↦ filter_laws.made_knows-law op
-      | Limit op types ↦ limit_laws.made_knows-law op
-      | Sort op ↦ sort_laws.made_knows-law op
-      | TopN op ↦ topn_laws.made_knows-law op
-      | Single op ↦ single_laws.made_knows-law op
-      | Probe op types ↦ probe_laws.made_knows-law op
-    ] };
-
-    ghost made_went = { elim [
-      | Filter op ↦ filter_laws.made_went-law op
-      | Limit op types ↦ limit_laws.made_went-law op
-      | Sort op ↦ sort_laws.made_went-law op
-      | TopN op ↦ topn_laws.made_went-law op
-      | Single op ↦ single_laws.made_went-law op
-      | Probe op types ↦ probe_laws.made_went-law op
-    ] };
-
     ghost made_again = { elim [
       | Filter op ↦ ap Filter (filter_laws.made_again-law op)
       | Limit op types ↦ ap (λ x. Limit x types) (limit_laws.made_again-law op)
@@ -415,74 +346,106 @@ impl<'w> Operator for Stage<'w> {
       | Probe op types ↦ ap (λ x. Probe x types) (probe_laws.made_again-law op)
     ] };
 
-    ghost learns_as_made = { elim [
-      | Filter op ↦ λ m. (
-        (λ e. (e.0, e.1, (filter_laws.learns_as_made-law op e.0).0 e.2)),
-        (λ e. (e.0, e.1, (filter_laws.learns_as_made-law op e.0).1 e.2)),
-      )
-      | Limit op types ↦ λ m. (
-        (λ e. (e.0, e.1, (limit_laws.learns_as_made-law op e.0).0 e.2)),
-        (λ e. (e.0, e.1, (limit_laws.learns_as_made-law op e.0).1 e.2)),
-      )
-      | Sort op ↦ λ m. (
-        (λ e. (e.0, e.1, (sort_laws.learns_as_made-law op e.0).0 e.2)),
-        (λ e. (e.0, e.1, (sort_laws.learns_as_made-law op e.0).1 e.2)),
-      )
-      | TopN op ↦ λ m. (
-        (λ e. (e.0, e.1, (topn_laws.learns_as_made-law op e.0).0 e.2)),
-        (λ e. (e.0, e.1, (topn_laws.learns_as_made-law op e.0).1 e.2)),
-      )
-      | Single op ↦ λ m. (
-        (λ e. (e.0, e.1, (single_laws.learns_as_made-law op e.0).0 e.2)),
-        (λ e. (e.0, e.1, (single_laws.learns_as_made-law op e.0).1 e.2)),
-      )
-      | Probe op types ↦ λ m. (
-        (λ e. (e.0, e.1, (probe_laws.learns_as_made-law op e.0).0 e.2)),
-        (λ e. (e.0, e.1, (probe_laws.learns_as_made-law op e.0).1 e.2)),
-      )
-    ] };
-
-    ghost learns_made = { elim [
-      | Filter op ↦ λ m e.
-          let learned = filter_laws.learns_made-law op e.0 e.2 in
-          Prim.rw e.1 (learned.0, learned.1, ap Filter learned.2)
-      | Limit op types ↦ λ m e.
-          let learned = limit_laws.learns_made-law op e.0 e.2 in
-          Prim.rw e.1 (learned.0, learned.1, ap (λ x. Limit x types) learned.2)
-      | Sort op ↦ λ m e.
-          let learned = sort_laws.learns_made-law op e.0 e.2 in
-          Prim.rw e.1 (learned.0, learned.1, ap Sort learned.2)
-      | TopN op ↦ λ m e.
-          let learned = topn_laws.learns_made-law op e.0 e.2 in
-          Prim.rw e.1 (learned.0, learned.1, ap TopN learned.2)
-      | Single op ↦ λ m e.
-          let learned = single_laws.learns_made-law op e.0 e.2 in
-          Prim.rw e.1 (learned.0, learned.1, ap Single learned.2)
-      | Probe op types ↦ λ m e.
-          let learned = probe_laws.learns_made-law op e.0 e.2 in
-          Prim.rw e.1 (learned.0, learned.1, ap (λ x. Probe x types) learned.2)
-    ] };
-
-    ghost any_note = { elim [
-      | Filter op ↦ λ m T G Z knows went learns coming.
-          let any = filter_laws.any_note-law op learns.0 T G Z knows went learns.2 coming in
-          (any.0, Prim.rw learns.1 any.1, any.2)
-      | Limit op types ↦ λ m T G Z knows went learns coming.
-          let any = limit_laws.any_note-law op learns.0 T G Z knows went learns.2 coming in
-          (any.0, Prim.rw learns.1 any.1, any.2)
-      | Sort op ↦ λ m T G Z knows went learns coming.
-          let any = sort_laws.any_note-law op learns.0 T G Z knows went learns.2 coming in
-          (any.0, Prim.rw learns.1 any.1, any.2)
-      | TopN op ↦ λ m T G Z knows went learns coming.
-          let any = topn_laws.any_note-law op learns.0 T G Z knows went learns.2 coming in
-          (any.0, Prim.rw learns.1 any.1, any.2)
-      | Single op ↦ λ m T G Z knows went learns coming.
-          let any = single_laws.any_note-law op learns.0 T G Z knows went learns.2 coming in
-          (any.0, Prim.rw learns.1 any.1, any.2)
-      | Probe op types ↦ λ m T G Z knows went learns coming.
-          let any = probe_laws.any_note-law op learns.0 T G Z knows went learns.2 coming in
-          (any.0, Prim.rw learns.1 any.1, any.2)
-    ] };
+    ghost note = { record {
+      waiting_needs_none = elim [
+        | Filter op ↦ (filter_laws.note-law).waiting_needs_none op
+        | Limit op types ↦ (limit_laws.note-law).waiting_needs_none op
+        | Sort op ↦ (sort_laws.note-law).waiting_needs_none op
+        | TopN op ↦ (topn_laws.note-law).waiting_needs_none op
+        | Single op ↦ (single_laws.note-law).waiting_needs_none op
+        | Probe op types ↦ (probe_laws.note-law).waiting_needs_none op
+      ];
+      waiting_went = elim [
+        | Filter op ↦ (filter_laws.note-law).waiting_went op
+        | Limit op types ↦ (limit_laws.note-law).waiting_went op
+        | Sort op ↦ (sort_laws.note-law).waiting_went op
+        | TopN op ↦ (topn_laws.note-law).waiting_went op
+        | Single op ↦ (single_laws.note-law).waiting_went op
+        | Probe op types ↦ (probe_laws.note-law).waiting_went op
+      ];
+      made_knows = elim [
+        | Filter op ↦ (filter_laws.note-law).made_knows op
+        | Limit op types ↦ (limit_laws.note-law).made_knows op
+        | Sort op ↦ (sort_laws.note-law).made_knows op
+        | TopN op ↦ (topn_laws.note-law).made_knows op
+        | Single op ↦ (single_laws.note-law).made_knows op
+        | Probe op types ↦ (probe_laws.note-law).made_knows op
+      ];
+      made_went = elim [
+        | Filter op ↦ (filter_laws.note-law).made_went op
+        | Limit op types ↦ (limit_laws.note-law).made_went op
+        | Sort op ↦ (sort_laws.note-law).made_went op
+        | TopN op ↦ (topn_laws.note-law).made_went op
+        | Single op ↦ (single_laws.note-law).made_went op
+        | Probe op types ↦ (probe_laws.note-law).made_went op
+      ];
+      learns_as_made = elim [
+        | Filter op ↦ λ m. (
+          (λ e. (e.0, e.1, ((filter_laws.note-law).learns_as_made op e.0).0 e.2)),
+          (λ e. (e.0, e.1, ((filter_laws.note-law).learns_as_made op e.0).1 e.2)),
+        )
+        | Limit op types ↦ λ m. (
+          (λ e. (e.0, e.1, ((limit_laws.note-law).learns_as_made op e.0).0 e.2)),
+          (λ e. (e.0, e.1, ((limit_laws.note-law).learns_as_made op e.0).1 e.2)),
+        )
+        | Sort op ↦ λ m. (
+          (λ e. (e.0, e.1, ((sort_laws.note-law).learns_as_made op e.0).0 e.2)),
+          (λ e. (e.0, e.1, ((sort_laws.note-law).learns_as_made op e.0).1 e.2)),
+        )
+        | TopN op ↦ λ m. (
+          (λ e. (e.0, e.1, ((topn_laws.note-law).learns_as_made op e.0).0 e.2)),
+          (λ e. (e.0, e.1, ((topn_laws.note-law).learns_as_made op e.0).1 e.2)),
+        )
+        | Single op ↦ λ m. (
+          (λ e. (e.0, e.1, ((single_laws.note-law).learns_as_made op e.0).0 e.2)),
+          (λ e. (e.0, e.1, ((single_laws.note-law).learns_as_made op e.0).1 e.2)),
+        )
+        | Probe op types ↦ λ m. (
+          (λ e. (e.0, e.1, ((probe_laws.note-law).learns_as_made op e.0).0 e.2)),
+          (λ e. (e.0, e.1, ((probe_laws.note-law).learns_as_made op e.0).1 e.2)),
+        )
+      ];
+      learns_made = elim [
+        | Filter op ↦ λ m e.
+            let learned = (filter_laws.note-law).learns_made op e.0 e.2 in
+            Prim.rw e.1 (learned.0, learned.1, ap Filter learned.2)
+        | Limit op types ↦ λ m e.
+            let learned = (limit_laws.note-law).learns_made op e.0 e.2 in
+            Prim.rw e.1 (learned.0, learned.1, ap (λ x. Limit x types) learned.2)
+        | Sort op ↦ λ m e.
+            let learned = (sort_laws.note-law).learns_made op e.0 e.2 in
+            Prim.rw e.1 (learned.0, learned.1, ap Sort learned.2)
+        | TopN op ↦ λ m e.
+            let learned = (topn_laws.note-law).learns_made op e.0 e.2 in
+            Prim.rw e.1 (learned.0, learned.1, ap TopN learned.2)
+        | Single op ↦ λ m e.
+            let learned = (single_laws.note-law).learns_made op e.0 e.2 in
+            Prim.rw e.1 (learned.0, learned.1, ap Single learned.2)
+        | Probe op types ↦ λ m e.
+            let learned = (probe_laws.note-law).learns_made op e.0 e.2 in
+            Prim.rw e.1 (learned.0, learned.1, ap (λ x. Probe x types) learned.2)
+      ];
+      any_note = elim [
+        | Filter op ↦ λ m T G Z knows went learns coming.
+            let any = (filter_laws.note-law).any_note op learns.0 T G Z knows went learns.2 coming in
+            (any.0, Prim.rw learns.1 any.1, any.2)
+        | Limit op types ↦ λ m T G Z knows went learns coming.
+            let any = (limit_laws.note-law).any_note op learns.0 T G Z knows went learns.2 coming in
+            (any.0, Prim.rw learns.1 any.1, any.2)
+        | Sort op ↦ λ m T G Z knows went learns coming.
+            let any = (sort_laws.note-law).any_note op learns.0 T G Z knows went learns.2 coming in
+            (any.0, Prim.rw learns.1 any.1, any.2)
+        | TopN op ↦ λ m T G Z knows went learns coming.
+            let any = (topn_laws.note-law).any_note op learns.0 T G Z knows went learns.2 coming in
+            (any.0, Prim.rw learns.1 any.1, any.2)
+        | Single op ↦ λ m T G Z knows went learns coming.
+            let any = (single_laws.note-law).any_note op learns.0 T G Z knows went learns.2 coming in
+            (any.0, Prim.rw learns.1 any.1, any.2)
+        | Probe op types ↦ λ m T G Z knows went learns coming.
+            let any = (probe_laws.note-law).any_note op learns.0 T G Z knows went learns.2 coming in
+            (any.0, Prim.rw learns.1 any.1, any.2)
+      ];
+    } };
 }
 
 impl<'w> TypedOperator for Stage<'w> {

@@ -71,8 +71,9 @@ module _ {S : Type 0} (g : Ghosts S) where
         waits = stays.kept.waits ∙ b.waits;
         unknown = stays.knows ∙ b.unknown;
         looked = subst (λ (n : ℕ). Rose (g.empty_looks b.before) n) (sym stays.looks) b.looked;
-        bell = b.bell ∙ sym stays.kept.bell;
+        bell = b.bell ∙ sym stays.bell;
         seen = b.seen;
+        handed = stays.looked_at ∙ b.handed;
         unrung = b.unrung;
       }
 
@@ -99,6 +100,7 @@ module _ {S : Type 0} (g : Ghosts S) where
         looked = rose-since (g.empty_looks before) (g.empty_looks b.before) (g.empty_looks b.after) since.looks b.looked;
         bell = b.bell;
         seen = b.seen;
+        handed = b.handed;
         unrung = b.unrung;
       }
 

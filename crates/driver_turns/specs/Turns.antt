@@ -19,7 +19,7 @@ pub record WentOn {S : Type 0} (g : Ghosts S) (old new : List S) (X A Y B : List
   pub later : AllLater g old new
 
 -- a stage waits for a value that its note does not know: it looked for it since, in vain, and it is its bell
--- that is named, with a count which that bell showed
+-- that is named, with a count which that bell showed, and which its last look in vain was handed
 pub record StageBlocked {S : Type 0} (g : Ghosts S) (old new : List S) (shown : ℕ → ℕ → Type 0) (on : BlockedOn) : Type 0 where
   pub place : ℕ
   pub before : S
@@ -32,6 +32,7 @@ pub record StageBlocked {S : Type 0} (g : Ghosts S) (old new : List S) (shown : 
   pub looked : Rose (g.empty_looks before) (g.empty_looks after)
   pub bell : on.bell ≡ g.bell after
   pub seen : shown on.bell on.seen
+  pub handed : g.looked_at after ≡ on.seen
   pub unrung : on.rung ≡ false
 
 -- why a turn ended: enough rows were counted, a stage is blocked, or the last stage is finished

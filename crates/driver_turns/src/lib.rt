@@ -10,7 +10,7 @@
 //!   They are fewer than its quantum and the most rows of a page
 //! - `TurnedSo`: why it ended. It is finished exactly where the last stage is, yields only once it counted its
 //!   quantum, and waits only for a value that a stage waits for and looked for in this turn, in vain. The bell
-//!   that it names is this stage's, with a count that the bell showed
+//!   that it names is this stage's, with the count that the look was handed and that the bell showed
 //! - `StageFailed`: a failure is one of a stage, as it was made, on what the stages before it gave of the rows
 //!   that came, whatever rows still come
 //!

@@ -14,11 +14,11 @@ module _ {S : Type 0} (g : Ghosts S) where
 
   -- who learned knows
   learned-knows : IsLawful g → (m s : S) → g.may_learn m (g.as_made s) → g.knows s ≡ true
-  learned-knows laws m s l = sym (laws.made_knows s) ∙ (laws.learns_made m (g.as_made s) l).0
+  learned-knows laws m s l = sym (laws.note.made_knows s) ∙ (laws.note.learns_made m (g.as_made s) l).0
 
   first-learned : IsLawful g → (m old new : S) → g.may_learn old (g.as_made new) → g.knows old ≡ false → CameFrom g m old → CameFrom g m new
   first-learned laws m old new l unknown (inl made) =
-      inr (subst (λ (k : S). g.may_learn k (g.as_made new)) made ((laws.learns_as_made old (g.as_made new)).0 l))
+      inr (subst (λ (k : S). g.may_learn k (g.as_made new)) made ((laws.note.learns_as_made old (g.as_made new)).0 l))
   first-learned laws m old new l unknown (inr learned) = let known = learned-knows laws m old learned in cc
 
   looked-at : IsLawful g → (m old new : S) → Looked g old new → CameFrom g m old → (before after : Bool) → g.knows old ≡ before → g.knows new ≡ after → CameFrom g m new
@@ -43,5 +43,5 @@ module _ {S : Type 0} (g : Ghosts S) where
   -- a stage whose note knows nothing may be made of any value that the stage as it was made may learn
   pub MadeOf-unknown : IsLawful g → (wired s m : S) → CameFrom g wired s → g.knows s ≡ false → g.may_learn wired m → MadeOf g s m
   MadeOf-unknown laws wired s m (inl made) unknown l =
-      inr (unknown, (laws.learns_as_made s m).1 (subst (λ (k : S). g.may_learn k m) (sym made) l))
+      inr (unknown, (laws.note.learns_as_made s m).1 (subst (λ (k : S). g.may_learn k m) (sym made) l))
   MadeOf-unknown laws wired s m (inr learned) unknown l = let known = learned-knows laws wired s learned in cc

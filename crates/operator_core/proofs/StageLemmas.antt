@@ -34,7 +34,7 @@ module _ {S : Type 0} (g : Ghosts S) where
   Steps-made laws s e = record {
     gives = λ Z B coming gives. subst (λ (m : S). g.may_give m Z B) (sym e) gives;
     fails = λ Z node kind coming. subst (λ (m : S). g.may_still_fail s Z node kind ↔ g.may_still_fail m Z node kind) (sym e) ((λ f. f), (λ f. f));
-    idle = λ knows. subst (λ (m : S). g.went m [] []) e (laws.made_went s);
+    idle = λ knows. subst (λ (m : S). g.went m [] []) e (laws.note.made_went s);
   }
 
   pub Steps-took : (old new : S) (X Y : List Row) (page : TypedPage) → Took g old new page → Steps g old X Y → Steps g new (X ++ page.rows) Y
@@ -123,7 +123,7 @@ module _ {S : Type 0} (g : Ghosts S) where
         subst (λ (k : S). g.may_give k (X ++ Z) (Y ++ some.0)) (sym e) (steps.gives Z some.0 coming some.1),
         λ over. finished-gives laws s some.0 over (subst (λ (z : List Row). g.may_give s z some.0) (Coming-told _ Z (finished-told laws s over) coming) some.1),
       )
-  Steps-goes_on laws s m X Y Z steps (inr l) coming = laws.any_note s m X Y Z l.0 (steps.idle l.0) l.1 coming
+  Steps-goes_on laws s m X Y Z steps (inr l) coming = laws.note.any_note s m X Y Z l.0 (steps.idle l.0) l.1 coming
 
   -- a failure that comes whatever follows is one of what came so far
   pub Steps-fails : (s : S) (X Y : List Row) (node : ℕ) (kind : Fail) → Steps g s X Y → FailsNow g s node kind

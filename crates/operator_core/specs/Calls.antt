@@ -1,10 +1,10 @@
 -- What a call of an operator leaves, as the trait's clauses say it of a call that did not want memory.
 use Rattle.std.specs.Prelude.{◌≡◌, ◌↔◌, ℕ, List, [], ◌++◌, true, false}
 use Rattle.sql_values.specs.declared.fail.Fail.{Fail}
-use Rattle.sql_values.specs.declared.types.SqlType.{SqlType}
 use Rattle.col_pages.specs.Pages.{TypedPage}
 use Rattle.operator_core.specs.declared.operator.Operator.{Ghosts}
 use Rattle.operator_core.specs.Rows.{Row, Coming}
+use Rattle.operator_core.specs.LawGroups.{FullLaws, NoteLaws}
 
 -- the laws of the trait that speak of what is still to come
 pub record IsLawful {S : Type 0} (g : Ghosts S) : Type 0 where
@@ -13,17 +13,9 @@ pub record IsLawful {S : Type 0} (g : Ghosts S) : Type 0 where
       → (g.holds_row s ≡ false) ↔ (B ≡ [])
   pub finished : (s : S) → (g.is_finished s ≡ true) ↔ ((g.is_told s ≡ true) × (g.holds_row s ≡ false)
       × ((node : ℕ) (kind : Fail) → g.may_still_fail s [] node kind → ⊥))
-  pub full_gives : (s : S) (Z B : List Row) → g.is_full s ≡ true → g.may_give s Z B ↔ g.may_give s [] B
-  pub full_fails : (s : S) (Z : List Row) (node : ℕ) (kind : Fail) → g.is_full s ≡ true
-      → g.may_still_fail s Z node kind ↔ g.may_still_fail s [] node kind
-  pub waiting_went : (s : S) (T G : List Row) → g.waits s ≡ true → g.went s T G → (T ≡ []) × (G ≡ [])
+  pub full : FullLaws g.may_give g.may_still_fail g.is_full g.needs_input
   pub made_untold : (s : S) → g.is_told (g.as_made s) ≡ false
-  pub made_knows : (s : S) → g.knows (g.as_made s) ≡ g.knows s
-  pub made_went : (s : S) → g.went (g.as_made s) [] []
-  pub learns_as_made : (s m : S) → g.may_learn s m ↔ g.may_learn (g.as_made s) m
-  pub learns_made : (s m : S) → g.may_learn s m → (g.knows m ≡ true) × (g.is_told m ≡ false) × (g.as_made m ≡ m)
-  pub any_note : (s m : S) (T G Z : List Row) → g.knows s ≡ false → g.went s T G → g.may_learn s m → Coming (g.is_told s) Z
-      → (B : List Row) × g.may_give m (T ++ Z) (G ++ B) × (g.is_finished s ≡ true → B ≡ [])
+  pub note : NoteLaws g.may_give g.needs_input g.is_told g.is_finished g.waits g.knows g.went g.as_made g.may_learn
 
 -- what stays at each call
 pub record IsKept {S : Type 0} (g : Ghosts S) (old new : S) : Type 0 where
@@ -32,19 +24,15 @@ pub record IsKept {S : Type 0} (g : Ghosts S) (old new : S) : Type 0 where
   pub size : g.page_size new ≡ g.page_size old
   pub late : g.gives_late new ≡ g.gives_late old
   pub waits : g.waits new ≡ g.waits old
-  pub bell : g.bell new ≡ g.bell old
 
 -- what stays beside that at each call but `blocked`
 pub record Stays {S : Type 0} (g : Ghosts S) (old new : S) : Type 0 where
   pub as_made : g.as_made new ≡ g.as_made old
   pub knows : g.knows new ≡ g.knows old
   pub looks : g.empty_looks new ≡ g.empty_looks old
+  pub looked_at : g.looked_at new ≡ g.looked_at old
+  pub bell : g.bell new ≡ g.bell old
   pub kept : IsKept g old new
-
--- it takes each page that it took, and gives none that it could not give, whatever the types of those to come
-pub record KeepsPages {S : Type 0} (g : Ghosts S) (old new : S) : Type 0 where
-  pub takes : (page : TypedPage) → g.takes old page → g.takes new page
-  pub gives : (types : List SqlType) (page : TypedPage) → g.may_give_page new types page → g.may_give_page old types page
 
 -- a page was taken in
 pub record Took {S : Type 0} (g : Ghosts S) (old new : S) (page : TypedPage) : Type 0 where
@@ -54,7 +42,6 @@ pub record Took {S : Type 0} (g : Ghosts S) (old new : S) (page : TypedPage) : T
   pub went : g.knows old ≡ false → (T G : List Row) → g.went old T G → g.went new (T ++ page.rows) G
   pub same : Stays g old new
   pub takes : (p : TypedPage) → p.types ≡ page.types → g.takes old p → g.takes new p
-  pub pages : (p : TypedPage) → g.may_give_page new page.types p → g.may_give_page old page.types p
   pub untold : g.is_told old ≡ false
   pub told : g.is_told new ≡ g.is_told old
 
@@ -64,7 +51,7 @@ pub record Gave {S : Type 0} (g : Ghosts S) (old new : S) (P : List Row) : Type 
   pub fails : (Z : List Row) (node : ℕ) (kind : Fail) → Coming (g.is_told old) Z → g.may_still_fail new Z node kind ↔ g.may_still_fail old Z node kind
   pub went : g.knows old ≡ false → (T G : List Row) → g.went old T G → g.went new T (G ++ P)
   pub same : Stays g old new
-  pub pages : KeepsPages g old new
+  pub takes : (page : TypedPage) → g.takes old page → g.takes new page
   pub told : g.is_told new ≡ g.is_told old
 
 -- it was told to finish
@@ -73,7 +60,7 @@ pub record Told {S : Type 0} (g : Ghosts S) (old new : S) : Type 0 where
   pub fails : (node : ℕ) (kind : Fail) → g.may_still_fail new [] node kind ↔ g.may_still_fail old [] node kind
   pub went : g.knows old ≡ false → (T G : List Row) → g.went old T G → g.went new T G
   pub same : Stays g old new
-  pub pages : KeepsPages g old new
+  pub takes : (page : TypedPage) → g.takes old page → g.takes new page
   pub told : g.is_told new ≡ true
 
 -- it looked at its note
@@ -91,7 +78,7 @@ pub record Looked {S : Type 0} (g : Ghosts S) (old new : S) : Type 0 where
       → g.may_still_fail new Z node kind ↔ g.may_still_fail (g.as_made new) (T ++ Z) node kind
   pub told : g.is_told new ≡ g.is_told old
   pub kept : IsKept g old new
-  pub pages : KeepsPages g old new
+  pub takes : (page : TypedPage) → g.takes old page → g.takes new page
 
 -- a failure of this kind comes, whatever rows follow
 abbrev pub FailsNow : {S : Type 0} → Ghosts S → S → ℕ → Fail → Type 0

@@ -1,4 +1,5 @@
 pub mod Rows
+pub mod LawGroups
 pub mod Answers
 pub mod Held
 pub mod Samples

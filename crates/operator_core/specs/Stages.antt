@@ -16,10 +16,14 @@ abbrev pub Linked : {S : Type 0} → Ghosts S → List S → List Row → List R
 Linked g [] X Y = X ≡ Y
 Linked g (s ∷ ss) X Y = (M : List Row) × Steps g s X M × Linked g ss M Y
 
--- each stage was told to finish only where its giver was finished; `ended` is the source's
+-- a stage may be told to finish; `ended` is whether its giver is finished
+abbrev pub MayBeTold : {S : Type 0} → Ghosts S → Bool → S → Type 0
+MayBeTold g ended s = ended ≡ true
+
+-- each stage was told only where it might be; `ended` is the source's
 abbrev pub ToldInTurn : {S : Type 0} → Ghosts S → Bool → List S → Type 0
 ToldInTurn g ended [] = Unit {0}
-ToldInTurn g ended (s ∷ ss) = (g.is_told s ≡ true → ended ≡ true) × ToldInTurn g (g.is_finished s) ss
+ToldInTurn g ended (s ∷ ss) = (g.is_told s ≡ true → MayBeTold g ended s) × ToldInTurn g (g.is_finished s) ss
 
 -- whether the last stage is finished, or the source where there is no stage
 abbrev pub last_finished : {S : Type 0} → Ghosts S → Bool → List S → Bool

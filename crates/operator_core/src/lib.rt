@@ -26,18 +26,21 @@
 //! `get_output` gives none exactly where it holds no row that it may give now and, once it was
 //! told, nothing of it may fail. It refuses input before `finish` only where it holds such a row,
 //! waits, or is full: what still comes changes nothing. It says that it must wait only where a look
-//! of the call found nothing, and names its own bell with a count which that bell showed. A page
-//! that it gives has a row, no more than its page size, and is one that may come of pages of the
-//! types that went in. Want of memory is never tied to a cause.
+//! of the call found nothing, and names the bell that it then waits at with the count which this look
+//! was handed, and which that bell showed. A page that it gives has a row, and no more than its page
+//! size. Want of memory is never tied to a cause.
+//!
+//! Laws of a full state and of a note come in a group each (`specs/LawGroups.antt`): an operator that
+//! is never full, or has no note, takes `never_full` or `no_note` for it, and the ghosts' defaults.
 //!
 //! An operator with a note also says what it took and gave while the note knew nothing (`went`).
 //! When it learns its value, it is from then on as if it had been made with it (`as_made`), and
 //! while it has not, it can go on for any value that it may come to know.
 //!
 //! A pipeline is a list of operators, its stages. `Linked stages X Y` says that they took the rows
-//! `X` and gave `Y`, one to the next, and `ToldInTurn` that each was told to finish only where its
-//! giver was finished (`specs/Stages.antt`). What follows holds of any operators and any number of
-//! them, none too, and is proved once:
+//! `X` and gave `Y`, one to the next, and `ToldInTurn` that each was told to finish only where it
+//! might be: where its giver was finished (`specs/Stages.antt`). What follows holds of any operators
+//! and any number of them, none too, and is proved once:
 //!
 //! - `laws::follows`: what they may still give continues `Y` to what they, as made, may give
 //! - `laws::finished`: where the last is finished, `Y` is what they, as made, may give for `X`, and

@@ -1,10 +1,10 @@
-ghost use Rattle.std.specs.Prelude.{◌≡◌, ℕ, ◌≤◌, List, [], ◌++◌, ◌↔◌, Bool, true, false, None, IfOk, IfSome, IsOk, MatchOption};
+ghost use Rattle.std.specs.Prelude.{◌≡◌, ℕ, ◌≤◌, List, [], ◌++◌, ◌↔◌, Bool, true, false, None, IfOk, IsOk, MatchOption};
 ghost use Rattle.sql_values.specs.declared.fail.Fail.{Fail as Kind};
-ghost use Rattle.sql_values.specs.declared.types.SqlType.{SqlType};
 ghost use Rattle.col_pages.specs.Pages.{TypedPage};
 ghost use Rattle.blocked.specs.Counts.{Rose};
 ghost use Rattle.operator_core.specs.Rows.{Row, Coming};
 ghost use Rattle.operator_core.specs.Answers.{NotMemory, gave, IsFit};
+ghost use Rattle.operator_core.specs.LawGroups.{FullLaws, NoteLaws};
 
 use crate::fault::OpFault;
 use blocked::{Bells, BlockedOn};
@@ -25,14 +25,11 @@ pub trait Operator {
     // It may be given this page.
     ghost takes: { Self → TypedPage → Type 0 };
 
-    // With pages of these types still to come it may give such a page.
-    ghost may_give_page: { Self → List SqlType → TypedPage → Type 0 };
-
     // The most rows of a page that it gives.
     ghost page_size: { Self → ℕ };
 
     // It makes nothing of rows that still come: it has rows of its own, or as many as it wants.
-    ghost is_full: { Self → Bool };
+    ghost is_full: { Self → Bool } = { λ _. false };
 
     // It holds no row that it may give before it was told to finish.
     ghost gives_late: { Self → Bool };
@@ -48,25 +45,28 @@ pub trait Operator {
     ghost is_finished: { Self → Bool };
 
     // It takes nothing in before its note knows what it looks for.
-    ghost waits: { Self → Bool };
+    ghost waits: { Self → Bool } = { λ _. false };
 
     // The number of the bell of what its note looks for.
-    ghost bell: { Self → ℕ };
+    ghost bell: { Self → ℕ } = { λ _. 0 };
 
     // Its note knows what it looks for; also where it has no note.
-    ghost knows: { Self → Bool };
+    ghost knows: { Self → Bool } = { λ _. true };
 
     // How many looks of its note found nothing.
-    ghost empty_looks: { Self → ℕ };
+    ghost empty_looks: { Self → ℕ } = { λ _. 0 };
+
+    // The count that the last such look was handed.
+    ghost looked_at: { Self → ℕ } = { λ _. 0 };
 
     // While its note knew nothing it took these rows and gave those.
-    ghost went: { Self → List Row → List Row → Type 0 };
+    ghost went: { Self → List Row → List Row → Type 0 } = { λ _ _ _. Unit {0} };
 
     // It as it was made, with what its note knows.
     ghost as_made: { Self → Self };
 
     // The second is the first as it was made, had its note known a value that it may come to know.
-    ghost may_learn: { Self → Self → Type 0 };
+    ghost may_learn: { Self → Self → Type 0 } = { λ _ _. ⊥ };
 
     /// Whether it takes a page now.
     fn needs_input(&self) -> bool
@@ -89,10 +89,9 @@ pub trait Operator {
         ensures told { is_told self.new ≡ is_told self.old }
         ensures knows { knows self.new ≡ knows self.old }
         ensures looks { empty_looks self.new ≡ empty_looks self.old }
+        ensures looked_at { looked_at self.new ≡ looked_at self.old }
         ensures takes { (p : TypedPage) → p.types ≡ page.types → takes self.old p
             → takes self.new p }
-        ensures pages { NotMemory result → (p : TypedPage) → may_give_page self.new page.types p
-            → may_give_page self.old page.types p }
         ensures full { is_full self.old ≡ true → is_full self.new ≡ true }
         ensures constant { (page_size self.new ≡ page_size self.old)
             × (gives_late self.new ≡ gives_late self.old) × (waits self.new ≡ waits self.old)
@@ -118,11 +117,8 @@ pub trait Operator {
         ensures ended { is_finished self.old ≡ true → is_finished self.new ≡ true }
         ensures knows { knows self.new ≡ knows self.old }
         ensures looks { empty_looks self.new ≡ empty_looks self.old }
+        ensures looked_at { looked_at self.new ≡ looked_at self.old }
         ensures takes { (page : TypedPage) → takes self.old page → takes self.new page }
-        ensures page { IfOk result (λ o. IfSome o (λ page. (types : List SqlType)
-            → may_give_page self.old types page)) }
-        ensures pages { NotMemory result → (types : List SqlType) (page : TypedPage)
-            → may_give_page self.new types page → may_give_page self.old types page }
         ensures full { is_full self.old ≡ true → is_full self.new ≡ true }
         ensures constant { (page_size self.new ≡ page_size self.old)
             × (gives_late self.new ≡ gives_late self.old) × (waits self.new ≡ waits self.old)
@@ -140,9 +136,8 @@ pub trait Operator {
         ensures told { is_told self.new ≡ true }
         ensures knows { knows self.new ≡ knows self.old }
         ensures looks { empty_looks self.new ≡ empty_looks self.old }
+        ensures looked_at { looked_at self.new ≡ looked_at self.old }
         ensures takes { (page : TypedPage) → takes self.old page → takes self.new page }
-        ensures pages { (types : List SqlType) (page : TypedPage)
-            → may_give_page self.new types page → may_give_page self.old types page }
         ensures full { is_full self.old ≡ true → is_full self.new ≡ true }
         ensures constant { (page_size self.new ≡ page_size self.old)
             × (gives_late self.new ≡ gives_late self.old) × (waits self.new ≡ waits self.old)
@@ -166,7 +161,8 @@ pub trait Operator {
         ensures answer { IfOk result (λ on. MatchOption on
             (waits self.old ≡ true → knows self.new ≡ true)
             (λ on. (waits self.old ≡ true) × (knows self.new ≡ false)
-            × Rose (empty_looks self.old) (empty_looks self.new) × (on.bell ≡ bell self.old)
+            × Rose (empty_looks self.old) (empty_looks self.new)
+            × (looked_at self.new ≡ on.seen) × (on.bell ≡ bell self.new)
             × B.shown bells.new on.bell on.seen × (on.rung ≡ false))) }
         ensures known { knows self.old ≡ true → knows self.new ≡ true }
         ensures same { IsOk result → knows self.new ≡ knows self.old
@@ -186,12 +182,9 @@ pub trait Operator {
         ensures ended { is_finished self.old ≡ true → is_finished self.new ≡ true }
         ensures looks { empty_looks self.old ≤ empty_looks self.new }
         ensures takes { (page : TypedPage) → takes self.old page → takes self.new page }
-        ensures pages { IsOk result → (types : List SqlType) (page : TypedPage)
-            → may_give_page self.new types page → may_give_page self.old types page }
         ensures full { is_full self.old ≡ true → is_full self.new ≡ true }
         ensures constant { (page_size self.new ≡ page_size self.old)
-            × (gives_late self.new ≡ gives_late self.old) × (waits self.new ≡ waits self.old)
-            × (bell self.new ≡ bell self.old) }
+            × (gives_late self.new ≡ gives_late self.old) × (waits self.new ≡ waits self.old) }
         ensures bells { (bell count : ℕ) → B.shown bells.old bell count
             → B.shown bells.new bell count };
 
@@ -215,45 +208,19 @@ pub trait Operator {
     // Once it was told, it needs no input.
     ghost needs_untold: { (s : Self) → needs_input s ≡ true → is_told s ≡ false };
 
-    // Where it is full it needs no input, and rows that still come change nothing.
-    ghost full_needs_none: { (s : Self) → is_full s ≡ true → needs_input s ≡ false };
-
-    ghost full_gives: { (s : Self) (X B : List Row) → is_full s ≡ true
-        → may_give s X B ↔ may_give s [] B };
-
-    ghost full_fails: { (s : Self) (X : List Row) (node : ℕ) (kind : Kind) → is_full s ≡ true
-        → may_still_fail s X node kind ↔ may_still_fail s [] node kind };
-
-    // While it waits for what its note does not know it needs no input, and has taken and given
-    // nothing.
-    ghost waiting_needs_none: { (s : Self) → waits s ≡ true → knows s ≡ false
-        → needs_input s ≡ false };
-
-    ghost waiting_went: { (s : Self) (T G : List Row) → waits s ≡ true → went s T G
-        → (T ≡ []) × (G ≡ []) };
+    // What holds where it is full.
+    ghost full: { FullLaws may_give may_still_fail is_full needs_input };
 
     // It refuses input only where it was told, holds a row to give, waits or is full.
     ghost needs: { (s : Self) → is_told s ≡ false → holds_row s ≡ false
         → (waits s ≡ true → knows s ≡ true) → is_full s ≡ false → needs_input s ≡ true };
 
-    // As it was made, it was not told, it had taken and given nothing, and it was so made.
+    // As it was made, it was not told, and it was so made.
     ghost made_untold: { (s : Self) → is_told (as_made s) ≡ false };
-
-    ghost made_knows: { (s : Self) → knows (as_made s) ≡ knows s };
-
-    ghost made_went: { (s : Self) → went (as_made s) [] [] };
 
     ghost made_again: { (s : Self) → as_made (as_made s) ≡ as_made s };
 
-    // What it may learn is a matter of how it was made.
-    ghost learns_as_made: { (s m : Self) → may_learn s m ↔ may_learn (as_made s) m };
-
-    // What it may come to be made as knows its value, and is so made.
-    ghost learns_made: { (s m : Self) → may_learn s m
-        → (knows m ≡ true) × (is_told m ≡ false) × (as_made m ≡ m) };
-
-    // While its note knows nothing it can go on, whatever value the note comes to know.
-    ghost any_note: { (s m : Self) (T G Z : List Row) → knows s ≡ false → went s T G
-        → may_learn s m → Coming (is_told s) Z → (B : List Row)
-        × may_give m (T ++ Z) (G ++ B) × (is_finished s ≡ true → B ≡ []) };
+    // What holds of its note, and of what it took and gave while the note knew nothing.
+    ghost note: { NoteLaws may_give needs_input is_told is_finished waits knows went as_made
+        may_learn };
 }

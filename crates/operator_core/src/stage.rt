@@ -1,7 +1,6 @@
 //! The calls of an operator, with what they leave as one fact each.
-ghost use Rattle.std.specs.Prelude.{◌≡◌, ℕ, ◌≤◌, ◌↔◌, [], true, false, None, IfOk, IsOk, IfSome, List, MatchOption};
+ghost use Rattle.std.specs.Prelude.{◌≡◌, ℕ, ◌≤◌, ◌↔◌, [], true, false, None, IfOk, IsOk, MatchOption};
 ghost use Rattle.sql_values.specs.declared.fail.Fail.{Fail as Kind};
-ghost use Rattle.sql_values.specs.declared.types.SqlType.{SqlType};
 ghost use Rattle.blocked.specs.Counts.{Rose};
 ghost use Rattle.operator_core.specs.Answers.{NotMemory, gave, IsFit};
 ghost use Rattle.operator_core.specs.Calls.{Took, Gave, Told, Looked, FailsNow};
@@ -35,8 +34,6 @@ pub fn give_out<O: Operator>(op: &mut O) -> Result<Option<Page>, OpFault>
         × (O.is_told op.old ≡ true → (node : ℕ) (kind : Kind)
         → O.may_still_fail op.old [] node kind → ⊥)) }
     ensures size { IsFit result (O.page_size op.old) }
-    ensures page { IfOk result (λ o. IfSome o (λ page. (types : List SqlType)
-        → O.may_give_page op.old types page)) }
 {
     op.get_output()
 }
@@ -58,8 +55,9 @@ pub fn look<O: Operator, R: Threads + Wait + Sync, B: Bells>(
     ensures answer { IfOk result (λ on. MatchOption on
         (O.waits op.old ≡ true → O.knows op.new ≡ true)
         (λ on. (O.waits op.old ≡ true) × (O.knows op.new ≡ false)
-        × Rose (O.empty_looks op.old) (O.empty_looks op.new) × (on.bell ≡ O.bell op.old)
-        × B.shown bells.new on.bell on.seen × (on.rung ≡ false))) }
+        × Rose (O.empty_looks op.old) (O.empty_looks op.new) × (O.looked_at op.new ≡ on.seen)
+        × (on.bell ≡ O.bell op.new) × B.shown bells.new on.bell on.seen
+        × (on.rung ≡ false))) }
     ensures looks { O.empty_looks op.old ≤ O.empty_looks op.new }
     ensures bells { (bell count : ℕ) → B.shown bells.old bell count
         → B.shown bells.new bell count }

@@ -44,6 +44,7 @@ impl Operator for AtEnd {
     ghost use Rattle.std.specs.Prelude.{◌≡◌, ◌++◌, [], true, false, not, ◌&&◌, refl};
     ghost use Rattle.col_pages.specs.Pages.{most_rows};
     ghost use Rattle.operator_core.specs.Samples.{has_row};
+    ghost use Rattle.operator_core.specs.LawGroups.{never_full, no_note};
     ghost use Rattle.operator_core.specs.NoteLaws.{held-finished, none-without, told-needs_none, told-needs};
     ghost use Rattle.operator_examples.specs.NoteLaws.{held-rest};
 
@@ -53,11 +54,7 @@ impl Operator for AtEnd {
 
     ghost takes = { λ _ _. Unit {0} };
 
-    ghost may_give_page = { λ _ _ _. Unit {0} };
-
     ghost page_size = { λ _. most_rows };
-
-    ghost is_full = { λ _. false };
 
     ghost gives_late = { λ _. true };
 
@@ -69,19 +66,7 @@ impl Operator for AtEnd {
 
     ghost is_finished = { λ s. s.is_told && not (has_row s.held) };
 
-    ghost waits = { λ _. false };
-
-    ghost bell = { λ _. 0 };
-
-    ghost knows = { λ _. true };
-
-    ghost empty_looks = { λ _. 0 };
-
-    ghost went = { λ _ _ _. Unit {0} };
-
     ghost as_made = { λ s. record s { held = []; is_told = false } };
-
-    ghost may_learn = { λ _ _. ⊥ };
 
     fn needs_input(&self) -> bool {
         !self.is_told
@@ -129,29 +114,13 @@ impl Operator for AtEnd {
 
     ghost needs_untold = { λ s. told-needs_none s.is_told };
 
-    ghost full_needs_none = { λ s full. Prim.cc };
-
-    ghost full_gives = { λ s X B full. Prim.cc };
-
-    ghost full_fails = { λ s X node kind full. Prim.cc };
-
-    ghost waiting_needs_none = { λ s waits unknown. Prim.cc };
-
-    ghost waiting_went = { λ s T G waits went. Prim.cc };
+    ghost full = { never_full };
 
     ghost needs = { λ s told _ _ _. told-needs s.is_told told };
 
     ghost made_untold = { λ s. refl };
 
-    ghost made_knows = { λ s. refl };
-
-    ghost made_went = { λ s. tt };
-
     ghost made_again = { λ s. refl };
 
-    ghost learns_as_made = { λ s m. ((λ e. e), (λ e. e)) };
-
-    ghost learns_made = { λ s m e. absurd e };
-
-    ghost any_note = { λ s m T G Z knows went learns coming. absurd learns };
+    ghost note = { no_note };
 }

@@ -82,6 +82,7 @@ impl Operator for NotNull {
     ghost use Rattle.sql_values.specs.declared.fail.Fail.TheVariants.{BadCast};
     ghost use Rattle.col_pages.specs.Pages.{most_rows};
     ghost use Rattle.operator_core.specs.Samples.{has_row};
+    ghost use Rattle.operator_core.specs.LawGroups.{never_full, no_note};
     ghost use Rattle.operator_examples.specs.Samples.{before_null, has_null};
     ghost use Rattle.operator_core.specs.SampleLaws.{needs-untold, needs-open};
     ghost use Rattle.operator_examples.specs.SampleLaws.{not_null-rest, not_null-finished};
@@ -96,11 +97,7 @@ impl Operator for NotNull {
 
     ghost takes = { λ _ _. Unit {0} };
 
-    ghost may_give_page = { λ _ _ _. Unit {0} };
-
     ghost page_size = { λ _. most_rows };
-
-    ghost is_full = { λ _. false };
 
     ghost gives_late = { λ _. false };
 
@@ -112,19 +109,7 @@ impl Operator for NotNull {
 
     ghost is_finished = { λ s. s.is_told && not (s.has_failed || has_row s.held) };
 
-    ghost waits = { λ _. false };
-
-    ghost bell = { λ _. 0 };
-
-    ghost knows = { λ _. true };
-
-    ghost empty_looks = { λ _. 0 };
-
-    ghost went = { λ _ _ _. Unit {0} };
-
     ghost as_made = { λ s. record s { held = []; has_failed = false; is_told = false } };
-
-    ghost may_learn = { λ _ _. ⊥ };
 
     fn needs_input(&self) -> bool {
         !(self.is_told || !self.held.is_empty())
@@ -186,29 +171,13 @@ impl Operator for NotNull {
 
     ghost needs_untold = { λ s. needs-untold s.is_told (has_row s.held) };
 
-    ghost full_needs_none = { λ s full. Prim.cc };
-
-    ghost full_gives = { λ s X B full. Prim.cc };
-
-    ghost full_fails = { λ s X node kind full. Prim.cc };
-
-    ghost waiting_needs_none = { λ s waits unknown. Prim.cc };
-
-    ghost waiting_went = { λ s T G waits went. Prim.cc };
+    ghost full = { never_full };
 
     ghost needs = { λ s told held _ _. needs-open s.is_told (has_row s.held) told held };
 
     ghost made_untold = { λ s. refl };
 
-    ghost made_knows = { λ s. refl };
-
-    ghost made_went = { λ s. tt };
-
     ghost made_again = { λ s. refl };
 
-    ghost learns_as_made = { λ s m. ((λ e. e), (λ e. e)) };
-
-    ghost learns_made = { λ s m e. absurd e };
-
-    ghost any_note = { λ s m T G Z knows went learns coming. absurd learns };
+    ghost note = { no_note };
 }

@@ -10,6 +10,7 @@ pub struct Note {
     coming: u32,
     looks_left: u32,
     empty_looks: u64,
+    looked_at: u64,
 }
 
 impl Model for Note {
@@ -17,20 +18,36 @@ impl Model for Note {
 
     ghost Value = { NoteState };
 
-    ghost view = { λ n. record { known = n.known; empty_looks = n.empty_looks } };
+    ghost view = { λ n. record {
+      known = n.known;
+      empty_looks = n.empty_looks;
+      looked_at = n.looked_at;
+    } };
+
+    ghost use Rattle.std.specs.Prelude.{◌≡◌};
+
+    ghost invariant = { λ n. n.empty_looks ≡ 0 → n.looked_at ≡ 0 };
 }
 
 impl Note {
     /// It knows nothing at first. So many looks find nothing, and the next one finds the number.
     pub fn new(coming: u32, looks_left: u32) -> Note
-        ensures { result ≡ record { known = None; empty_looks = 0 } }
+        ensures { result ≡ record { known = None; empty_looks = 0; looked_at = 0 } }
     {
         Note {
             known: None,
             coming,
             looks_left,
             empty_looks: 0,
+            looked_at: 0,
         }
+    }
+
+    /// The law that it keeps no count before a look of its own found nothing.
+    pub(crate) fn unlooked_keeps_none(&self)
+        ensures { self.now.empty_looks ≡ 0 → self.now.looked_at ≡ 0 }
+    {
+        let _known = self.known;
     }
 
     /// The number that it knows.
@@ -40,12 +57,17 @@ impl Note {
         self.known
     }
 
-    /// Looks for the number. A note that knows it keeps it.
-    pub fn look(&mut self) -> Option<u32>
+    /// Looks for the number. A note that knows it keeps it. One that finds nothing keeps `seen`, the count that
+    /// was read before the look.
+    pub fn look(&mut self, seen: u64) -> Option<u32>
         ensures kept { IsSome self.old.known → self.new ≡ self.old }
         ensures found { IfSome result (λ n. self.new ≡ record self.old { known = Some n }) }
         ensures none { IfNone result (self.new
-            ≡ record { known = None; empty_looks = next_count self.old.empty_looks }) }
+            ≡ record {
+              known = None;
+              empty_looks = next_count self.old.empty_looks;
+              looked_at = seen;
+            }) }
         ensures looks { self.old.empty_looks ≤ self.new.empty_looks }
         ensures unknown { IfNone result (self.old.known ≡ None) }
     {
@@ -58,6 +80,7 @@ impl Note {
         }
         self.looks_left -= 1;
         self.empty_looks = self.empty_looks.saturating_add(1);
+        self.looked_at = seen;
         None
     }
 }

@@ -46,6 +46,7 @@ impl NotedLimit {
             × ((X B : List Row) → ⟦<NotedLimit as Operator>⟧.may_give m X B
             ↔ LimitGives (Some n) 0 [] X B) }
     {
+        note.unlooked_keeps_none();
         NotedLimit {
             alloc,
             bell,
@@ -105,8 +106,6 @@ impl Operator for NotedLimit {
 
     ghost takes = { λ _ _. Unit {0} };
 
-    ghost may_give_page = { λ _ _ _. Unit {0} };
-
     ghost page_size = { λ _. most_rows };
 
     ghost is_full = { λ s. is_reached s.note.known s.passed };
@@ -129,6 +128,8 @@ impl Operator for NotedLimit {
     ghost knows = { λ s. is_some s.note.known };
 
     ghost empty_looks = { λ s. s.note.empty_looks };
+
+    ghost looked_at = { λ s. s.note.looked_at };
 
     ghost went = { λ s T G. (T ≡ []) × (G ≡ []) × (s.held ≡ []) × (s.passed ≡ 0) };
 
@@ -171,7 +172,7 @@ impl Operator for NotedLimit {
         bells: &mut B,
     ) -> Result<Option<BlockedOn>, Memory> {
         let seen = bells.seen(rt, self.bell);
-        match self.note.look() {
+        match self.note.look(seen) {
             Some(_) => Ok(None),
             None => Ok(Some(BlockedOn::new(self.bell, seen))),
         }
@@ -189,18 +190,13 @@ impl Operator for NotedLimit {
         limit-needs_none (is_some s.note.known) s.is_told (has_row s.held)
         (is_reached s.note.known s.passed) };
 
-    ghost full_needs_none = { λ s full.
-        reached-needs_none (is_some s.note.known) s.is_told (has_row s.held)
-        (is_reached s.note.known s.passed) full };
-
-    ghost full_gives = { λ s X B full. reached-gives s.note.known s.passed s.held X B full };
-
-    ghost full_fails = { λ s X node kind full. ((λ e. e), (λ e. e)) };
-
-    ghost waiting_needs_none = { λ s waits unknown. none-without (is_some s.note.known)
-        (not ((s.is_told || has_row s.held) || is_reached s.note.known s.passed)) unknown };
-
-    ghost waiting_went = { λ s T G waits went. (went.0, went.1) };
+    ghost full = { record {
+      full_needs_none = λ s full.
+          reached-needs_none (is_some s.note.known) s.is_told (has_row s.held)
+          (is_reached s.note.known s.passed) full;
+      full_gives = λ s X B full. reached-gives s.note.known s.passed s.held X B full;
+      full_fails = λ s X node kind full. ((λ e. e), (λ e. e));
+    } };
 
     ghost needs = { λ s told held knows wanted.
         limit-needs (is_some s.note.known) s.is_told (has_row s.held)
@@ -208,16 +204,17 @@ impl Operator for NotedLimit {
 
     ghost made_untold = { λ s. refl };
 
-    ghost made_knows = { λ s. refl };
-
-    ghost made_went = { λ s. (refl, refl, refl, refl) };
-
     ghost made_again = { λ s. refl };
 
-    ghost learns_as_made = { λ s m. ((λ e. e), (λ e. e)) };
-
-    ghost learns_made = { λ s m e. Prim.rw e.1 (refl, refl, refl) };
-
-    ghost any_note = { λ s m T G Z knows went learns coming. Prim.rw learns.1
-        (limit-goes_on learns.0 s.is_told s.held T G Z (went.0, went.1, went.2) coming) };
+    ghost note = { record {
+      waiting_needs_none = λ s waits unknown. none-without (is_some s.note.known)
+          (not ((s.is_told || has_row s.held) || is_reached s.note.known s.passed)) unknown;
+      waiting_went = λ s T G waits went. (went.0, went.1);
+      made_knows = λ s. refl;
+      made_went = λ s. (refl, refl, refl, refl);
+      learns_as_made = λ s m. ((λ e. e), (λ e. e));
+      learns_made = λ s m e. Prim.rw e.1 (refl, refl, refl);
+      any_note = λ s m T G Z knows went learns coming. Prim.rw learns.1
+          (limit-goes_on learns.0 s.is_told s.held T G Z (went.0, went.1, went.2) coming);
+    } };
 }

@@ -41,6 +41,7 @@ impl WhileWanted {
             × ((X B : List Row) → ⟦<WhileWanted as Operator>⟧.may_give m X B
             ↔ WantedGives (Some n) [] X B) }
     {
+        note.unlooked_keeps_none();
         WhileWanted {
             note,
             held: HeldPages::new(alloc),
@@ -65,6 +66,7 @@ impl Operator for WhileWanted {
     ghost use Rattle.std.specs.Prelude.{◌≡◌, ℕ, ◌++◌, [], Some, true, false, not, ◌&&◌, ◌||◌, refl, is_some};
     ghost use Rattle.col_pages.specs.Pages.{most_rows};
     ghost use Rattle.operator_core.specs.Samples.{has_row};
+    ghost use Rattle.operator_core.specs.LawGroups.{never_full};
     ghost use Rattle.operator_examples.specs.Samples.{unlooked, WantedGives};
     ghost use Rattle.operator_core.specs.NoteLaws.{held-over};
     ghost use Rattle.operator_examples.specs.NoteLaws.{wanted-some, wanted-rest, wanted-goes_on};
@@ -76,11 +78,7 @@ impl Operator for WhileWanted {
 
     ghost takes = { λ _ _. Unit {0} };
 
-    ghost may_give_page = { λ _ _ _. Unit {0} };
-
     ghost page_size = { λ _. most_rows };
-
-    ghost is_full = { λ _. false };
 
     ghost gives_late = { λ _. false };
 
@@ -92,13 +90,11 @@ impl Operator for WhileWanted {
 
     ghost is_finished = { λ s. s.is_told && not (has_row s.held) };
 
-    ghost waits = { λ _. false };
-
-    ghost bell = { λ _. 0 };
-
     ghost knows = { λ s. is_some s.note.known };
 
     ghost empty_looks = { λ s. s.note.empty_looks };
+
+    ghost looked_at = { λ s. s.note.looked_at };
 
     ghost went = { λ s T G. G ++ s.held ≡ T };
 
@@ -140,7 +136,8 @@ impl Operator for WhileWanted {
         _rt: &R,
         _bells: &mut B,
     ) -> Result<Option<BlockedOn>, Memory> {
-        let _number = self.note.look();
+        // It waits at no bell, so it has read no count.
+        let _number = self.note.look(0);
         Ok(None)
     }
 
@@ -154,30 +151,22 @@ impl Operator for WhileWanted {
 
     ghost needs_untold = { λ s. needs-untold s.is_told (has_row s.held) };
 
-    ghost full_needs_none = { λ s full. Prim.cc };
-
-    ghost full_gives = { λ s X B full. Prim.cc };
-
-    ghost full_fails = { λ s X node kind full. Prim.cc };
-
-    ghost waiting_needs_none = { λ s waits unknown. Prim.cc };
-
-    ghost waiting_went = { λ s T G waits went. Prim.cc };
+    ghost full = { never_full };
 
     ghost needs = { λ s told held _ _. needs-open s.is_told (has_row s.held) told held };
 
     ghost made_untold = { λ s. refl };
 
-    ghost made_knows = { λ s. refl };
-
-    ghost made_went = { λ s. refl };
-
     ghost made_again = { λ s. refl };
 
-    ghost learns_as_made = { λ s m. ((λ e. e), (λ e. e)) };
-
-    ghost learns_made = { λ s m e. Prim.rw e.1 (refl, refl, refl) };
-
-    ghost any_note = { λ s m T G Z knows went learns coming. Prim.rw learns.1
-        (wanted-goes_on (Some learns.0) s.is_told s.held T G Z went coming) };
+    ghost note = { record {
+      waiting_needs_none = λ s waits unknown. Prim.cc;
+      waiting_went = λ s T G waits went. Prim.cc;
+      made_knows = λ s. refl;
+      made_went = λ s. refl;
+      learns_as_made = λ s m. ((λ e. e), (λ e. e));
+      learns_made = λ s m e. Prim.rw e.1 (refl, refl, refl);
+      any_note = λ s m T G Z knows went learns coming. Prim.rw learns.1
+          (wanted-goes_on (Some learns.0) s.is_told s.held T G Z went coming);
+    } };
 }

@@ -75,7 +75,7 @@ module _ {S : Type 0} (g : Ghosts S) (laws : IsLawful g) (s : S) (noted : Option
       same-trans (same-join kind on left (length right) (same-refl X) same) (same-from_equal (sym (p.gives rows is X Y gives)))
 
   nothing_came : noted ≡ None → (X Y : List Row) → Steps g s X Y → (X ≡ []) × (Y ≡ [])
-  nothing_came none X Y steps = laws.waiting_went s X Y p.waits (steps.idle (p.unknown none))
+  nothing_came none X Y steps = laws.note.waiting_went s X Y p.waits (steps.idle (p.unknown none))
 
   pub looks_up_rows : LooksUp g s noted taken (λ (built : List Row). at_node id (stage.probe kind on left (length right) built)) (taken ++ right)
   looks_up_rows = record {

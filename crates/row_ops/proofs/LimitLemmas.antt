@@ -1,14 +1,10 @@
 -- What `LimitOp` may give after it took a page in.
-use Rattle.std.proofs.Common.{◌≡◌, ◌-◌, ℕ, zero, suc, List, [], ◌∷◌, ◌++◌, length, take, subst, refl, ap, sym, ◌∙◌, Option, Some, None, inl, inr, arith}
-use Rattle.std.specs.Prelude.{MatchOption, IsTrue}
-use Rattle.std.proofs.lemmas.List.Elements.{All-take}
+use Rattle.std.proofs.Common.{◌≡◌, ◌-◌, ℕ, zero, suc, List, [], ◌∷◌, ◌++◌, length, take, ap, sym, ◌∙◌, Option, Some, None, arith}
+use Rattle.std.specs.Prelude.{MatchOption}
 use Rattle.sql_values.specs.declared.value.Value.{Value}
-use Rattle.sql_values.specs.ColumnRows.{fits_row}
 use Rattle.col_pages.specs.Pages.{TypedPage}
-use Rattle.page_judges.specs.Typed.{AllFit}
-use Rattle.row_ops.specs.RowJudges.{IsOf}
 use Rattle.row_ops.specs.RowsHeld.{rows_held}
-use Rattle.row_ops.specs.Limits.{LimitGives, MayPassPage}
+use Rattle.row_ops.specs.Limits.{LimitGives}
 
 -- the first rows of a page, or none where it has none of them
 abbrev pub AreFirst : Option TypedPage → TypedPage → ℕ → Type 0
@@ -30,13 +26,3 @@ pub limit-took : (left count : ℕ) (old new : Option TypedPage) (page : TypedPa
 limit-took left count old new page X B empty first rest g =
     g ∙ ap (λ rows. rows ++ take count X) (first-held new page left first) ∙ ap (λ n. take left page.rows ++ take n X) rest
     ∙ sym (take-more left page.rows X) ∙ sym (ap (λ rows. rows ++ take left (page.rows ++ X)) empty)
-
--- the first rows of a page fit its types
-pub first-passes : (old new : Option TypedPage) (page : TypedPage) (most : ℕ) → AllFit page.types page.rows → AreFirst new page most
-    → (p : TypedPage) → MayPassPage new page.types p → MayPassPage old page.types p
-first-passes old new page most fit first p (inr of) = inr of
-first-passes old None page most fit first p (inl held) = absurd held
-first-passes old (Some q) page most fit first p (inl held) =
-    let same : p ≡ record page { rows = take most page.rows } = held ∙ first in
-    let of : IsOf page.types (record page { rows = take most page.rows }) = record { of_types = refl; fit = All-take (λ row. IsTrue (fits_row page.types row)) most page.rows fit } in
-    inr (subst (λ (t : TypedPage). IsOf page.types t) (sym same) of)

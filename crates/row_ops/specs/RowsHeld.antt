@@ -1,15 +1,15 @@
 -- What `FilterProject` holds, and what it may still give and fail on.
-use Rattle.std.specs.Prelude.{◌≡◌, ◌⊎◌, ℕ, List, [], ◌++◌, Bool, Option, Some, None, map, option_map}
+use Rattle.std.specs.Prelude.{◌≡◌, ℕ, List, [], ◌++◌, Bool, Option, Some, None, map, option_map}
 use Rattle.std.specs.Option.{option_or}
 use Rattle.sql_values.specs.declared.types.SqlType.{SqlType}
 use Rattle.sql_values.specs.declared.value.Value.{Value}
 use Rattle.sql_values.specs.declared.fail.Fail.{Fail}
 use Rattle.col_pages.specs.Pages.{TypedPage}
 use Rattle.sql_exprs.specs.declared.expr.Expr.{Expr}
-use Rattle.sql_exprs.specs.Forms.{Form, form_view}
+use Rattle.sql_exprs.specs.Forms.{form_view}
 use Rattle.relations.specs.Verdicts.{Verdict}
 use Rattle.page_judges.specs.Judged.{first_failure, rows_before}
-use Rattle.row_ops.specs.RowJudges.{IsOf, kinds, row_judge}
+use Rattle.row_ops.specs.RowJudges.{row_judge}
 
 -- its node, the types of its input, its expressions, the page that it has still to give, the failure of the
 -- first row that failed, and whether it was told to finish
@@ -42,11 +42,3 @@ FilterGives judge held failure X B = B ≡ unless_failed failure (rows_held held
 -- the failure of the first row that fails, of those that it took in and those to come
 abbrev pub FilterFails : (List Value → Verdict) → ℕ → Option Fail → List (List Value) → ℕ → Fail → Type 0
 FilterFails judge own failure X node kind = (node ≡ own) × (option_or failure (first_failure judge X) ≡ Some kind)
-
-abbrev pub IsHeld : Option TypedPage → TypedPage → Type 0
-IsHeld None page = ⊥
-IsHeld (Some held) page = page ≡ held
-
--- the page that it holds, or one whose rows fit the columns' types
-abbrev pub MayGivePage : List SqlType → List Form → Option TypedPage → TypedPage → Type 0
-MayGivePage types columns held page = IsHeld held page ⊎ IsOf (kinds types columns) page

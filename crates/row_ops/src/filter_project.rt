@@ -1,14 +1,13 @@
 ghost use Rattle.std.specs.Prelude.{◌≡◌, ◌<◌, ◌≤◌, ◌↔◌, ℕ, List, [], Some, None, true, false, length, map, option_map};
 ghost use Rattle.std.specs.Prelude.{MatchOption};
 ghost use Rattle.sql_values.specs.declared.fail.Fail.{Fail as Kind};
-ghost use Rattle.sql_values.specs.declared.types.SqlType.{SqlType as Typed};
 ghost use Rattle.col_pages.specs.Pages.{TypedPage, most_rows};
 ghost use Rattle.operator_core.specs.Rows.{Row};
 ghost use Rattle.operator_core.specs.Calls.{IsFresh};
 ghost use Rattle.operator_core.specs.Samples.{has_row};
 ghost use Rattle.page_judges.specs.Judged.{first_failure, rows_before};
 ghost use Rattle.sql_exprs.specs.Forms.{form_view};
-ghost use Rattle.row_ops.specs.RowJudges.{AreTyped, IsOf, kinds, row_judge};
+ghost use Rattle.row_ops.specs.RowJudges.{AreTyped, IsOf, row_judge};
 ghost use Rattle.row_ops.specs.RowsHeld.{rows_held};
 
 use crate::judge_page::judge_page;
@@ -78,9 +77,6 @@ impl FilterProject {
             (map form_view columns.items)) X ≡ Some kind)) }
         ensures takes { (page : TypedPage) → ⟦<FilterProject as Operator>⟧.takes result page
             ↔ IsOf types.items page }
-        ensures pages { (before : List Typed) (page : TypedPage)
-            → ⟦<FilterProject as Operator>⟧.may_give_page result before page
-            ↔ IsOf (kinds types.items (map form_view columns.items)) page }
         ensures open { (⟦<FilterProject as Operator>⟧.is_full result ≡ false)
             × (⟦<FilterProject as Operator>⟧.page_size result ≡ most_rows) }
         ensures late { ⟦<FilterProject as Operator>⟧.gives_late result ≡ false }
@@ -144,10 +140,11 @@ impl Operator for FilterProject {
     ghost use Rattle.std.specs.Prelude.{◌≡◌, [], None, true, false, not, ◌&&◌, ◌||◌, is_some, map, refl};
     ghost use Rattle.sql_exprs.specs.Forms.{form_view};
     ghost use Rattle.col_pages.specs.Pages.{most_rows};
+    ghost use Rattle.operator_core.specs.LawGroups.{never_full, no_note};
     ghost use Rattle.operator_core.specs.Samples.{has_row};
     ghost use Rattle.operator_core.specs.SampleLaws.{needs-untold, needs-open};
     ghost use Rattle.row_ops.specs.RowJudges.{IsOf};
-    ghost use Rattle.row_ops.specs.RowsHeld.{rows_held, judge_in, FilterGives, FilterFails, MayGivePage};
+    ghost use Rattle.row_ops.specs.RowsHeld.{rows_held, judge_in, FilterGives, FilterFails};
     ghost use Rattle.row_ops.specs.RowLaws.{filter-rest, filter-finished};
 
     ghost may_give = { λ s X B. FilterGives (judge_in s)
@@ -159,11 +156,7 @@ impl Operator for FilterProject {
 
     ghost takes = { λ s page. IsOf s.types page };
 
-    ghost may_give_page = { λ s _ page. MayGivePage s.types (map form_view s.columns) s.held page };
-
     ghost page_size = { λ _. most_rows };
-
-    ghost is_full = { λ _. false };
 
     ghost gives_late = { λ _. false };
 
@@ -176,19 +169,7 @@ impl Operator for FilterProject {
     ghost is_finished = { λ s.
         s.is_told && not (is_some s.failure || has_row (rows_held s.held)) };
 
-    ghost waits = { λ _. false };
-
-    ghost bell = { λ _. 0 };
-
-    ghost knows = { λ _. true };
-
-    ghost empty_looks = { λ _. 0 };
-
-    ghost went = { λ _ _ _. Unit {0} };
-
     ghost as_made = { λ s. record s { held = None; failure = None; is_told = false } };
-
-    ghost may_learn = { λ _ _. ⊥ };
 
     fn needs_input(&self) -> bool {
         !(self.is_told || self.holds_row())
@@ -243,30 +224,14 @@ impl Operator for FilterProject {
 
     ghost needs_untold = { λ s. needs-untold s.is_told (has_row (rows_held s.held)) };
 
-    ghost full_needs_none = { λ s full. Prim.cc };
-
-    ghost full_gives = { λ s X B full. Prim.cc };
-
-    ghost full_fails = { λ s X node kind full. Prim.cc };
-
-    ghost waiting_needs_none = { λ s waits unknown. Prim.cc };
-
-    ghost waiting_went = { λ s T G waits went. Prim.cc };
+    ghost full = { never_full };
 
     ghost needs = { λ s told held _ _.
         needs-open s.is_told (has_row (rows_held s.held)) told held };
 
     ghost made_untold = { λ s. refl };
 
-    ghost made_knows = { λ s. refl };
-
-    ghost made_went = { λ s. tt };
-
     ghost made_again = { λ s. refl };
 
-    ghost learns_as_made = { λ s m. ((λ e. e), (λ e. e)) };
-
-    ghost learns_made = { λ s m e. absurd e };
-
-    ghost any_note = { λ s m T G Z knows went learns coming. absurd learns };
+    ghost note = { no_note };
 }

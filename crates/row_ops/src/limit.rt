@@ -1,12 +1,10 @@
 ghost use Rattle.std.specs.Prelude.{◌≡◌, ◌<◌, ◌≤◌, ◌↔◌, ℕ, List, [], Some, None, true, false, length, take, IfOk, MatchOption};
 ghost use Rattle.sql_values.specs.declared.fail.Fail.{Fail as Kind};
-ghost use Rattle.sql_values.specs.declared.types.SqlType.{SqlType as Typed};
 ghost use Rattle.col_pages.specs.Pages.{TypedPage, most_rows};
 ghost use Rattle.operator_core.specs.Rows.{Row};
 ghost use Rattle.operator_core.specs.Calls.{IsFresh};
 ghost use Rattle.operator_core.specs.Samples.{has_row};
 ghost use Rattle.page_judges.specs.Typed.{AllFit};
-ghost use Rattle.row_ops.specs.RowJudges.{IsOf};
 ghost use Rattle.row_ops.specs.RowsHeld.{rows_held};
 
 use blocked::{Bells, BlockedOn};
@@ -37,8 +35,6 @@ impl LimitOp {
             → ⟦<LimitOp as Operator>⟧.may_still_fail result X node kind → ⊥ }
         ensures takes { (page : TypedPage)
             → ⟦<LimitOp as Operator>⟧.takes result page ↔ AllFit page.types page.rows }
-        ensures pages { (before : List Typed) (page : TypedPage)
-            → ⟦<LimitOp as Operator>⟧.may_give_page result before page ↔ IsOf before page }
         ensures open { (⟦<LimitOp as Operator>⟧.is_full result ≡ false)
             × (⟦<LimitOp as Operator>⟧.page_size result ≡ most_rows) }
         ensures late { ⟦<LimitOp as Operator>⟧.gives_late result ≡ false }
@@ -94,14 +90,15 @@ fn take_held(held: &mut Option<Page>) -> Option<Page>
 }
 
 impl Operator for LimitOp {
-    ghost use Rattle.std.specs.Prelude.{◌≡◌, ◌++◌, [], None, true, false, not, ◌&&◌, ◌||◌, take, refl};
+    ghost use Rattle.std.specs.Prelude.{◌≡◌, [], None, true, false, not, ◌&&◌, ◌||◌, take, refl};
     ghost use Rattle.col_pages.specs.Pages.{most_rows};
+    ghost use Rattle.operator_core.specs.LawGroups.{never_full, no_note};
     ghost use Rattle.operator_core.specs.Samples.{has_row};
     ghost use Rattle.operator_core.specs.SampleLaws.{needs-untold, needs-open};
     ghost use Rattle.operator_core.specs.NoteLaws.{held-over};
     ghost use Rattle.page_judges.specs.Typed.{AllFit};
     ghost use Rattle.row_ops.specs.RowsHeld.{rows_held};
-    ghost use Rattle.row_ops.specs.Limits.{LimitGives, MayPassPage};
+    ghost use Rattle.row_ops.specs.Limits.{LimitGives};
     ghost use Rattle.row_ops.specs.LimitLaws.{limit-rest};
 
     ghost may_give = { λ s X B. LimitGives s.left s.held X B };
@@ -110,11 +107,7 @@ impl Operator for LimitOp {
 
     ghost takes = { λ _ page. AllFit page.types page.rows };
 
-    ghost may_give_page = { λ s types page. MayPassPage s.held types page };
-
     ghost page_size = { λ _. most_rows };
-
-    ghost is_full = { λ _. false };
 
     ghost gives_late = { λ _. false };
 
@@ -126,19 +119,7 @@ impl Operator for LimitOp {
 
     ghost is_finished = { λ s. s.is_told && not (has_row (rows_held s.held)) };
 
-    ghost waits = { λ _. false };
-
-    ghost bell = { λ _. 0 };
-
-    ghost knows = { λ _. true };
-
-    ghost empty_looks = { λ _. 0 };
-
-    ghost went = { λ _ _ _. Unit {0} };
-
     ghost as_made = { λ s. record s { left = s.count; held = None; is_told = false } };
-
-    ghost may_learn = { λ _ _. ⊥ };
 
     fn needs_input(&self) -> bool {
         !(self.is_told || self.holds_row())
@@ -184,30 +165,14 @@ impl Operator for LimitOp {
 
     ghost needs_untold = { λ s. needs-untold s.is_told (has_row (rows_held s.held)) };
 
-    ghost full_needs_none = { λ s full. Prim.cc };
-
-    ghost full_gives = { λ s X B full. Prim.cc };
-
-    ghost full_fails = { λ s X node kind full. Prim.cc };
-
-    ghost waiting_needs_none = { λ s waits unknown. Prim.cc };
-
-    ghost waiting_went = { λ s T G waits went. Prim.cc };
+    ghost full = { never_full };
 
     ghost needs = { λ s told held _ _.
         needs-open s.is_told (has_row (rows_held s.held)) told held };
 
     ghost made_untold = { λ s. refl };
 
-    ghost made_knows = { λ s. refl };
-
-    ghost made_went = { λ s. tt };
-
     ghost made_again = { λ s. refl };
 
-    ghost learns_as_made = { λ s m. ((λ e. e), (λ e. e)) };
-
-    ghost learns_made = { λ s m e. absurd e };
-
-    ghost any_note = { λ s m T G Z knows went learns coming. absurd learns };
+    ghost note = { no_note };
 }

@@ -1,7 +1,6 @@
-ghost use Rattle.std.specs.Prelude.{◌≡◌, ◌<◌, ◌≤◌, ◌↔◌, ◌++◌, ℕ, List, [], true, false, length, IfOk, IsOk, OnErr};
+ghost use Rattle.std.specs.Prelude.{◌≡◌, ◌<◌, ◌≤◌, ◌↔◌, ◌++◌, ℕ, List, true, false, length, IfOk, IsOk, OnErr};
 ghost use Rattle.std.specs.List.{range_with_len};
 ghost use Rattle.sql_values.specs.declared.fail.Fail.{Fail as Kind};
-ghost use Rattle.sql_values.specs.declared.types.SqlType.{SqlType as Typed};
 ghost use Rattle.col_pages.specs.Pages.{TypedPage, most_rows};
 ghost use Rattle.operator_core.specs.Rows.{Row};
 ghost use Rattle.operator_core.specs.Calls.{IsFresh};
@@ -52,8 +51,6 @@ impl ValuesOp {
         ensures fails { (X : List Row) (node : ℕ) (kind : Kind)
             → ⟦<ValuesOp as Operator>⟧.may_still_fail result X node kind → ⊥ }
         ensures takes { (page : TypedPage) → ⟦<ValuesOp as Operator>⟧.takes result page }
-        ensures pages { (before : List Typed) (page : TypedPage)
-            → ⟦<ValuesOp as Operator>⟧.may_give_page result before page ↔ IsOf types.items page }
         ensures full { ⟦<ValuesOp as Operator>⟧.is_full result ≡ true }
         ensures size { ⟦<ValuesOp as Operator>⟧.page_size result ≡ page }
         ensures late { ⟦<ValuesOp as Operator>⟧.gives_late result ≡ false }
@@ -112,7 +109,7 @@ fn all_places(alloc: Global, types: &[SqlType]) -> Result<Vec<u32>, Memory>
 
 impl Operator for ValuesOp {
     ghost use Rattle.std.specs.Prelude.{◌≡◌, true, false, not, ◌&&◌, nat_lt, length, refl};
-    ghost use Rattle.row_ops.specs.RowJudges.{IsOf};
+    ghost use Rattle.operator_core.specs.LawGroups.{no_note};
     ghost use Rattle.row_ops.specs.ValueRows.{rows_left};
     ghost use Rattle.row_ops.specs.ValueLaws.{values-rest, values-finished};
 
@@ -121,8 +118,6 @@ impl Operator for ValuesOp {
     ghost may_still_fail = { λ _ _ _ _. ⊥ };
 
     ghost takes = { λ _ _. Unit {0} };
-
-    ghost may_give_page = { λ s _ page. IsOf s.types page };
 
     ghost page_size = { λ s. s.page };
 
@@ -138,19 +133,7 @@ impl Operator for ValuesOp {
 
     ghost is_finished = { λ s. s.is_told && not (nat_lt s.given (length s.rows)) };
 
-    ghost waits = { λ _. false };
-
-    ghost bell = { λ _. 0 };
-
-    ghost knows = { λ _. true };
-
-    ghost empty_looks = { λ _. 0 };
-
-    ghost went = { λ _ _ _. Unit {0} };
-
     ghost as_made = { λ s. record s { given = 0; is_told = false } };
-
-    ghost may_learn = { λ _ _. ⊥ };
 
     fn needs_input(&self) -> bool {
         false
@@ -197,29 +180,17 @@ impl Operator for ValuesOp {
 
     ghost needs_untold = { λ s needs. Prim.cc };
 
-    ghost full_needs_none = { λ s full. refl };
-
-    ghost full_gives = { λ s X B full. ((λ e. e), (λ e. e)) };
-
-    ghost full_fails = { λ s X node kind full. ((λ e. e), (λ e. e)) };
-
-    ghost waiting_needs_none = { λ s waits unknown. Prim.cc };
-
-    ghost waiting_went = { λ s T G waits went. Prim.cc };
+    ghost full = { record {
+      full_needs_none = λ s full. refl;
+      full_gives = λ s X B full. ((λ e. e), (λ e. e));
+      full_fails = λ s X node kind full. ((λ e. e), (λ e. e));
+    } };
 
     ghost needs = { λ s told held _ wanted. Prim.cc };
 
     ghost made_untold = { λ s. refl };
 
-    ghost made_knows = { λ s. refl };
-
-    ghost made_went = { λ s. tt };
-
     ghost made_again = { λ s. refl };
 
-    ghost learns_as_made = { λ s m. ((λ e. e), (λ e. e)) };
-
-    ghost learns_made = { λ s m e. absurd e };
-
-    ghost any_note = { λ s m T G Z knows went learns coming. absurd learns };
+    ghost note = { no_note };
 }

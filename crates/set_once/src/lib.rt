@@ -2,9 +2,10 @@
 //!
 //! One driver makes a value, and others wait for it. `SetOnce` holds it: the first set stays, and each
 //! later one is refused and handed back. Who sets or looks passes a note of its own, which keeps what
-//! it learned: the value once it was seen, how often a set was refused, and how often a look found
-//! nothing. A note that knows the value never learns another, and all notes of one cell that know a
-//! value know the same one, whichever threads made them.
+//! it learned: the value once it was seen, how often a set was refused, how often a look found nothing,
+//! and the count that the last such look was handed, which is to be one of the value's bell. A note that
+//! knows the value never learns another, and all notes of one cell that know a value know the same one,
+//! whichever threads made them.
 //!
 //! - `cell`: `SetOnce`, over a box of `once_cell`. No call waits, and only `set` takes memory
 //! - `note`: `SetNote`. Contracts see it as what it knows (`specs/Notes.antt`)

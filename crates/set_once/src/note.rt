@@ -11,6 +11,7 @@ pub struct SetNote<T> {
     pub(crate) knows: bool,
     pub(crate) refused: u64,
     pub(crate) empties: u64,
+    pub(crate) looked_at: u64,
 }
 
 impl<T> Model for SetNote<T> {
@@ -23,6 +24,7 @@ impl<T> Model for SetNote<T> {
       known = n.note.known;
       refused = n.refused;
       empties = n.empties;
+      looked_at = n.looked_at;
     } };
 
     ghost use Rattle.std.specs.Prelude.{◌↔◌, IsTrue, IsSome};

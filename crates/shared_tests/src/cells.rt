@@ -13,12 +13,12 @@ fn does_the_first_value_stay(
     requires { (one.old.cell ≡ cell.now) × (two.old.cell ≡ cell.now) }
     ensures { (one.new.cell ≡ one.old.cell) × (two.new.cell ≡ two.old.cell) }
 {
-    let was_empty = cell.look(two).is_none();
+    let was_empty = cell.look(two, 0).is_none();
     let was_noted = !two.knows() & (two.empties() == 1) & (two.refused() == 0);
     let was_taken = cell.set(one, 5).is_ok() & one.knows() & (one.refused() == 0);
     let was_refused = matches!(cell.set(two, 6), Err(SetFault::Refused(6)));
     let was_counted = two.knows() & (two.refused() == 1) & (two.empties() == 1);
-    let is_shown = cell.look(two) == Some(&5);
+    let is_shown = cell.look(two, 0) == Some(&5);
     was_empty & was_noted & was_taken & was_refused & was_counted & is_shown
 }
 
@@ -28,7 +28,7 @@ fn the_first_value_stays(rt: HostRuntime) {
     let (mut one, mut two) = (cell.note(), cell.note());
     let stays = does_the_first_value_stay(&cell, &mut one, &mut two);
     let mut three = cell.note();
-    let is_shown = cell.look(&mut three) == Some(&5);
+    let is_shown = cell.look(&mut three, 0) == Some(&5);
     three.agree(&mut one);
     assert!(rt; stays & is_shown);
 }
@@ -40,7 +40,7 @@ fn offer(cell: &SetOnce<usize>, mine: usize) -> (bool, Option<usize>, SetNote<us
 {
     let mut note = cell.note();
     let was_taken = cell.set(&mut note, mine).is_ok();
-    let shown = cell.look(&mut note).copied();
+    let shown = cell.look(&mut note, 0).copied();
     (was_taken, shown, note)
 }
 

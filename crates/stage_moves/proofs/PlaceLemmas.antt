@@ -51,7 +51,7 @@ item-is (x ∷ xs) (suc i) d h = item-is xs i d (omega arith)
 
 module _ {S : Type 0} (g : Ghosts S) where
   Kept-same : (s : S) → IsKept g s s
-  Kept-same s = record { over = λ e. e; full = λ e. e; size = refl; late = refl; waits = refl; bell = refl }
+  Kept-same s = record { over = λ e. e; full = λ e. e; size = refl; late = refl; waits = refl }
 
   Kept-then : (s t u : S) → IsKept g s t → IsKept g t u → IsKept g s u
   Kept-then s t u p q = record {
@@ -60,17 +60,18 @@ module _ {S : Type 0} (g : Ghosts S) where
     size = q.size ∙ p.size;
     late = q.late ∙ p.late;
     waits = q.waits ∙ p.waits;
-    bell = q.bell ∙ p.bell;
   }
 
   Stays-same : (s : S) → Stays g s s
-  Stays-same s = record { as_made = refl; knows = refl; looks = refl; kept = Kept-same s }
+  Stays-same s = record { as_made = refl; knows = refl; looks = refl; looked_at = refl; bell = refl; kept = Kept-same s }
 
   Stays-then : (s t u : S) → Stays g s t → Stays g t u → Stays g s u
   Stays-then s t u p q = record {
     as_made = q.as_made ∙ p.as_made;
     knows = q.knows ∙ p.knows;
     looks = q.looks ∙ p.looks;
+    looked_at = q.looked_at ∙ p.looked_at;
+    bell = q.bell ∙ p.bell;
     kept = Kept-then s t u p.kept q.kept;
   }
 

@@ -1,6 +1,5 @@
 ghost use Rattle.std.specs.Prelude.{◌≡◌, ◌<◌, ◌≤◌, ◌↔◌, ℕ, List, [], true, false, length, IfOk};
 ghost use Rattle.sql_values.specs.declared.fail.Fail.{Fail as Kind};
-ghost use Rattle.sql_values.specs.declared.types.SqlType.{SqlType as Typed};
 ghost use Rattle.col_pages.specs.Pages.{TypedPage, most_rows};
 ghost use Rattle.relations.specs.Sorts.{IsSortOf};
 ghost use Rattle.operator_core.specs.Rows.{Row};
@@ -52,8 +51,6 @@ impl SortOp {
             → ⟦<SortOp as Operator>⟧.may_still_fail op X node kind → ⊥) }
         ensures takes { IfOk result (λ op. (page : TypedPage)
             → ⟦<SortOp as Operator>⟧.takes op page ↔ FitsTypes types.items page) }
-        ensures pages { IfOk result (λ op. (before : List Typed) (page : TypedPage)
-            → ⟦<SortOp as Operator>⟧.may_give_page op before page ↔ FitsTypes types.items page) }
         ensures open { IfOk result (λ op. ⟦<SortOp as Operator>⟧.is_full op ≡ false) }
         ensures size { IfOk result (λ op. ⟦<SortOp as Operator>⟧.page_size op ≡ page) }
         ensures late { IfOk result (λ op. ⟦<SortOp as Operator>⟧.gives_late op ≡ true) }
@@ -78,6 +75,7 @@ impl SortOp {
 
 impl Operator for SortOp {
     ghost use Rattle.std.specs.Prelude.{◌≡◌, [], true, false, not, ◌&&◌, refl};
+    ghost use Rattle.operator_core.specs.LawGroups.{never_full, no_note};
     ghost use Rattle.operator_core.specs.Samples.{has_row};
     ghost use Rattle.operator_core.specs.NoteLaws.{held-finished, none-without, told-needs_none, told-needs};
     ghost use Rattle.topn_sort.specs.Sorting.{FitsTypes, SortGives};
@@ -89,11 +87,7 @@ impl Operator for SortOp {
 
     ghost takes = { λ s page. FitsTypes s.buffer.types page };
 
-    ghost may_give_page = { λ s _ page. FitsTypes s.buffer.types page };
-
     ghost page_size = { λ s. s.buffer.page };
-
-    ghost is_full = { λ _. false };
 
     ghost gives_late = { λ _. true };
 
@@ -105,20 +99,8 @@ impl Operator for SortOp {
 
     ghost is_finished = { λ s. s.is_told && not (has_row s.buffer.rows) };
 
-    ghost waits = { λ _. false };
-
-    ghost bell = { λ _. 0 };
-
-    ghost knows = { λ _. true };
-
-    ghost empty_looks = { λ _. 0 };
-
-    ghost went = { λ _ _ _. Unit {0} };
-
     ghost as_made = { λ s.
         record s { buffer = record s.buffer { rows = []; begun = false }; is_told = false } };
-
-    ghost may_learn = { λ _ _. ⊥ };
 
     fn needs_input(&self) -> bool {
         !self.is_told
@@ -166,29 +148,13 @@ impl Operator for SortOp {
 
     ghost needs_untold = { λ s. told-needs_none s.is_told };
 
-    ghost full_needs_none = { λ s full. Prim.cc };
-
-    ghost full_gives = { λ s X B full. Prim.cc };
-
-    ghost full_fails = { λ s X node kind full. Prim.cc };
-
-    ghost waiting_needs_none = { λ s waits unknown. Prim.cc };
-
-    ghost waiting_went = { λ s T G waits went. Prim.cc };
+    ghost full = { never_full };
 
     ghost needs = { λ s told _ _ _. told-needs s.is_told told };
 
     ghost made_untold = { λ s. refl };
 
-    ghost made_knows = { λ s. refl };
-
-    ghost made_went = { λ s. tt };
-
     ghost made_again = { λ s. refl };
 
-    ghost learns_as_made = { λ s m. ((λ e. e), (λ e. e)) };
-
-    ghost learns_made = { λ s m e. absurd e };
-
-    ghost any_note = { λ s m T G Z knows went learns coming. absurd learns };
+    ghost note = { no_note };
 }

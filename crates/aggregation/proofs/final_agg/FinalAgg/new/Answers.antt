@@ -8,7 +8,7 @@ use Rattle.aggregation.specs.Finals.{taken_by}
 use Rattle.aggregation.specs.Giving.{merged_with}
 use Rattle.aggregation.specs.Layouts.{layout_types}
 use Rattle.aggregation.proofs.FinalLemmas.{columns-long, final-layout, final-made, final-takes, same-pages}
-use Rattle.aggregation.proofs.MadeLemmas.{none-fails, none-gives, none-merged, none-pages}
+use Rattle.aggregation.proofs.MadeLemmas.{none-fails, none-gives, none-merged}
 use Rattle.aggregation.proofs.final_agg.FinalAgg.new.Goals as goal
 
 pub invariant_of-result : goal.invariant_of-result
@@ -57,14 +57,6 @@ returns-clause-takes c =
     = c.as_slice.ensures ∙ c.in_ok-append_call_types.ensures ∙ (λ i. c.of-given.ensures i ++ map (call_kind (c.deref.ensures.value i)) (c.deref-2.ensures.value i)) in
     λ p. same-pages (taken_by (record { node = c.args.node; groups = g })) (layout_types c.args.keys.items types calls) p
     (final-takes c.in_ok-columns.columns.items calls types c.as_slice.result.now c.args.keys.items more c.args.page c.in_ok-width.width c.args.node g c.in_ok-groups.ensures c.in_ok-columns.ensures size given)
-
-pub returns-clause-pages : goal.returns-clause-pages
-returns-clause-pages c =
-    let calls = c.args.calls.items in
-    let types = c.args.types.items in
-    let given : c.as_slice.result.now ≡ c.args.keys.items ++ map (call_kind types) calls
-    = c.as_slice.ensures ∙ c.in_ok-append_call_types.ensures ∙ (λ i. c.of-given.ensures i ++ map (call_kind (c.deref.ensures.value i)) (c.deref-2.ensures.value i)) in
-    λ before p. none-pages c.in_ok-columns.columns.items calls types c.as_slice.result.now c.args.page c.in_ok-groups.groups c.in_ok-groups.ensures (c.args.keys.items ++ map (call_kind types) calls) given p
 
 pub returns-clause-layout : goal.returns-clause-layout
 returns-clause-layout c =

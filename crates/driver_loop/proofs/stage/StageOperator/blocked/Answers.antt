@@ -9,9 +9,6 @@ returns-in-Filter-clause-fails g c = rw c.in-Filter.is c.blocked.ensures.fails
 pub returns-in-Filter-clause-takes : goal.returns-in-Filter-clause-takes
 returns-in-Filter-clause-takes g c = rw c.in-Filter.is c.blocked.ensures.takes
 
-pub returns-in-Filter-clause-pages : goal.returns-in-Filter-clause-pages
-returns-in-Filter-clause-pages g c = rw c.in-Filter.is c.blocked.ensures.pages
-
 pub returns-in-Limit-clause-gives : goal.returns-in-Limit-clause-gives
 returns-in-Limit-clause-gives g c = rw c.in-Limit.is c.blocked-in-Limit.ensures.gives
 
@@ -20,9 +17,6 @@ returns-in-Limit-clause-fails g c = rw c.in-Limit.is c.blocked-in-Limit.ensures.
 
 pub returns-in-Limit-clause-takes : goal.returns-in-Limit-clause-takes
 returns-in-Limit-clause-takes g c = rw c.in-Limit.is c.blocked-in-Limit.ensures.takes
-
-pub returns-in-Limit-clause-pages : goal.returns-in-Limit-clause-pages
-returns-in-Limit-clause-pages g c = rw c.in-Limit.is c.blocked-in-Limit.ensures.pages
 
 pub returns-in-Sort-clause-gives : goal.returns-in-Sort-clause-gives
 returns-in-Sort-clause-gives g c = rw c.in-Sort.is c.blocked-in-Sort.ensures.gives
@@ -42,12 +36,6 @@ returns-in-Sort-clause-takes g c = rw c.in-Sort.is c.blocked-in-Sort.ensures.tak
 pub returns-in-TopN-clause-takes : goal.returns-in-TopN-clause-takes
 returns-in-TopN-clause-takes g c = rw c.in-TopN.is c.blocked-in-TopN.ensures.takes
 
-pub returns-in-Sort-clause-pages : goal.returns-in-Sort-clause-pages
-returns-in-Sort-clause-pages g c = rw c.in-Sort.is c.blocked-in-Sort.ensures.pages
-
-pub returns-in-TopN-clause-pages : goal.returns-in-TopN-clause-pages
-returns-in-TopN-clause-pages g c = rw c.in-TopN.is c.blocked-in-TopN.ensures.pages
-
 pub returns-in-Single-clause-gives : goal.returns-in-Single-clause-gives
 returns-in-Single-clause-gives g c = rw c.in-Single.is c.blocked-in-Single.ensures.gives
 
@@ -65,9 +53,3 @@ returns-in-Single-clause-takes g c = rw c.in-Single.is c.blocked-in-Single.ensur
 
 pub returns-in-Probe-clause-takes : goal.returns-in-Probe-clause-takes
 returns-in-Probe-clause-takes g c = rw c.in-Probe.is c.blocked-in-Probe.ensures.takes
-
-pub returns-in-Single-clause-pages : goal.returns-in-Single-clause-pages
-returns-in-Single-clause-pages g c = rw c.in-Single.is c.blocked-in-Single.ensures.pages
-
-pub returns-in-Probe-clause-pages : goal.returns-in-Probe-clause-pages
-returns-in-Probe-clause-pages g c = rw c.in-Probe.is c.blocked-in-Probe.ensures.pages

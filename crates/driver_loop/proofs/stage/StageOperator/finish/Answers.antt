@@ -3,14 +3,8 @@ use Rattle.driver_loop.proofs.stage.StageOperator.finish.Goals as goal
 pub returns-in-Filter-clause-fails : goal.returns-in-Filter-clause-fails
 returns-in-Filter-clause-fails c = rw c.in-Filter.is c.finish.ensures.fails
 
-pub returns-in-Filter-clause-pages : goal.returns-in-Filter-clause-pages
-returns-in-Filter-clause-pages c = rw c.in-Filter.is c.finish.ensures.pages
-
 pub returns-in-Limit-clause-fails : goal.returns-in-Limit-clause-fails
 returns-in-Limit-clause-fails c = rw c.in-Limit.is c.finish-in-Limit.ensures.fails
-
-pub returns-in-Limit-clause-pages : goal.returns-in-Limit-clause-pages
-returns-in-Limit-clause-pages c = rw c.in-Limit.is c.finish-in-Limit.ensures.pages
 
 pub returns-in-Sort-clause-fails : goal.returns-in-Sort-clause-fails
 returns-in-Sort-clause-fails c = rw c.in-Sort.is c.finish-in-Sort.ensures.fails
@@ -18,20 +12,8 @@ returns-in-Sort-clause-fails c = rw c.in-Sort.is c.finish-in-Sort.ensures.fails
 pub returns-in-TopN-clause-fails : goal.returns-in-TopN-clause-fails
 returns-in-TopN-clause-fails c = rw c.in-TopN.is c.finish-in-TopN.ensures.fails
 
-pub returns-in-Sort-clause-pages : goal.returns-in-Sort-clause-pages
-returns-in-Sort-clause-pages c = rw c.in-Sort.is c.finish-in-Sort.ensures.pages
-
-pub returns-in-TopN-clause-pages : goal.returns-in-TopN-clause-pages
-returns-in-TopN-clause-pages c = rw c.in-TopN.is c.finish-in-TopN.ensures.pages
-
 pub returns-in-Single-clause-fails : goal.returns-in-Single-clause-fails
 returns-in-Single-clause-fails c = rw c.in-Single.is c.finish-in-Single.ensures.fails
 
 pub returns-in-Probe-clause-fails : goal.returns-in-Probe-clause-fails
 returns-in-Probe-clause-fails c = rw c.in-Probe.is c.finish-in-Probe.ensures.fails
-
-pub returns-in-Single-clause-pages : goal.returns-in-Single-clause-pages
-returns-in-Single-clause-pages c = rw c.in-Single.is c.finish-in-Single.ensures.pages
-
-pub returns-in-Probe-clause-pages : goal.returns-in-Probe-clause-pages
-returns-in-Probe-clause-pages c = rw c.in-Probe.is c.finish-in-Probe.ensures.pages

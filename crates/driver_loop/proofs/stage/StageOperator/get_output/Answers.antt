@@ -9,12 +9,6 @@ returns-in-Filter-clause-none c = rw c.in-Filter.is c.get_output.ensures.none
 pub returns-in-Filter-clause-went : goal.returns-in-Filter-clause-went
 returns-in-Filter-clause-went c = rw c.in-Filter.is c.get_output.ensures.went
 
-pub returns-in-Filter-clause-page : goal.returns-in-Filter-clause-page
-returns-in-Filter-clause-page c = rw c.in-Filter.is c.get_output.ensures.page
-
-pub returns-in-Filter-clause-pages : goal.returns-in-Filter-clause-pages
-returns-in-Filter-clause-pages c = rw c.in-Filter.is c.get_output.ensures.pages
-
 pub returns-in-Limit-clause-fails : goal.returns-in-Limit-clause-fails
 returns-in-Limit-clause-fails c = rw c.in-Limit.is c.get_output-in-Limit.ensures.fails
 
@@ -23,12 +17,6 @@ returns-in-Limit-clause-none c = rw c.in-Limit.is c.get_output-in-Limit.ensures.
 
 pub returns-in-Limit-clause-went : goal.returns-in-Limit-clause-went
 returns-in-Limit-clause-went c = rw c.in-Limit.is c.get_output-in-Limit.ensures.went
-
-pub returns-in-Limit-clause-page : goal.returns-in-Limit-clause-page
-returns-in-Limit-clause-page c = rw c.in-Limit.is c.get_output-in-Limit.ensures.page
-
-pub returns-in-Limit-clause-pages : goal.returns-in-Limit-clause-pages
-returns-in-Limit-clause-pages c = rw c.in-Limit.is c.get_output-in-Limit.ensures.pages
 
 pub returns-in-Sort-clause-fails : goal.returns-in-Sort-clause-fails
 returns-in-Sort-clause-fails c = rw c.in-Sort.is c.get_output-in-Sort.ensures.fails
@@ -48,18 +36,6 @@ returns-in-Sort-clause-went c = rw c.in-Sort.is c.get_output-in-Sort.ensures.wen
 pub returns-in-TopN-clause-went : goal.returns-in-TopN-clause-went
 returns-in-TopN-clause-went c = rw c.in-TopN.is c.get_output-in-TopN.ensures.went
 
-pub returns-in-Sort-clause-page : goal.returns-in-Sort-clause-page
-returns-in-Sort-clause-page c = rw c.in-Sort.is c.get_output-in-Sort.ensures.page
-
-pub returns-in-TopN-clause-page : goal.returns-in-TopN-clause-page
-returns-in-TopN-clause-page c = rw c.in-TopN.is c.get_output-in-TopN.ensures.page
-
-pub returns-in-Sort-clause-pages : goal.returns-in-Sort-clause-pages
-returns-in-Sort-clause-pages c = rw c.in-Sort.is c.get_output-in-Sort.ensures.pages
-
-pub returns-in-TopN-clause-pages : goal.returns-in-TopN-clause-pages
-returns-in-TopN-clause-pages c = rw c.in-TopN.is c.get_output-in-TopN.ensures.pages
-
 pub returns-in-Single-clause-fails : goal.returns-in-Single-clause-fails
 returns-in-Single-clause-fails c = rw c.in-Single.is c.get_output-in-Single.ensures.fails
 
@@ -77,15 +53,3 @@ returns-in-Single-clause-went c = rw c.in-Single.is c.get_output-in-Single.ensur
 
 pub returns-in-Probe-clause-went : goal.returns-in-Probe-clause-went
 returns-in-Probe-clause-went c = rw c.in-Probe.is c.get_output-in-Probe.ensures.went
-
-pub returns-in-Single-clause-page : goal.returns-in-Single-clause-page
-returns-in-Single-clause-page c = rw c.in-Single.is c.get_output-in-Single.ensures.page
-
-pub returns-in-Probe-clause-page : goal.returns-in-Probe-clause-page
-returns-in-Probe-clause-page c = rw c.in-Probe.is c.get_output-in-Probe.ensures.page
-
-pub returns-in-Single-clause-pages : goal.returns-in-Single-clause-pages
-returns-in-Single-clause-pages c = rw c.in-Single.is c.get_output-in-Single.ensures.pages
-
-pub returns-in-Probe-clause-pages : goal.returns-in-Probe-clause-pages
-returns-in-Probe-clause-pages c = rw c.in-Probe.is c.get_output-in-Probe.ensures.pages

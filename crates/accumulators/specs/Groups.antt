@@ -31,6 +31,10 @@ with_part group part = record { calls = group.calls; kinds = group.kinds; partia
 abbrev pub with_row : Group → List Value → Group
 with_row group row = with_part group (partial_of group.calls (row ∷ []))
 
+-- these are the rows that the group took, from each part that was merged in, too
+abbrev pub HasTaken : Group → List (List Value) → Type 0
+HasTaken group rows = group.partial ≡ partial_of group.calls rows
+
 -- what is kept of so many rows, as a group
 abbrev pub group_kept : ℕ → List Kept → Group
 group_kept rows kept = record {

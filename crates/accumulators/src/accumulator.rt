@@ -1,10 +1,11 @@
-ghost use Rattle.std.specs.Prelude.{◌≡◌, ◌≤◌, ◌^◌, [], List, IfOk, IsTrue, OnOk, OnErr, map, nat_abs, drop};
+ghost use Rattle.std.specs.Prelude.{◌≡◌, ◌≤◌, ◌^◌, [], ◌∷◌, ◌++◌, List, IfOk, IsTrue, OnOk, OnErr, map, nat_abs, drop};
 ghost use Rattle.sql_values.specs.declared.types.SqlType.{SqlType};
 ghost use Rattle.sql_values.specs.Cells.{lent_value};
 ghost use Rattle.sql_values.specs.Order.{number_in};
+ghost use Rattle.relations.specs.Aggregates.{aggregates_of};
 ghost use Rattle.relations.specs.Partials.{partial_of, results_from};
 ghost use Rattle.accumulators.specs.Columns.{kind_in};
-ghost use Rattle.accumulators.specs.Groups.{Answers, empty_group, with_part, with_row};
+ghost use Rattle.accumulators.specs.Groups.{Answers, HasTaken, empty_group, with_part, with_row};
 ghost use Rattle.accumulators.specs.Limits.{are_allowed, is_partial, is_row_count as is_row_count_value, takes_row};
 
 use crate::call_state::CallState;
@@ -14,7 +15,7 @@ use crate::call_states::{
 };
 use crate::limits::MOST_ROWS;
 use sql_exprs::Cells;
-use sql_values::{Call, EvalFault, Memory, Row, SqlType, Value, ValueRef};
+use sql_values::{Call, EvalFault, Memory, Row, RowList, SqlType, Value, ValueRef};
 use std::alloc::Global;
 use std::marker::Model;
 
@@ -156,6 +157,21 @@ impl Accumulator {
     {
         let _ = &self.alloc;
     }
+
+    /// The law of which rows a group took: none at first, and then those that it had and the row, or the rows of
+    /// the part.
+    pub fn rows_are_taken(&self, types: &[SqlType], rows: &RowList, row: &Row, others: &RowList)
+        requires { HasTaken self.now rows.now }
+        ensures none { HasTaken (empty_group types.now self.now.calls) [] }
+        ensures row { HasTaken (with_row self.now row.now) (rows.now ++ row.now ∷ []) }
+        ensures part { HasTaken (with_part self.now (partial_of self.now.calls others.now)) (rows.now ++ others.now) }
+    {}
+
+    /// The law that the results of a group that took these rows are the aggregates of the rows.
+    pub fn results_are_aggregates(&self, types: &[SqlType], rows: &RowList)
+        requires { HasTaken self.now rows.now }
+        ensures { results_from types.now self.now.calls self.now.partial ≡ aggregates_of types.now self.now.calls rows.now }
+    {}
 
     /// The results of the calls over the group's rows as a whole.
     pub fn result(&self) -> Result<Row, EvalFault>

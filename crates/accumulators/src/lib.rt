@@ -3,7 +3,8 @@
 //!
 //! To contracts a group is its calls, the types of what they add, and the partial row (`specs/Groups.antt`).
 //! A row is taken as its own partial row is, and the laws of `relations` on partial rows say what came of all
-//! rows, in whatever order and in whatever pieces.
+//! rows, in whatever order and in whatever pieces: `rows_are_taken` says which rows a group took, and
+//! `results_are_aggregates` that its results are theirs.
 //!
 //! Sums are held at 128 bits, which no sum that a group may have can pass, and are judged in the result alone.
 //!

@@ -5,10 +5,11 @@ ghost use Rattle.aggregation.specs.Layouts.{layout_types};
 
 use crate::page_texts::{TYPES, are_rows, copied, drained, page, show, take_in};
 use crate::python_groups::{GROUPS, ROWS};
-use aggregation::{FinalAgg, PartialAgg, SingleAgg};
+use aggregation::{FinalAgg, SingleAgg};
 use col_pages::Page;
 use operator_core::OpFault;
 use sql_values::{Call, Fail, Memory, SqlType};
+use stage_meanings::{final_of, partial_of};
 use std::alloc::Global;
 
 /// The groups of rows, in one.
@@ -35,7 +36,7 @@ fn whole(
     drained(alloc, &mut op)
 }
 
-/// The first half, over pages of one row each.
+/// The first half, as a plan's stage, over pages of one row each.
 fn first_half(
     alloc: Global,
     types: &[SqlType],
@@ -46,7 +47,7 @@ fn first_half(
     requires allowed { IsTrue (are_allowed types.now calls.now) }
     requires typed { 0 < length types.now }
 {
-    let mut op = PartialAgg::new(
+    let mut op = partial_of(
         alloc,
         Vec::from_slice(alloc, keys)?,
         Vec::from_slice(alloc, calls)?,
@@ -59,7 +60,7 @@ fn first_half(
     drained(alloc, &mut op)
 }
 
-/// The second half, over these pages of the layout.
+/// The second half, as a plan's stage, over these pages of the layout.
 fn second_half(
     alloc: Global,
     types: &[SqlType],
@@ -73,7 +74,7 @@ fn second_half(
     requires typed { 0 < length layout.now }
     requires layout { layout.now ≡ layout_types kinds.now types.now calls.now }
 {
-    let mut op = FinalAgg::new(
+    let mut op = final_of(
         alloc,
         7,
         Vec::from_slice(alloc, kinds)?,

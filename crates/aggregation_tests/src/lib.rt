@@ -3,7 +3,7 @@
 //!
 //! - `states`: the groups of `accumulators`
 //! - `keys`: the index of `group_index`
-//! - `halves`: the operators of `aggregation`, in one and by halves; `page_texts` makes pages of texts
+//! - `halves`: the operators of `aggregation`, in one and by the halves of `stage_meanings`; `page_texts` makes pages of texts
 //!   and texts of pages, and `python_groups` has rows and their groups
 #![tactic(auto)]
 

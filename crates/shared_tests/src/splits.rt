@@ -1,4 +1,4 @@
-ghost use Rattle.std.specs.Prelude.{false, ◌≡◌, ◌^◌, ◌<◌, ◌≤◌, [], ◌∷◌, All, IsTrue, IfOk, length};
+ghost use Rattle.std.specs.Prelude.{false, ◌≡◌, ◌^◌, ◌<◌, ◌≤◌, [], ◌∷◌, All, IsTrue, IfOk, OnErr, length};
 ghost use Rattle.sql_values.specs.Cells.{cut};
 ghost use Rattle.sql_values.specs.ColumnRows.{fits_row};
 ghost use Rattle.sql_values.specs.declared.types.SqlType.TheVariants.{Bigint};
@@ -43,6 +43,22 @@ fn two_seats_in_turn_draw_each_number_once(rt: HostRuntime) -> Result<(), Fail> 
     let mut claims = Claims::new(rt.alloc(), 3, 2)?;
     let mut seats = claims.seats()?;
     assert!(rt; draw_three_in_turn(&mut seats));
+    Ok(())
+}
+
+/// How many seats are handed out. The contract says that a later call can have them where memory is wanting.
+fn hand_out(claims: &mut Claims) -> Result<usize, Memory>
+    requires fresh { claims.old.is_handed_out ≡ false }
+    ensures err { OnErr result (claims.new ≡ claims.old) }
+{
+    let seats = claims.ready()?.seats();
+    Ok(seats.len())
+}
+
+#[test]
+fn ready_claims_hand_out_their_seats(rt: HostRuntime) -> Result<(), Fail> {
+    let mut claims = Claims::new(rt.alloc(), 3, 2)?;
+    assert!(rt; hand_out(&mut claims)? == 2);
     Ok(())
 }
 

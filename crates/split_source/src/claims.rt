@@ -1,6 +1,8 @@
 //! The word that hands out the numbers of splits.
 ghost use Rattle.std.specs.Prelude.{◌≡◌, ◌<◌, ◌≤◌, [], false, IfOk};
 ghost use Rattle.std.specs.Vec.{vec_capacity};
+ghost use Rattle.std.specs.Borrow.{sem, RestsIfErr};
+ghost use Rattle.split_source.specs.contracts.claims.Claims.{the_row};
 ghost use Rattle.split_source.specs.Claims.{unshared};
 ghost use Rattle.split_source.specs.Seats.{new_seats, AreAllOf};
 
@@ -58,21 +60,57 @@ impl Claims {
         self.pen.is_none()
     }
 
-    /// Hands out all seats. Where there is no memory for them, they are not handed out.
-    #[tactic(auto, using(crate::proofs::SeatLemmas::all_new))]
+    /// Takes the memory that handing out all seats needs. Where there is none the claims are as they were, and
+    /// a later call may find some.
+    pub fn ready<'c>(&'c mut self) -> Result<ReadyClaims<'c>, Memory>
+        ensures* err { sem 𝓛 (RestsIfErr the_row self.entry (λ ready. ready.claims.ghost_name) result (λ last. last ≡ self.old)) }
+        ensures same_reference { IfOk result (λ ready. ready.claims.ghost_name ≡ self.entry.ghost_name) }
+        ensures same { IfOk result (λ ready. ready.claims.now ≡ self.old) }
+        ensures none { IfOk result (λ ready. ready.seats.items ≡ []) }
+        ensures room { IfOk result (λ ready. self.old.id.of.seats ≤ vec_capacity ready.seats) }
+    {
+        let seats = Vec::with_capacity(self.alloc, self.seats as usize)?;
+        Ok(ReadyClaims {
+            claims: self,
+            seats,
+        })
+    }
+
+    /// Hands out all seats. Only `ready` asks for memory here.
     pub fn seats<'c>(&'c mut self) -> Result<Vec<ClaimSeat<'c>>, Memory>
         requires { self.old.is_handed_out ≡ false }
         ensures seats { IfOk result (λ s. s.items ≡ new_seats self.old.id) }
         ensures all { IfOk result (λ s. AreAllOf self.old.id s.items) }
     {
-        let mut seats = Vec::with_capacity(self.alloc, self.seats as usize)?;
-        let count = self.count;
-        let number = self.seats;
-        let Some(pen) = self.pen.take() else {
+        Ok(self.ready()?.seats())
+    }
+}
+
+/// Claims with the memory for their seats.
+#[derive(Drop)]
+pub struct ReadyClaims<'c> {
+    claims: &'c mut Claims,
+    seats: Vec<ClaimSeat<'c>>,
+}
+
+impl<'c> ReadyClaims<'c> {
+    /// Hands out all seats, which needs no more memory.
+    #[tactic(auto, using(crate::proofs::SeatLemmas::all_new))]
+    pub fn seats(self) -> Vec<ClaimSeat<'c>>
+        requires fresh { self.claims.now.is_handed_out ≡ false }
+        requires none { self.seats.items ≡ [] }
+        requires room { self.claims.now.id.of.seats ≤ vec_capacity self.seats }
+        ensures seats { result.items ≡ new_seats self.entry.claims.now.id }
+        ensures all { AreAllOf self.entry.claims.now.id result.items }
+    {
+        let ReadyClaims { claims, mut seats } = self;
+        let count = claims.count;
+        let number = claims.seats;
+        let Some(pen) = claims.pen.take() else {
             unreachable!()
         };
-        deal(&mut seats, &self.table.shared, pen, count, number);
-        Ok(seats)
+        deal(&mut seats, &claims.table.shared, pen, count, number);
+        seats
     }
 }
 

@@ -5,7 +5,8 @@
 //!
 //! - `splits`: `split_count` and `split_range`, and that the ranges cut the rows, each row in one
 //! - `claims`: `Claims`, the word that hands out numbers, with the rule that no number is drawn
-//!   twice and none is left out (`specs/Claims.antt`)
+//!   twice and none is left out (`specs/Claims.antt`). Where memory for the seats is wanting, `ready`
+//!   leaves the claims as they were
 //! - `claim_seat`: `ClaimSeat`, one reader's right to draw. A claim is one atomic step
 //! - `scan_source`: `ScanSource`, which gives the rows of its seat's splits in pages
 //! - `settle`: `settle_claims` and `stop_claims`, which say what all seats together drew
@@ -19,7 +20,7 @@ mod settle;
 mod splits;
 
 pub use claim_seat::ClaimSeat;
-pub use claims::Claims;
+pub use claims::{Claims, ReadyClaims};
 pub use draws::{Counts, Drawn};
 pub use scan_source::ScanSource;
 pub use settle::{settle_claims, stop_claims};

@@ -9,7 +9,9 @@ loop-page-init c =
     let layout : c.args.layout.now ≡ layout_types c.in_ok-from_slice.field-0.items c.in_ok-from_slice-3.field-0.items c.in_ok-from_slice-2.field-0.items
     = c.requires.layout
     ∙ (λ i. layout_types (sym c.in_ok-from_slice.ensures.items i) (sym c.in_ok-from_slice-3.ensures.items i) (sym c.in_ok-from_slice-2.ensures.items i)) in
-    λ p fit. (c.in_ok-op.ensures.takes p).1 (subst (λ (ts : List SqlType). FitsTypes ts p) layout fit)
+    λ p fit.
+    let typed = subst (λ (ts : List SqlType). FitsTypes ts p) layout fit in
+    (c.in_ok-op.ensures.takes p).1 (record { of_types = typed.0; fit = typed.1 })
 
 pub take_in-requires : goal.take_in-requires
 take_in-requires c =

@@ -1,0 +1,5 @@
+pub mod Columns
+pub mod Operators
+pub mod Sources
+pub mod Nodes
+pub mod Plans

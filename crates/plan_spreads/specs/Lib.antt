@@ -3,3 +3,5 @@ pub mod Operators
 pub mod Sources
 pub mod Nodes
 pub mod Plans
+pub mod Runs
+pub mod Halves

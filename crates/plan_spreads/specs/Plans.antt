@@ -14,8 +14,9 @@ use Rattle.plan_types.specs.Plans.{root_path}
 use Rattle.plan_spreads.specs.declared.fault.SpreadFault.{SpreadFault}
 use Rattle.plan_spreads.specs.declared.fault.SpreadFault.TheVariants as fault
 use Rattle.plan_spreads.specs.declared.spread.Spread.{Spread}
-use Rattle.plan_spreads.specs.declared.spread.Spread.TheVariants.{Every, Whole}
+use Rattle.plan_spreads.specs.declared.spread.Spread.TheVariants.{Whole}
 use Rattle.plan_spreads.specs.Nodes.{spread_of}
+use Rattle.plan_spreads.specs.Operators.{is_parted}
 use Rattle.plan_spreads.specs.Sources.{misread}
 
 abbrev pub is_single : Placement → Bool
@@ -37,8 +38,7 @@ sources_fault i (f ∷ fs) = option_or (misread f.placement (i + 1) fs (root_pat
 
 -- rows that each task has would be given once for each
 abbrev pub root_spread : Path → Spread → Result Spread Path
-root_spread path Every = Err path
-root_spread path s = Ok s
+root_spread path s = if is_parted s then Ok s else Err path
 
 -- one task may run any node
 abbrev pub fragment_spread : ℕ → List FragmentForm → FragmentForm → Result Spread Path

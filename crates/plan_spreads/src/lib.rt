@@ -15,6 +15,7 @@
 
 mod columns;
 mod fault;
+mod laws;
 mod nodes;
 mod operators;
 mod plans;
@@ -22,5 +23,6 @@ mod sources;
 mod spread;
 
 pub use fault::SpreadFault;
+pub use laws::plans_are_placed;
 pub use plans::spread_plan;
 pub use spread::Spread;

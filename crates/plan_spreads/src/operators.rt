@@ -67,7 +67,8 @@ pub fn join_spread(on: &[Pair], left: Spread, right: Spread) -> Option<Spread>
     }
 }
 
-fn is_parted(spread: &Spread) -> bool
+/// Whether each row is in one task.
+pub fn is_parted(spread: &Spread) -> bool
     ensures { result ≡ is_parted spread.now }
 {
     matches!(spread, Spread::Any | Spread::By(_))

@@ -8,6 +8,7 @@ ghost use Rattle.plan_spreads.specs.Plans.{RefusedFor, all_spreads, first_placem
 
 use crate::fault::SpreadFault;
 use crate::nodes::spread_of;
+use crate::operators::is_parted;
 use crate::sources::{Reader, pass_sources};
 use crate::spread::Spread;
 use plan_docs::{Fragment, Placement, Plan};
@@ -166,8 +167,8 @@ fn root_spread(alloc: Global, path: &[Step], spread: Spread) -> Result<Spread, M
     ensures { MatchResult result (λ s. root_spread path.now spread ≡ Ok s)
         (MisfitAt (root_spread path.now spread)) }
 {
-    match spread {
-        Spread::Every => Err(refused_at(alloc, path)),
-        spread => Ok(spread),
+    if is_parted(&spread) {
+        return Ok(spread);
     }
+    Err(refused_at(alloc, path))
 }

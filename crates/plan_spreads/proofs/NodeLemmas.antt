@@ -1,12 +1,11 @@
 -- The nodes of a fragment are placed: as a whole in one task, and at their spreads in several.
-use Rattle.std.proofs.Common.{◌≡◌, ℕ, ◌-◌, ◌<◌, List, [], ◌∷◌, length, map, Bool, true, false, Option, Some, None, refl, ap, sym, ◌∙◌, subst, arith}
+use Rattle.std.proofs.Common.{◌≡◌, ℕ, ◌-◌, ◌<◌, List, length, Option, Some, None, refl, ap, sym, ◌∙◌, subst}
 use Rattle.std.specs.Prelude.{Result, Ok, Err, if◌then◌else◌}
 use Rattle.std.specs.Option.{ok_or, option_or}
 use Rattle.plan_places.specs.declared.key.Key.TheVariants as key
-use Rattle.sql_exprs.specs.Typing.{Path, typed_then, under}
+use Rattle.sql_exprs.specs.Typing.{Path, under}
 use Rattle.sql_exprs.proofs.TypingLemmas.{typed_then_ok}
 use Rattle.bag_laws.specs.Buckets.{AllBelow}
-use Rattle.plan_trees.specs.TreeForms.{pair_view}
 use Rattle.plan_docs.specs.declared.plan.Output.{Output}
 use Rattle.plan_docs.specs.declared.plan.Output.TheVariants as output
 use Rattle.plan_docs.specs.declared.plan.Placement.{Placement}
@@ -20,13 +19,13 @@ use Rattle.plan_runs.specs.RunPlans as run
 use Rattle.plan_runs.specs.Spreads as runs
 use Rattle.plan_runs.specs.Placements.{Placed, scan_whole, values_whole, values_every, remote_whole, filter_stays, project_whole, join_whole, aggregate_whole, final_whole, final_by, sort_whole, topn_whole, topn_parts_whole, limit_whole, limit_parts_whole, union_whole}
 use Rattle.plan_spreads.specs.declared.spread.Spread.{Spread}
-use Rattle.plan_spreads.specs.declared.spread.Spread.TheVariants.{Whole, Any, By, Every}
-use Rattle.plan_spreads.specs.Halves.{Halved, aggregates, top_ns, limits, Meets, half}
+use Rattle.plan_spreads.specs.declared.spread.Spread.TheVariants.{Every}
+use Rattle.plan_spreads.specs.Halves.{Halved, aggregates, top_ns, limits, Meets}
 use Rattle.plan_spreads.specs.Nodes.{over, spread_of}
 use Rattle.plan_spreads.specs.Operators.{aggregate_spread, final_spread, first_rows_spread, join_spread, project_spread, remote_spread, scan_spread, union_spread}
 use Rattle.plan_spreads.specs.Runs.{Part, node_run, one_over, output_view, part_read, source_run, spread_view}
 use Rattle.plan_spreads.specs.Sources.{fits_reader, fragment_read, half_keys, keys_read, misread, output_of, root_keys, source_fault}
-use Rattle.plan_spreads.proofs.OperatorLemmas.{FitsColumns, aggregate_placed, final_over, join_placed, not_first, project_placed, remote_placed, scan_placed, union_placed}
+use Rattle.plan_spreads.proofs.OperatorLemmas.{aggregate_placed, final_over, join_placed, not_first, project_placed, remote_placed, scan_placed, union_placed}
 use Rattle.plan_spreads.proofs.ReadParts.{AllStand, Over, Reads, has_read, over_half}
 use Rattle.plan_spreads.proofs.WidthLemmas.{root_read}
 

@@ -1,12 +1,12 @@
 -- The spread that an operator gives is one at which it is placed, over inputs that are placed at theirs.
-use Rattle.std.proofs.Common.{◌≡◌, ℕ, ◌<◌, List, [], ◌∷◌, length, map, Bool, true, false, Option, Some, None, refl, ap, sym, ◌∙◌, subst, arith}
-use Rattle.std.specs.Prelude.{All, Contains, ◌&&◌, if◌then◌else◌, option_map}
+use Rattle.std.proofs.Common.{◌≡◌, ℕ, ◌<◌, List, ◌∷◌, length, map, Bool, true, false, Option, Some, None, refl, ap, sym, ◌∙◌, subst, arith}
+use Rattle.std.specs.Prelude.{if◌then◌else◌, option_map}
 use Rattle.std.proofs.lemmas.List.{map-id}
 use Rattle.sql_values.specs.declared.types.SqlType.{SqlType}
 use Rattle.sql_values.specs.declared.relational.Call.{Call}
 use Rattle.sql_values.specs.declared.relational.JoinKind.{JoinKind}
 use Rattle.sql_exprs.specs.Forms.{Form, column}
-use Rattle.bag_laws.specs.Buckets.{AllBelow, at_places, lefts, rights}
+use Rattle.bag_laws.specs.Buckets.{AllBelow, at_places}
 use Rattle.plan_trees.specs.declared.tree.Pair.{Pair}
 use Rattle.plan_trees.specs.TreeForms.{pair_view}
 use Rattle.plan_trees.specs.Allowed.{width_of}
@@ -19,11 +19,11 @@ use Rattle.plan_docs.specs.declared.plan.Placement.TheVariants as placement
 use Rattle.plan_runs.specs.RunPlans.{RunPlan, tree_of_run}
 use Rattle.plan_runs.specs.RunPlans as run
 use Rattle.plan_runs.specs.Spreads as runs
-use Rattle.plan_runs.specs.Placements.{IsRead, Placed, scan_any, remote_by, remote_every, project_any, project_by, project_every, join_right_every, join_by, aggregate_by, final_by, union_any, union_every, any_from_by}
+use Rattle.plan_runs.specs.Placements.{IsRead, Placed, scan_any, remote_by, remote_every, project_any, project_by, project_every, join_right_every, join_by, aggregate_by, union_any, union_every, any_from_by}
 use Rattle.plan_spreads.specs.declared.spread.Spread.{Spread}
 use Rattle.plan_spreads.specs.declared.spread.Spread.TheVariants.{Whole, Any, By, Every}
 use Rattle.plan_spreads.specs.Columns.{are_paired, is_column, is_key, places_of}
-use Rattle.plan_spreads.specs.Operators.{aggregate_spread, are_keys, by_or_any, final_spread, first_rows_spread, is_parted, join_spread, partial_spread, project_spread, remote_spread, scan_spread, union_spread, whole_spread}
+use Rattle.plan_spreads.specs.Operators.{aggregate_spread, are_keys, by_or_any, final_spread, first_rows_spread, is_parted, join_spread, partial_spread, project_spread, remote_spread, scan_spread, union_spread}
 use Rattle.plan_spreads.specs.Runs.{output_view, spread_view}
 use Rattle.plan_spreads.proofs.PlaceLemmas.{column_is, key_is, keys_are, paired, places_at}
 

@@ -1,5 +1,5 @@
 -- A plan whose placement is not broken is placed as it runs.
-use Rattle.std.proofs.Common.{◌≡◌, ℕ, ◌+◌, ◌<◌, List, [], ◌∷◌, length, Bool, true, false, Option, Some, None, refl, ap, sym, ◌∙◌, subst, arith}
+use Rattle.std.proofs.Common.{◌≡◌, ℕ, ◌+◌, ◌<◌, List, [], ◌∷◌, length, Bool, true, false, Some, None, refl, ap, ◌∙◌, subst}
 use Rattle.std.specs.Prelude.{Result, Ok, Err, if◌then◌else◌, nat_le, slice_get}
 use Rattle.std.specs.List.{position_from}
 use Rattle.sql_values.specs.declared.types.SqlType.{SqlType}

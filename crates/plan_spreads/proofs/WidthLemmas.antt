@@ -1,12 +1,11 @@
 -- The rows of a typed node have as many columns as those of its tree.
-use Rattle.std.proofs.Common.{◌≡◌, ℕ, ◌+◌, ◌-◌, ◌<◌, ◌≤◌, zero, suc, List, [], ◌∷◌, ◌++◌, length, map, Bool, true, false, cond, Option, Some, None, refl, ap, sym, ◌∙◌, subst, arith, length-append}
+use Rattle.std.proofs.Common.{◌≡◌, ℕ, ◌+◌, ◌-◌, ◌<◌, suc, List, [], ◌∷◌, ◌++◌, length, map, Bool, true, false, cond, Option, Some, None, refl, ap, sym, ◌∙◌, subst, length-append}
 use Rattle.std.specs.Prelude.{Result, Ok, Err, nat_le, nat_lt, if◌then◌else◌}
 use Rattle.std.specs.List.{position_from}
 use Rattle.std.proofs.lemmas.Bool.{leb-false}
 use Rattle.std.proofs.lemmas.List.{length-map}
 use Rattle.std.proofs.lemmas.List.Elements.{All-cons, All-nil}
 use Rattle.sql_values.specs.declared.types.SqlType.{SqlType}
-use Rattle.sql_values.specs.declared.value.Value.{Value}
 use Rattle.sql_values.specs.declared.relational.Call.{Call}
 use Rattle.sql_values.specs.declared.order.KeySpec.{KeySpec}
 use Rattle.sql_functions.specs.CallTypes.{is_boolean, type_at}
@@ -30,15 +29,14 @@ use Rattle.plan_types.specs.Aggregates.{step_types, takes_not}
 use Rattle.plan_types.specs.Cells.{cell_fault, misfit_from}
 use Rattle.plan_types.specs.Faults.{entry_fault, or_fault}
 use Rattle.plan_types.specs.Nodes.{final_rows, node_types, read_from, same_rows}
-use Rattle.plan_types.specs.Operators.{aggregate_types, boolean_rows, column_types, filter_types, is_key_beyond, is_unequal, join_types, project_types, sort_types, union_types, values_types}
+use Rattle.plan_types.specs.Operators.{aggregate_types, boolean_rows, column_types, filter_types, is_key_beyond, is_unequal, join_types, project_types, sort_types, union_types}
 use Rattle.std.specs.Cmp.Lexicographic.{pointwise}
 use Rattle.sql_functions.specs.CallTypes.{same_type}
-use Rattle.plan_runs.specs.RunPlans.{RunPlan, tree_of_run}
-use Rattle.plan_runs.specs.RunPlans as run
-use Rattle.plan_spreads.specs.Halves.{Halved, aggregates, top_ns, limits, Meets, ReadsHalf, half}
+use Rattle.plan_runs.specs.RunPlans.{tree_of_run}
+use Rattle.plan_spreads.specs.Halves.{Halved, aggregates, top_ns, limits, Meets}
 use Rattle.plan_spreads.specs.Runs.{Part, node_run, one_over, part_read}
 use Rattle.plan_spreads.specs.Sources.{fragment_read, half_keys}
-use Rattle.plan_spreads.proofs.ReadParts.{AllStand, Grouped, Limited, Over, Reads, Rooted, Stands, Topped, has_read, over_half}
+use Rattle.plan_spreads.proofs.ReadParts.{AllStand, Over, Reads, Rooted, has_read, over_half}
 
 -- a fault that there is none of says nothing
 pub unless_fault : {A : Type 0} (o : Option Path) (r : Result A Path) (x : A) → or_fault o r ≡ Ok x → (o ≡ None) × (r ≡ Ok x)

@@ -4,7 +4,7 @@ use Rattle.std.specs.Prelude.{◌≡◌, ℕ, ◌+◌, List, [], ◌∷◌, Opti
 use Rattle.plan_docs.specs.declared.node.NodeStep.{NodeStep}
 use Rattle.plan_docs.specs.declared.node.NodeStep.TheVariants.{Single, Partial}
 use Rattle.plan_docs.specs.Nodes.{NodeForm, scan, values, remote, filter, project, join, aggregate, aggregate_final, sort, top_n, top_n_final, limit, limit_final, union}
-use Rattle.plan_docs.specs.Plans.{FragmentForm, PlanForm}
+use Rattle.plan_docs.specs.Plans.{FragmentForm}
 use Rattle.plan_spreads.specs.Sources.{fragment_read}
 
 -- the operators that have halves

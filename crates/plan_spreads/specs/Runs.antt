@@ -1,5 +1,5 @@
 -- A plan as it runs: the fragments stand in place of the sources that read them.
-use Rattle.std.specs.Prelude.{◌≡◌, ℕ, ◌+◌, ◌-◌, List, [], ◌∷◌, map, slice_get, if◌then◌else◌, Option, Some, None, unwrap_or}
+use Rattle.std.specs.Prelude.{ℕ, ◌+◌, ◌-◌, List, [], ◌∷◌, map, slice_get, if◌then◌else◌, unwrap_or}
 use Rattle.plan_docs.specs.declared.plan.Output.{Output}
 use Rattle.plan_docs.specs.declared.plan.Output.TheVariants as output
 use Rattle.plan_docs.specs.declared.plan.Placement.{Placement}
@@ -12,7 +12,6 @@ use Rattle.plan_runs.specs.Spreads as runs
 use Rattle.plan_spreads.specs.declared.spread.Spread.{Spread}
 use Rattle.plan_spreads.specs.declared.spread.Spread.TheVariants.{Whole, Any, By, Every}
 use Rattle.plan_spreads.specs.Plans.{is_single}
-use Rattle.plan_spreads.specs.Sources.{fragment_read}
 
 abbrev pub spread_view : Spread → runs.Spread
 spread_view Whole = runs.whole
@@ -40,11 +39,17 @@ no_part = record { tasks = 1; output = run.single; root = run.values 0 [] [] }
 abbrev pub part_read : ℕ → List Part → ℕ → Part
 part_read first parts fragment = unwrap_or (slice_get parts (fragment - first)) no_part
 
--- a PARTIAL root, its remote source and the FINAL node above are one
+-- a PARTIAL root, its remote source and the FINAL node above are one, as they are in the tree of a plan
 abbrev pub one_over : ℕ → ℕ → run.Output → ℕ → RunPlan → RunPlan
 one_over id source o tasks (run.aggregate half keys calls input) = run.aggregate_parts id source o tasks keys calls input
 one_over id source o tasks (run.topn half count keys input) = run.topn_parts id source o tasks count keys input
 one_over id source o tasks (run.limit half count input) = run.limit_parts id source o tasks count input
+one_over id source o tasks (run.aggregate_parts half below p n keys calls input) =
+    run.aggregate_parts id source o tasks keys calls (run.remote below p n input)
+one_over id source o tasks (run.topn_parts half below p n count keys input) =
+    run.topn_parts id source o tasks count keys (run.remote below p n input)
+one_over id source o tasks (run.limit_parts half below p n count input) =
+    run.limit_parts id source o tasks count (run.remote below p n input)
 one_over id source o tasks root = run.remote source o tasks root
 
 abbrev pub one_with : ℕ → RunPlan → RunPlan

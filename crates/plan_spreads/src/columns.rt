@@ -42,10 +42,7 @@ fn key_place(keys: &[u32], column: u32) -> Option<usize>
 }
 
 /// The place before the others. A list of 2^32 entries is want of memory: its places have no numbers.
-fn add_place(
-    place: Option<usize>,
-    places: Option<Vec<u32>>,
-) -> Result<Option<Vec<u32>>, Memory>
+fn add_place(place: Option<usize>, places: Option<Vec<u32>>) -> Result<Option<Vec<u32>>, Memory>
     ensures { IfOk result (λ found. option_map (λ v. v.items) found
         ≡ add_place place (option_map (λ v. v.items) places)) }
 {

@@ -31,11 +31,7 @@ fn placed(alloc: Global, path: &[Step], spread: Option<Spread>) -> Result<Spread
     }
 }
 
-fn spread_read(
-    alloc: Global,
-    reader: &Reader<'_>,
-    fragment: u32,
-) -> Result<Option<Spread>, Memory>
+fn spread_read(alloc: Global, reader: &Reader<'_>, fragment: u32) -> Result<Option<Spread>, Memory>
     ensures { IfOk result (λ s. s ≡ remote_spread
         (output_of (fragment_read reader.now.first (map fragment_view reader.now.later.now) fragment))) }
 {
@@ -85,7 +81,10 @@ pub fn spread_of(
             placed(alloc, path, join_spread(on.as_slice(), left, right))
         }
         Node::Aggregate {
-            step, keys, input, ..
+            step,
+            keys,
+            input,
+            ..
         } => {
             let input = spread_of(alloc, reader, under.as_slice(), input)?;
             let spread = aggregate_spread(alloc, *step, keys.as_slice(), input)?;
@@ -96,26 +95,15 @@ pub fn spread_of(
             let input = spread_of(alloc, reader, under.as_slice(), input)?;
             placed(alloc, path, final_spread(reader.placement, keys, input))
         }
-        Node::TopN { step, input, .. } => {
+        Node::TopN { step, input, .. } | Node::Limit { step, input, .. } => {
             let input = spread_of(alloc, reader, under.as_slice(), input)?;
             placed(alloc, path, first_rows_spread(*step, input))
         }
-        Node::Limit { step, input, .. } => {
-            let input = spread_of(alloc, reader, under.as_slice(), input)?;
-            placed(alloc, path, first_rows_spread(*step, input))
-        }
-        Node::Sort { input, .. } => {
-            spread_of(alloc, reader, under.as_slice(), input)?;
-            placed(alloc, path, None)
-        }
-        Node::TopNFinal { input, .. } => {
-            spread_of(alloc, reader, under.as_slice(), input)?;
-            placed(alloc, path, None)
-        }
-        Node::LimitFinal { input, .. } => {
-            spread_of(alloc, reader, under.as_slice(), input)?;
-            placed(alloc, path, None)
-        }
+        Node::Sort { input, .. } | Node::TopNFinal { input, .. } | Node::LimitFinal { input, .. } =>
+            {
+                spread_of(alloc, reader, under.as_slice(), input)?;
+                Err(refused_at(alloc, path))
+            }
         Node::Union { left, right, .. } => {
             let inner = then(alloc, path, Step::Key(Key::Left))?;
             let left = spread_of(alloc, reader, inner.as_slice(), left)?;

@@ -24,7 +24,9 @@ pub fn fragment_read<'a>(reader: &Reader<'a>, fragment: u32) -> Option<&'a Fragm
     ensures { option_map (λ f. fragment_view f.now) result
         ≡ fragment_read reader.now.first (map fragment_view reader.now.later.now) fragment }
 {
-    reader.later.get((fragment as usize).saturating_sub(reader.first))
+    reader
+        .later
+        .get((fragment as usize).saturating_sub(reader.first))
 }
 
 /// Whether a reader of this placement takes rows that go there.
@@ -81,29 +83,26 @@ pub fn pass_sources(
         (StandsIn (misread reader.now.placement reader.now.first
         (map fragment_view reader.now.later.now) path.now (node_view node.now))) }
 {
-    let under = then(alloc, path, Step::Key(Key::Input))?;
-    let left_path = then(alloc, path, Step::Key(Key::Left))?;
-    let right_path = then(alloc, path, Step::Key(Key::Right))?;
     match node {
-        Node::Scan { .. } => Ok(()),
-        Node::Values { .. } => Ok(()),
+        Node::Scan { .. } | Node::Values { .. } => Ok(()),
         Node::Remote { fragment, .. } => pass_source(alloc, reader, path, *fragment),
-        Node::Filter { input, .. } => pass_sources(alloc, reader, under.as_slice(), input),
-        Node::Project { input, .. } => pass_sources(alloc, reader, under.as_slice(), input),
-        Node::Join { left, right, .. } => {
-            pass_sources(alloc, reader, left_path.as_slice(), left)?;
-            pass_sources(alloc, reader, right_path.as_slice(), right)
+        Node::Join { left, right, .. } | Node::Union { left, right, .. } => {
+            let inner = then(alloc, path, Step::Key(Key::Left))?;
+            pass_sources(alloc, reader, inner.as_slice(), left)?;
+            let inner = then(alloc, path, Step::Key(Key::Right))?;
+            pass_sources(alloc, reader, inner.as_slice(), right)
         }
-        Node::Aggregate { input, .. } => pass_sources(alloc, reader, under.as_slice(), input),
-        Node::AggregateFinal { input, .. } => pass_sources(alloc, reader, under.as_slice(), input),
-        Node::Sort { input, .. } => pass_sources(alloc, reader, under.as_slice(), input),
-        Node::TopN { input, .. } => pass_sources(alloc, reader, under.as_slice(), input),
-        Node::TopNFinal { input, .. } => pass_sources(alloc, reader, under.as_slice(), input),
-        Node::Limit { input, .. } => pass_sources(alloc, reader, under.as_slice(), input),
-        Node::LimitFinal { input, .. } => pass_sources(alloc, reader, under.as_slice(), input),
-        Node::Union { left, right, .. } => {
-            pass_sources(alloc, reader, left_path.as_slice(), left)?;
-            pass_sources(alloc, reader, right_path.as_slice(), right)
+        Node::Filter { input, .. }
+        | Node::Project { input, .. }
+        | Node::Aggregate { input, .. }
+        | Node::AggregateFinal { input, .. }
+        | Node::Sort { input, .. }
+        | Node::TopN { input, .. }
+        | Node::TopNFinal { input, .. }
+        | Node::Limit { input, .. }
+        | Node::LimitFinal { input, .. } => {
+            let inner = then(alloc, path, Step::Key(Key::Input))?;
+            pass_sources(alloc, reader, inner.as_slice(), input)
         }
     }
 }

@@ -12,11 +12,8 @@ use Rattle.plan_spreads.specs.Runs.{Part, all_parts, no_part, node_run, one_over
 use Rattle.plan_pipelines.specs.Sources.{AllReadOn, EachSource, IsAmong}
 
 over_one : (id source : ℕ) (o : Output) (tasks : ℕ) (r : RunPlan) → whole_over id source (tree_of_run r) ≡ tree_of_run (one_over id source o tasks r)
-over_one id source o tasks r = by_root r
-  where
-    by_root : (r : RunPlan) → whole_over id source (tree_of_run r) ≡ tree_of_run (one_over id source o tasks r)
-    by_root (run.aggregate half keys calls input) = refl
-    by_root r = refl
+over_one id source o tasks (run.aggregate half keys calls input) = refl
+over_one id source o tasks r = refl
 
 whole_one : (id : ℕ) (r : RunPlan) → whole id (tree_of_run r) ≡ tree_of_run (one_with id r)
 whole_one id (run.remote source o tasks r) = over_one id source o tasks r
@@ -82,7 +79,7 @@ nothing_runs tasks = refl
 fragments_run : (tasks : ℕ) (fs : List FragmentForm) → AllReadOn 0 fs → fragment_tree (length fs) fs 0 ≡ tree_of_run (part_read 0 (all_parts tasks 0 fs) 0).root
 fragments_run tasks [] on = nothing_runs tasks
 fragments_run tasks (f ∷ fs) on =
-    runs_from tasks (f ∷ fs) 0 (f ∷ fs) (λ k. refl) on (length (f ∷ fs)) (omega arith) 0 (omega arith)
+    runs_from tasks (f ∷ fs) 0 (f ∷ fs) (λ k. let none : 0 + k ≡ k = omega arith in ap (slice_get (f ∷ fs)) none) on (length (f ∷ fs)) (omega arith) 0 (omega arith)
 
 pub plan_runs_as : (plan : PlanForm) (tasks : ℕ) → AllReadOn 0 plan.fragments → tree_of plan ≡ tree_of_run (run_of tasks plan)
 unfolding tree_of

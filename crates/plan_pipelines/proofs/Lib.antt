@@ -1,1 +1,2 @@
 pub mod FragmentLemmas
+pub mod SourceLemmas

@@ -1,2 +1,3 @@
 pub mod Fragments
 pub mod Built
+pub mod Sources

@@ -6,6 +6,7 @@
 //! - `checks`: the first check that fails, of `plan_checks`
 //! - `docs`: the plan that a document means, of `plan_docs`
 //! - `types`: the types of a plan's rows, of `plan_types`
+//! - `spreads`: the spreads of a plan's rows over tasks, of `plan_spreads`
 //! - `reader`: `read_plan` and the tree of a plan, of `plan_reader`
 //! - `lines`: what the modules share: cases that are written as lines
 #![tactic(auto)]
@@ -22,6 +23,8 @@ mod lines;
 mod places;
 #[cfg(test)]
 mod reader;
+#[cfg(test)]
+mod spreads;
 #[cfg(test)]
 mod trees;
 #[cfg(test)]

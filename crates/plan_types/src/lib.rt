@@ -18,5 +18,6 @@ mod operators;
 mod plans;
 mod row_types;
 
-pub use plans::type_plan;
+pub use faults::refused_at;
+pub use plans::{root_path, type_plan};
 pub use row_types::RowTypes;

@@ -62,7 +62,8 @@ fn fragment_types(
     Ok(types)
 }
 
-fn root_path(alloc: Global, at: usize) -> Result<Vec<Step>, Memory>
+/// The path of the root of a fragment.
+pub fn root_path(alloc: Global, at: usize) -> Result<Vec<Step>, Memory>
     ensures { IfOk result (λ path. path.items ≡ root_path at) }
 {
     let mut path = Vec::with_capacity(alloc, 3)?;

@@ -1,0 +1,32 @@
+-- Plans of several fragments in which each source reads a fragment after its own, as the earlier checks of a document
+-- have it.
+use Rattle.std.specs.Prelude.{ℕ, ◌+◌, ◌<◌, ◌≤◌, List, [], ◌∷◌, length}
+use Rattle.plan_docs.specs.Nodes.{NodeForm}
+use Rattle.plan_docs.specs.Nodes as node
+use Rattle.plan_docs.specs.Plans.{FragmentForm}
+
+-- what is said of the fragment that each remote source of a node names
+abbrev pub EachSource : (ℕ → Type 0) → NodeForm → Type 0
+EachSource P (node.scan id table columns types) = Unit {0}
+EachSource P (node.values id types rows) = Unit {0}
+EachSource P (node.remote id fragment) = P fragment
+EachSource P (node.filter id predicate input) = EachSource P input
+EachSource P (node.project id columns input) = EachSource P input
+EachSource P (node.join id kind on filters left right) = EachSource P left × EachSource P right
+EachSource P (node.aggregate id step keys calls input) = EachSource P input
+EachSource P (node.aggregate_final id input) = EachSource P input
+EachSource P (node.sort id keys input) = EachSource P input
+EachSource P (node.top_n id step count keys input) = EachSource P input
+EachSource P (node.top_n_final id input) = EachSource P input
+EachSource P (node.limit id step count input) = EachSource P input
+EachSource P (node.limit_final id input) = EachSource P input
+EachSource P (node.union id left right) = EachSource P left × EachSource P right
+
+-- one of so many fragments from `first` on
+abbrev pub IsAmong : ℕ → ℕ → ℕ → Type 0
+IsAmong first count fragment = (first ≤ fragment) × (fragment < first + count)
+
+-- of the fragments from place i on
+abbrev pub AllReadOn : ℕ → List FragmentForm → Type 0
+AllReadOn i [] = Unit {0}
+AllReadOn i (f ∷ fs) = EachSource (IsAmong (i + 1) (length fs)) f.root × AllReadOn (i + 1) fs

@@ -1,0 +1,6 @@
+pub mod PlaceLemmas
+pub mod OperatorLemmas
+pub mod ReadParts
+pub mod WidthLemmas
+pub mod NodeLemmas
+pub mod PlanLemmas

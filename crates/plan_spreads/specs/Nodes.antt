@@ -1,0 +1,36 @@
+-- The spread of a node's rows over the tasks of its fragment, from its inputs up, or the first node that has none.
+use Rattle.std.specs.Prelude.{ℕ, List, Option, None, Result, Ok}
+use Rattle.std.specs.Option.{ok_or}
+use Rattle.plan_places.specs.declared.key.Key.TheVariants as key
+use Rattle.sql_exprs.specs.Typing.{Path, typed_then, under}
+use Rattle.plan_docs.specs.declared.plan.Placement.{Placement}
+use Rattle.plan_docs.specs.Nodes.{NodeForm, scan, values, remote, filter, project, join, aggregate, aggregate_final, sort, top_n, top_n_final, limit, limit_final, union}
+use Rattle.plan_docs.specs.Plans.{FragmentForm}
+use Rattle.plan_spreads.specs.declared.spread.Spread.{Spread}
+use Rattle.plan_spreads.specs.declared.spread.Spread.TheVariants.{Every}
+use Rattle.plan_spreads.specs.Operators.{aggregate_spread, final_spread, first_rows_spread, join_spread, project_spread, remote_spread, scan_spread, union_spread}
+use Rattle.plan_spreads.specs.Sources.{fragment_read, keys_read, output_of}
+
+-- the operator's spread over that of its input
+abbrev pub over : Path → Result Spread Path → (Spread → Option Spread) → Result Spread Path
+over path input spread = typed_then input (λ s. ok_or (spread s) path)
+
+-- the node at a path, in a fragment of this placement, where `later` has the fragments from `first` on
+abbrev pub spread_of : Placement → ℕ → List FragmentForm → Path → NodeForm → Result Spread Path
+spread_of p first later path (scan id table columns types) = ok_or (scan_spread p) path
+spread_of p first later path (values id types rows) = Ok Every
+spread_of p first later path (remote id fragment) = ok_or (remote_spread (output_of (fragment_read first later fragment))) path
+spread_of p first later path (filter id predicate input) = spread_of p first later (under path key.Input) input
+spread_of p first later path (project id columns input) = over path (spread_of p first later (under path key.Input) input) (project_spread columns)
+spread_of p first later path (join id kind on filters left right) =
+    typed_then (spread_of p first later (under path key.Left) left) (λ l. over path (spread_of p first later (under path key.Right) right) (join_spread on l))
+spread_of p first later path (aggregate id step keys calls input) = over path (spread_of p first later (under path key.Input) input) (aggregate_spread step keys)
+spread_of p first later path (aggregate_final id input) =
+    over path (spread_of p first later (under path key.Input) input) (final_spread p (keys_read first later input))
+spread_of p first later path (sort id keys input) = over path (spread_of p first later (under path key.Input) input) (λ s. None)
+spread_of p first later path (top_n id step count keys input) = over path (spread_of p first later (under path key.Input) input) (first_rows_spread step)
+spread_of p first later path (top_n_final id input) = over path (spread_of p first later (under path key.Input) input) (λ s. None)
+spread_of p first later path (limit id step count input) = over path (spread_of p first later (under path key.Input) input) (first_rows_spread step)
+spread_of p first later path (limit_final id input) = over path (spread_of p first later (under path key.Input) input) (λ s. None)
+spread_of p first later path (union id left right) =
+    typed_then (spread_of p first later (under path key.Left) left) (λ l. over path (spread_of p first later (under path key.Right) right) (union_spread l))

@@ -1,0 +1,14 @@
+use sql_values::Places;
+
+/// How the rows of a node are spread over the tasks of its fragment.
+#[derive(Debug, Drop)]
+pub enum Spread {
+    /// There is one task.
+    Whole,
+    /// Each row is in one task.
+    Any,
+    /// Each row is in the task that is the bucket of these columns.
+    By(Places),
+    /// Each task has all rows.
+    Every,
+}

@@ -150,7 +150,7 @@ mutual
       (case_keeps o (branches_of types branches row) (value_of types other row) (chosen_of (branches_of types branches row)) refl
       (choice_keeps types row f (under path key.Case) 0 branches bs c.0 h o typed.0) (value_keeps types row f (under path key.Else) other o c.1 h2))))
 
-  args_keep : (types : List SqlType) (row : List Value) → row_has_types types row ≡ true → (path : Path) (i : ℕ) (forms : Forms) (kinds : List SqlType) → ArgsCastToTypes forms → form_types types path i forms ≡ Ok kinds → AllKeep kinds (values_of types forms row)
+  pub args_keep : (types : List SqlType) (row : List Value) → row_has_types types row ≡ true → (path : Path) (i : ℕ) (forms : Forms) (kinds : List SqlType) → ArgsCastToTypes forms → form_types types path i forms ≡ Ok kinds → AllKeep kinds (values_of types forms row)
   args_keep types row f path i none kinds c e = subst (λ (ks : List SqlType). AllKeep ks []) (ok_same [] kinds e) tt
   args_keep types row f path i (more form forms) kinds c e =
       typed_then_ok (form_type types (entry path i) form) (λ kind. typed_then (form_types types path (i + 1) forms) (λ rest. Ok (kind ∷ rest))) kinds (AllKeep kinds (values_of types (more form forms) row)) e

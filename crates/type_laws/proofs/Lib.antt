@@ -5,3 +5,4 @@ pub mod CallLemmas
 pub mod CastLemmas
 pub mod ValueLemmas
 pub mod FormLemmas
+pub mod NullLemmas

@@ -71,7 +71,7 @@ unless_zero : (b : Bool) (z : ℤ) → (if b then Err DivisionByZero else bigint
 unless_zero true z e = cc
 unless_zero false z e = bigint_gives z e
 
-ok_gives : (v : Value) → v ≢ Null → let outcome : Outcome = Ok v in outcome ≢ Ok Null
+pub ok_gives : (v : Value) → v ≢ Null → let outcome : Outcome = Ok v in outcome ≢ Ok Null
 ok_gives v n e = n cc
 
 units_give : (units : Option ℤ) → from_units units ≢ Ok Null

@@ -1,6 +1,7 @@
 -- What it is that a call or a cast keeps to types, and forms whose casts name types.
-use Rattle.std.specs.Prelude.{Ok, Err, IsTrue}
+use Rattle.std.specs.Prelude.{◌≢◌, List, [], ◌∷◌, Ok, Err, IsTrue}
 use Rattle.sql_values.specs.declared.types.SqlType.{SqlType}
+use Rattle.sql_values.specs.declared.value.Value.TheVariants.{Null}
 use Rattle.sql_values.specs.Types.{IsType, has_type}
 use Rattle.sql_functions.specs.Outcomes.{Outcome}
 use Rattle.sql_exprs.specs.Forms.{Form, column, literal, null, call, cast, choice, Forms, none, more, Choices, last, branch}
@@ -27,3 +28,8 @@ abbrev mutual
   pub BranchesCastToTypes : Choices → Type 0
   BranchesCastToTypes last = Unit {0}
   BranchesCastToTypes (branch test result rest) = CastsToTypes test × CastsToTypes result × BranchesCastToTypes rest
+
+-- no outcome is NULL: each is a value or a failure
+abbrev pub NoneIsNull : List Outcome → Type 0
+NoneIsNull [] = Unit {0}
+NoneIsNull (o ∷ os) = (o ≢ Ok Null) × NoneIsNull os

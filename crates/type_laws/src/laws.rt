@@ -1,15 +1,15 @@
 //! What follows from the definitions.
-ghost use Rattle.std.specs.Prelude.{◌≡◌, ◌≢◌, IsTrue, Ok};
+ghost use Rattle.std.specs.Prelude.{◌≡◌, ◌≢◌, IsTrue, Ok, map};
 ghost use Rattle.sql_functions.specs.CallTypes.{call_type, can_cast, takes_one, takes_two};
 ghost use Rattle.sql_functions.specs.Calls.{binary_of, unary_of};
 ghost use Rattle.sql_functions.specs.Casts.{cast_of};
 ghost use Rattle.sql_values.specs.Cells.{lent_value};
 ghost use Rattle.sql_values.specs.ColumnRows.{fits_row};
 ghost use Rattle.sql_values.specs.Types.{IsType, has_type, row_has_types};
-ghost use Rattle.sql_exprs.specs.Forms.{form_view};
-ghost use Rattle.sql_exprs.specs.Meaning.{value_of};
+ghost use Rattle.sql_exprs.specs.Forms.{call, cast, form_view, forms_of};
+ghost use Rattle.sql_exprs.specs.Meaning.{arg_values, value_of};
 ghost use Rattle.sql_exprs.specs.Typing.{form_type};
-ghost use Rattle.type_laws.specs.Keeps.{CastsToTypes, KeepsType};
+ghost use Rattle.type_laws.specs.Keeps.{ArgsCastToTypes, CastsToTypes, KeepsType, NoneIsNull};
 
 use plan_places::Step;
 use sql_exprs::Expr;
@@ -103,4 +103,37 @@ pub fn typed_expressions_keep_types(
 pub fn typed_rows_fit(types: &[SqlType], row: &Row)
     requires { IsTrue (row_has_types types.now row.now) }
     ensures { IsTrue (fits_row types.now row.now) }
+{}
+
+/// The law that a call in a typed expression, none of whose arguments is NULL on a row that has its columns' types, is
+/// not NULL on it: so no definition answers NULL for want of a value of its type.
+pub fn typed_calls_of_values_give_values(
+    columns: &[SqlType],
+    row: &Row,
+    path: &[Step],
+    name: CallName,
+    args: &[Expr],
+    kind: SqlType,
+)
+    requires row { IsTrue (row_has_types columns.now row.now) }
+    requires casts { ArgsCastToTypes (forms_of (map form_view args.now)) }
+    requires typed { form_type columns.now path.now (call name (forms_of (map form_view args.now))) ≡ Ok kind }
+    requires none { NoneIsNull (arg_values columns.now args.now row.now) }
+    ensures { value_of columns.now (call name (forms_of (map form_view args.now))) row.now ≢ Ok Value.Null }
+{}
+
+/// The law that a cast in a typed expression is not NULL on a row that has its columns' types, where its argument is not.
+pub fn typed_casts_of_values_give_values(
+    columns: &[SqlType],
+    row: &Row,
+    path: &[Step],
+    arg: &Expr,
+    to: SqlType,
+    kind: SqlType,
+)
+    requires row { IsTrue (row_has_types columns.now row.now) }
+    requires casts { CastsToTypes (cast (form_view arg.now) to) }
+    requires typed { form_type columns.now path.now (cast (form_view arg.now) to) ≡ Ok kind }
+    requires none { value_of columns.now (form_view arg.now) row.now ≢ Ok Value.Null }
+    ensures { value_of columns.now (cast (form_view arg.now) to) row.now ≢ Ok Value.Null }
 {}

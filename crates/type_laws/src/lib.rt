@@ -15,5 +15,6 @@ mod laws;
 
 pub use laws::{
     calls_of_one_keep_types, calls_of_two_keep_types, calls_of_values_give_values,
-    casts_keep_types, casts_of_values_give_values, typed_expressions_keep_types, typed_rows_fit,
+    casts_keep_types, casts_of_values_give_values, typed_calls_of_values_give_values,
+    typed_casts_of_values_give_values, typed_expressions_keep_types, typed_rows_fit,
 };

@@ -7,14 +7,14 @@
 //! the first.
 //!
 //! - `spread`, `fault`: the types
-//! - `columns`: where an operator gives on columns, by `specs/Columns.antt`
+//! - `given_columns`: where an operator gives on columns, by `specs/Columns.antt`
 //! - `operators`: the spread of each operator, by `specs/Operators.antt`
 //! - `sources`: what remote sources read, by `specs/Sources.antt`
 //! - `nodes`, `plans`: nodes, fragments and the plan, by `specs/Nodes.antt` and `specs/Plans.antt`
 #![tactic(auto)]
 
-mod columns;
 mod fault;
+mod given_columns;
 mod laws;
 mod nodes;
 mod operators;

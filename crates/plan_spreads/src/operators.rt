@@ -3,7 +3,7 @@ ghost use Rattle.std.specs.List.{list_all};
 ghost use Rattle.sql_exprs.specs.Forms.{form_view};
 ghost use Rattle.plan_spreads.specs.Operators.{aggregate_spread, are_keys, final_spread, first_rows_spread, is_every, is_parted, join_spread, partial_spread, project_spread, remote_spread, scan_spread, union_spread, whole_spread};
 
-use crate::columns::{are_paired, column_places, key_places};
+use crate::given_columns::{are_paired, column_places, key_places};
 use crate::spread::Spread;
 use plan_docs::{NodeStep, Output, Pair, Placement};
 use sql_exprs::Expr;

@@ -2,7 +2,7 @@ use Rattle.std.proofs.Common.{◌≡◌, drop, map}
 use Rattle.std.specs.List.{position_from}
 use Rattle.sql_exprs.specs.Forms.{form_view}
 use Rattle.plan_spreads.specs.Columns.{is_column}
-use Rattle.plan_spreads.proofs.columns.column_place.Given as goal
+use Rattle.plan_spreads.proofs.given_columns.column_place.Given as goal
 
 abbrev pub invariant-loop-i : goal.invariant-loop-i
 invariant-loop-i l =

@@ -31,7 +31,7 @@ with_part group part = record { calls = group.calls; kinds = group.kinds; partia
 abbrev pub with_row : Group → List Value → Group
 with_row group row = with_part group (partial_of group.calls (row ∷ []))
 
--- these are the rows that the group took, from each part that was merged in, too
+-- the group's partial row is that of these rows
 abbrev pub HasTaken : Group → List (List Value) → Type 0
 HasTaken group rows = group.partial ≡ partial_of group.calls rows
 

@@ -1,5 +1,5 @@
--- Plans of several fragments in which each source reads a fragment after its own, as the earlier checks of a document
--- have it.
+-- Plans of several fragments in which each source reads a fragment after its own. The earlier checks ask this of
+-- documents.
 use Rattle.std.specs.Prelude.{ℕ, ◌+◌, ◌<◌, ◌≤◌, List, [], ◌∷◌, length}
 use Rattle.plan_docs.specs.Nodes.{NodeForm}
 use Rattle.plan_docs.specs.Nodes as node

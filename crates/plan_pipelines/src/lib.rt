@@ -1,4 +1,4 @@
-//! Plans of one fragment, as one task runs them.
+//! Plans of one fragment, as one task runs them, and the tree of a plan of several.
 //!
 //! - `specs/Fragments.antt`: which plans are one fragment, and their root as it runs (`run_of`)
 //! - `specs/Built.antt`: which plans run today, where the rows of a pipeline come from, and that these can be

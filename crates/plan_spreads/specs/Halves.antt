@@ -1,5 +1,5 @@
 -- Plans whose halves of operators meet: a PARTIAL node is the root of a fragment that a FINAL node of its operator
--- reads, and a FINAL node reads such a root. Documents that the earlier checks pass are such plans.
+-- reads, and a FINAL node reads such a root. The earlier checks ask this of documents.
 use Rattle.std.specs.Prelude.{◌≡◌, ℕ, ◌+◌, List, [], ◌∷◌, Option, Some, None}
 use Rattle.plan_docs.specs.declared.node.NodeStep.{NodeStep}
 use Rattle.plan_docs.specs.declared.node.NodeStep.TheVariants.{Single, Partial}

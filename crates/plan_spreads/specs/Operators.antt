@@ -1,5 +1,5 @@
 -- The spread that an operator gives over inputs of known spreads, in a fragment that several tasks run. Where it has
--- none it may not stand there: it would need all rows in one task.
+-- none it may not stand there.
 use Rattle.std.specs.Prelude.{ℕ, List, [], Bool, true, false, ◌&&◌, nat_lt, if◌then◌else◌, Option, Some, None, option_map}
 use Rattle.std.specs.List.{list_all}
 use Rattle.sql_exprs.specs.Forms.{Form}

@@ -5,7 +5,7 @@ use Rattle.std.proofs.lemmas.Option.{none-some}
 use Rattle.feedback_queue.specs.declared.best.Best.{Best}
 use Rattle.feedback_queue.specs.declared.level.Entry.{Entry}
 use Rattle.feedback_queue.specs.Levels.{LevelState, weight_if, weight_waited}
-use Rattle.feedback_queue.specs.Queue.{FeedbackState, IsNext, IsTaken, TakenAt, TakenFrom, changed_at, gave_turn, held, next_in, next_level, offered_to, waiting_at, with_entry, caught_up}
+use Rattle.feedback_queue.specs.Queue.{FeedbackState, IsNext, IsTaken, TakenAt, TakenFrom, changed_at, gave_turn, all_waiting, next_in, next_level, offered_to, waiting_at, with_entry, caught_up}
 use Rattle.feedback_queue.proofs.PickLemmas.{best_is_first, none_measured}
 
 pub on_ok : {A E : Type 0} {P Q : Type 0} (r : Result A E) → (P → Q) → OnOk r P → OnOk r Q
@@ -87,7 +87,7 @@ module _ {W : Type 0} where
   unweighed level None e none = no_weight level level.waiting _ e
   unweighed level (Some n) e none = absurd (none n e)
 
-  pub none_held : (queue : FeedbackState W) → next_level queue.levels ≡ None → held queue ≡ []
+  pub none_held : (queue : FeedbackState W) → next_level queue.levels ≡ None → all_waiting queue ≡ []
   none_held queue e = nobody_waits 0 queue.levels (λ i level there. unweighed level (weight_waited level) refl (λ n is. none_measured weight_waited 0 queue.levels e i n level there is))
 
   some_waits : (level : LevelState W) (entries : List (Entry W)) (n m : ℕ) → weight_if entries n ≡ Some m → entries ≡ [] → ⊥
@@ -111,6 +111,6 @@ module _ {W : Type 0} where
 
   pub taken_by : (o : Option (ℕ × W)) (old new : FeedbackState W) (best : Best) → next_level old.levels ≡ Some best
       → MatchOption o ((waiting_at old.levels best.place ≡ []) × (new.levels ≡ old.levels)) (λ taken. TakenAt best.place old.levels taken new.levels)
-      → MatchOption o ((held old ≡ []) × (new ≡ old)) (λ taken. IsTaken old taken new)
+      → MatchOption o ((all_waiting old ≡ []) × (new ≡ old)) (λ taken. IsTaken old taken new)
   taken_by None old new best e m = absurd (next_waits old.levels best e m.0)
   taken_by (Some taken) old new best e m = picked old new best taken e m

@@ -6,7 +6,7 @@ use Rattle.feedback_queue.specs.declared.best.Best.{Best}
 use Rattle.feedback_queue.specs.declared.level.Entry.{Entry}
 use Rattle.feedback_queue.specs.Levels.{LevelState, level_of, weight, weight_if, weight_waited, work_of}
 use Rattle.feedback_queue.specs.Picks.{IsFirstOfLeast}
-use Rattle.feedback_queue.specs.Queue.{FeedbackState, IsFirstOfAll, IsTaken, Pick, changed_at, gave_turn, most_turns, next_in, next_level, pick_of, offered, offered_to, turns_for, waiting_at, with_entry}
+use Rattle.feedback_queue.specs.Queue.{FeedbackState, IsFirstOfAll, IsTaken, LevelPlace, changed_at, gave_turn, most_turns, next_in, next_level, pick_of, after_offer, offered_to, turns_for, waiting_at, with_entry}
 use Rattle.feedback_queue.specs.Shares.{AllWait, AreLow, IsWithin, OneIsEmpty}
 use Rattle.feedback_queue.proofs.PickLemmas.{best_is_first}
 
@@ -86,7 +86,7 @@ module _ {W : Type 0} where
   waited level (entry ∷ entries) e some = ap (λ es. weight_if es (weight level)) e
 
   -- the level of a pick is the one that comes next, and its place that of who comes next in it
-  record Picked (levels : List (LevelState W)) (pick : Pick) : Type 0 where
+  record Picked (levels : List (LevelState W)) (pick : LevelPlace) : Type 0 where
     best : Best
     is_next : next_level levels ≡ Some best
     is_level : best.place ≡ pick.level
@@ -94,7 +94,7 @@ module _ {W : Type 0} where
     is_entry : next_in (waiting_at levels best.place) ≡ Some entry
     is_place : entry.place ≡ pick.place
 
-  picked_in : (levels : List (LevelState W)) (pick : Pick) (best : Best) → next_level levels ≡ Some best → (inner : Option Best) → next_in (waiting_at levels best.place) ≡ inner
+  picked_in : (levels : List (LevelState W)) (pick : LevelPlace) (best : Best) → next_level levels ≡ Some best → (inner : Option Best) → next_in (waiting_at levels best.place) ≡ inner
       → option_map (λ (b : Best). record { level = best.place; place = b.place }) inner ≡ Some pick → Picked levels pick
   picked_in levels pick best is None within e = absurd (none-some pick e)
   picked_in levels pick best is (Some entry) within e =
@@ -102,19 +102,19 @@ module _ {W : Type 0} where
       record {
         best = best;
         is_next = is;
-        is_level = ap (λ (p : Pick). p.level) same;
+        is_level = ap (λ (p : LevelPlace). p.level) same;
         entry = entry;
         is_entry = within;
-        is_place = ap (λ (p : Pick). p.place) same;
+        is_place = ap (λ (p : LevelPlace). p.place) same;
       }
 
-  picked_from : (levels : List (LevelState W)) (pick : Pick) (next : Option Best) → next_level levels ≡ next
+  picked_from : (levels : List (LevelState W)) (pick : LevelPlace) (next : Option Best) → next_level levels ≡ next
       → option_and_then (λ (level : Best). option_map (λ (b : Best). record { level = level.place; place = b.place }) (next_in (waiting_at levels level.place))) next ≡ Some pick
       → Picked levels pick
   picked_from levels pick None is e = absurd (none-some pick e)
   picked_from levels pick (Some best) is e = picked_in levels pick best is (next_in (waiting_at levels best.place)) refl e
 
-  pub pick_is_first : (queue : FeedbackState W) (pick : Pick) → pick_of queue ≡ Some pick → IsFirstOfAll queue pick
+  pub pick_is_first : (queue : FeedbackState W) (pick : LevelPlace) → pick_of queue ≡ Some pick → IsFirstOfAll queue pick
   pick_is_first queue pick e =
       let p = picked_from queue.levels pick (next_level queue.levels) refl e in
       record {
@@ -181,7 +181,7 @@ module _ {W : Type 0} where
   offer_weighs best entry level (first ∷ entries) is few = inl refl
 
   pub offer_within : (old : FeedbackState W) (work : ℕ) (waiter : W) (gap i j : ℕ) → AreLow old.levels → OneIsEmpty old.levels
-      → IsWithin gap i j old.levels → IsWithin (max gap 16) i j (offered work waiter old).levels
+      → IsWithin gap i j old.levels → IsWithin (max gap 16) i j (after_offer work waiter old).levels
   offer_within old work waiter gap i j low one within k l at_i at_j =
       pair (changed_get f old.levels (level_of work) i k at_i) (changed_get f old.levels (level_of work) j l at_j)
     where

@@ -67,8 +67,8 @@ abbrev pub empty_queue : {W : Type 0} → FeedbackState W
 empty_queue = record { levels = map empty_level (0 ∷ 1 ∷ 2 ∷ 3 ∷ 4 ∷ []) }
 
 -- all who wait
-abbrev pub held : {W : Type 0} → FeedbackState W → List (Entry W)
-held queue = flat_map (λ level. level.waiting) queue.levels
+abbrev pub all_waiting : {W : Type 0} → FeedbackState W → List (Entry W)
+all_waiting queue = flat_map (λ level. level.waiting) queue.levels
 
 -- the list with the item at a place changed
 abbrev pub changed_at : {X : Type 0} → ℕ → (X → X) → List X → List X
@@ -77,12 +77,12 @@ changed_at zero f (x ∷ xs) = f x ∷ xs
 changed_at (suc place) f (x ∷ xs) = x ∷ changed_at place f xs
 
 -- with one more, in the level of the work that was done for it
-abbrev pub offered : {W : Type 0} → ℕ → W → FeedbackState W → FeedbackState W
-offered work waiter queue =
+abbrev pub after_offer : {W : Type 0} → ℕ → W → FeedbackState W → FeedbackState W
+after_offer work waiter queue =
     record { levels = changed_at (level_of work) (offered_to (next_level queue.levels) (record { work = work; waiter = waiter })) queue.levels }
 
 -- a level, and a place in it
-pub record Pick : Type 0 where
+pub record LevelPlace : Type 0 where
   pub level : ℕ
   pub place : ℕ
 
@@ -97,14 +97,14 @@ pub record TakenAt {W : Type 0} (level : ℕ) (old : List (LevelState W)) (taken
   pub is_given : new ≡ changed_at level (gave_turn place) old
 
 -- who comes next in the level that comes next
-abbrev pub pick_of : {W : Type 0} → FeedbackState W → Option Pick
+abbrev pub pick_of : {W : Type 0} → FeedbackState W → Option LevelPlace
 pick_of queue =
     option_and_then (λ level. option_map (λ best. record { level = level.place; place = best.place }) (next_in (waiting_at queue.levels level.place)))
     (next_level queue.levels)
 
 -- the pick's level is the first of the least weight of those in which somebody waits, and its place the first of the
 -- least work in it
-pub record IsFirstOfAll {W : Type 0} (queue : FeedbackState W) (pick : Pick) : Type 0 where
+pub record IsFirstOfAll {W : Type 0} (queue : FeedbackState W) (pick : LevelPlace) : Type 0 where
   pub level : Best
   pub is_level : level.place ≡ pick.level
   pub lightest : IsFirstOfLeast weight_waited queue.levels level
@@ -114,7 +114,7 @@ pub record IsFirstOfAll {W : Type 0} (queue : FeedbackState W) (pick : Pick) : T
 
 -- who is picked got a turn of its level, and waits no more
 pub record IsTaken {W : Type 0} (old : FeedbackState W) (taken : ℕ × W) (new : FeedbackState W) : Type 0 where
-  pub pick : Pick
+  pub pick : LevelPlace
   pub is_pick : pick_of old ≡ Some pick
   pub there : slice_get (waiting_at old.levels pick.level) pick.place ≡ Some (record { work = taken.0; waiter = taken.1 })
   pub is_given : new.levels ≡ changed_at pick.level (gave_turn pick.place) old.levels

@@ -3,7 +3,7 @@ ghost use Rattle.std.specs.Prelude.{◌≡◌, ℕ, Some, max};
 ghost use Rattle.feedback_queue.specs.declared.best.Best.{Best};
 ghost use Rattle.feedback_queue.specs.Levels.{weight_waited, work_of};
 ghost use Rattle.feedback_queue.specs.Picks.{IsFirstOfLeast};
-ghost use Rattle.feedback_queue.specs.Queue.{FeedbackState, IsFirstOfAll, IsTaken, Pick, next_in, next_level, offered, pick_of, waiting_at};
+ghost use Rattle.feedback_queue.specs.Queue.{FeedbackState, IsFirstOfAll, IsTaken, LevelPlace, next_in, next_level, after_offer, pick_of, waiting_at};
 ghost use Rattle.feedback_queue.specs.Shares.{AllWait, IsWithin, OneIsEmpty};
 
 use crate::queue::Feedback;
@@ -22,7 +22,7 @@ pub fn the_least_work_is_next<W>(queue: &Feedback<W>, level: u8)
 /// The law that who is picked is the first of the least work in the first of the lightest levels.
 #[tactic(auto, using(crate::proofs::ShareLemmas::pick_is_first))]
 pub fn the_pick_is_the_first_of_the_least<W>(queue: &Feedback<W>)
-    ensures { (pick : Pick) → pick_of queue.now ≡ Some pick → IsFirstOfAll queue.now pick }
+    ensures { (pick : LevelPlace) → pick_of queue.now ≡ Some pick → IsFirstOfAll queue.now pick }
 {}
 
 /// The law that a take before which somebody waits in each level leaves the weights of any two levels as near to each
@@ -40,7 +40,7 @@ pub fn a_take_keeps_the_shares<W>(queue: &Feedback<W>)
 pub fn an_offer_keeps_the_shares<W>(queue: &Feedback<W>, work: u64, waiter: &W)
     requires { OneIsEmpty queue.now.levels }
     ensures { (gap i j : ℕ)
-        → IsWithin gap i j queue.now.levels → IsWithin (max gap 16) i j (offered work waiter.now queue.now).levels }
+        → IsWithin gap i j queue.now.levels → IsWithin (max gap 16) i j (after_offer work waiter.now queue.now).levels }
 {
     queue.levels_are_numbered();
 }

@@ -1,5 +1,5 @@
 ghost use Rattle.std.specs.Prelude.{◌≡◌, ◌≤◌, [], ◌∷◌, map, IfErr, MatchOption, OnOk};
-ghost use Rattle.feedback_queue.specs.Queue.{IsTaken, empty_queue, held, offered, turns_at};
+ghost use Rattle.feedback_queue.specs.Queue.{IsTaken, empty_queue, all_waiting, after_offer, turns_at};
 
 use crate::level::{Level, level_of};
 use crate::levels::{next, offer_at, take_at};
@@ -43,7 +43,7 @@ impl<W> Feedback<W> {
     /// Takes in who is ready, with the work that was done for it. A level in which nobody waited catches up in
     /// turns with the level that comes next.
     pub fn offer(&mut self, work: u64, waiter: W) -> Result<(), OfferMemory<W>>
-        ensures ok { OnOk result (self.new ≡ offered work waiter self.old) }
+        ensures ok { OnOk result (self.new ≡ after_offer work waiter self.old) }
         ensures err { IfErr result (λ failed. (failed.waiter ≡ waiter) × (self.new ≡ self.old)) }
     {
         let best = next(&self.levels);
@@ -59,7 +59,7 @@ impl<W> Feedback<W> {
     /// Gives the next turn, or none where nobody waits. Answers the work that was done, and who has the turn.
     /// Takes no memory.
     pub fn take(&mut self) -> Option<(u64, W)>
-        ensures { MatchOption result ((held self.old ≡ []) × (self.new ≡ self.old))
+        ensures { MatchOption result ((all_waiting self.old ≡ []) × (self.new ≡ self.old))
             (λ taken. IsTaken self.old taken self.new) }
     {
         match next(&self.levels) {

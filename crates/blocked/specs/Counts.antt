@@ -1,5 +1,5 @@
 -- Counts of rings, empty looks and the like: they never fall, and stay at the most that 64 bits hold.
-use Rattle.std.specs.Prelude.{ℕ, ◌+◌, ◌-◌, ◌^◌, ◌≤◌, min}
+use Rattle.std.specs.Prelude.{ℕ, ◌+◌, ◌-◌, ◌^◌, ◌≤◌, min, cond, nat_eq}
 
 -- the most that a count holds
 abbrev pub most_count : ℕ
@@ -12,3 +12,7 @@ next_count n = min (n + 1) most_count
 -- the count rose; one that stands at its most counts as one that rose
 abbrev pub Rose : ℕ → ℕ → Type 0
 Rose old new = next_count old ≤ new
+
+-- how often a bell rings where the bell of this number is rung once
+abbrev pub rings_at : ℕ → ℕ → ℕ
+rings_at bell number = cond (nat_eq bell number) 1 0

@@ -10,3 +10,9 @@ IsRefusal bell seen w (Ok done) = (bell.is_closed ≡ false) × ¬ HasRung bell 
 IsRefusal bell seen w (Err (Closed back)) = (bell.is_closed ≡ true) × (back ≡ w)
 IsRefusal bell seen w (Err (Rung back)) = (bell.is_closed ≡ false) × HasRung bell seen × (back ≡ w)
 IsRefusal bell seen w (Err (Memory back)) = (bell.is_closed ≡ false) × (¬ HasRung bell seen) × (back ≡ w)
+
+-- the waiter that was not kept
+abbrev pub handed_back : {W : Type 0} → NotParked W → W
+handed_back (Rung back) = back
+handed_back (Closed back) = back
+handed_back (Memory back) = back

@@ -1,7 +1,7 @@
-ghost use Rattle.std.specs.Prelude.{◌≡◌, [], ◌∷◌, ◌++◌, ◌↔◌, true, false, IsTrue, OnOk, OnErr, MatchResult};
+ghost use Rattle.std.specs.Prelude.{◌≡◌, [], ◌∷◌, ◌++◌, ◌↔◌, true, false, IsTrue, IfErr, OnOk, OnErr, MatchResult};
 ghost use Rattle.blocked.specs.Counts.{next_count};
 ghost use Rattle.blocked.specs.Bells.{waiters_of, IsResting};
-ghost use Rattle.blocked.specs.Refusals.{IsRefusal};
+ghost use Rattle.blocked.specs.Refusals.{IsRefusal, handed_back};
 
 use crate::due::Due;
 use crate::waiters::{Parked, Waiters};
@@ -65,6 +65,7 @@ impl<W> Bell<W> {
         ensures ok { OnOk result (self.new ≡ record self.old { parked = self.old.parked ++ record { seen = seen; waiter = waiter } ∷ [] }) }
         ensures err { OnErr result (self.new ≡ self.old) }
         ensures cause { IsRefusal self.old seen waiter result }
+        ensures back { IfErr result (λ refusal. handed_back refusal ≡ waiter) }
     {
         if self.is_closed {
             return Err(NotParked::Closed(waiter));

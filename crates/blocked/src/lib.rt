@@ -9,7 +9,11 @@
 //! - `bell`: `Bell`. At rest each of its waiters parked at the very count that the bell has, and a
 //!   closed bell has no waiter (`specs/Bells.antt`)
 //! - `waiters`: `Waiters`, what a ring hands out, in the order in which they parked
+//! - `board`: `Board`, the bells of a run that several threads ring, each behind a lock of its own. What a
+//!   locked bell keeps is all that is known of it
 //! - `bells`: the trait `Bells`, what a turn of a driver sees of the bells of its run
+//! - `seen`: `Seen`, the count of a bell as it was read (`ReadBell`). A look that takes one comes after
+//!   a read
 //! - `blocked_on`: `BlockedOn`, the future of one who waits. A poll that is pending has registered
 //!   at the future's own source
 #![tactic(auto)]
@@ -17,11 +21,15 @@
 mod bell;
 mod bells;
 mod blocked_on;
+mod board;
 mod due;
+mod seen;
 mod waiters;
 
 pub use bell::{Bell, NotParked};
 pub use bells::Bells;
 pub use blocked_on::BlockedOn;
+pub use board::Board;
 pub use due::Due;
+pub use seen::{ReadBell, Seen};
 pub use waiters::Waiters;

@@ -186,7 +186,9 @@ pub trait Operator {
         ensures constant { (page_size self.new ≡ page_size self.old)
             × (gives_late self.new ≡ gives_late self.old) × (waits self.new ≡ waits self.old) }
         ensures bells { (bell count : ℕ) → B.shown bells.old bell count
-            → B.shown bells.new bell count };
+            → B.shown bells.new bell count }
+        ensures rang { (bell times : ℕ) → B.rang bells.old bell times
+            → B.rang bells.new bell times };
 
     // For every state and rows still to come there is something that it may give.
     ghost some_rows: { (s : Self) (X : List Row) → Coming (is_told s) X

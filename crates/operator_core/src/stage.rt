@@ -61,6 +61,8 @@ pub fn look<O: Operator, R: Threads + Wait + Sync, B: Bells>(
     ensures looks { O.empty_looks op.old ≤ O.empty_looks op.new }
     ensures bells { (bell count : ℕ) → B.shown bells.old bell count
         → B.shown bells.new bell count }
+    ensures rang { (bell times : ℕ) → B.rang bells.old bell times
+        → B.rang bells.new bell times }
 {
     op.blocked(rt, bells)
 }

@@ -18,16 +18,17 @@ abbrev pub has_null : ℕ → List Row → Bool
 has_null column [] = false
 has_null column (row ∷ rows) = is_null (cell row column) || has_null column rows
 
--- what a note tells: the number that it knows, how many looks found nothing, and the count that the last of
--- these was handed
+-- what a note tells: the bell that rings once its number is there, the number that it knows, how many looks
+-- found nothing, and the count that the last of these was handed
 pub record NoteState : Type 0 where
+  pub bell : ℕ
   pub known : Option ℕ
   pub empty_looks : ℕ
   pub looked_at : ℕ
 
 -- the note as it was made, with what it knows
-abbrev pub unlooked : Option ℕ → NoteState
-unlooked known = record { known = known; empty_looks = 0; looked_at = 0 }
+abbrev pub unlooked : ℕ → Option ℕ → NoteState
+unlooked bell known = record { bell = bell; known = known; empty_looks = 0; looked_at = 0 }
 
 -- the number that the note knows, or any where it knows none
 abbrev pub IsNumber : Option ℕ → ℕ → Type 0

@@ -7,7 +7,7 @@ ghost use Rattle.operator_core.specs.Calls.{IsFresh};
 ghost use Rattle.operator_examples.specs.Samples.{is_reached, LimitGives};
 
 use crate::note::Note;
-use blocked::{Bells, BlockedOn};
+use blocked::{Bells, BlockedOn, ReadBell, Seen};
 use col_pages::Page;
 use operator_core::{HeldPages, OpFault, Operator};
 use sql_values::Memory;
@@ -20,7 +20,6 @@ use std::thread::Threads;
 #[derive(Drop)]
 pub struct NotedLimit {
     alloc: Global,
-    bell: u32,
     note: Note,
     passed: u32,
     held: HeldPages,
@@ -28,7 +27,7 @@ pub struct NotedLimit {
 }
 
 impl NotedLimit {
-    pub fn new(alloc: Global, bell: u32, note: Note) -> NotedLimit
+    pub fn new(alloc: Global, note: Note) -> NotedLimit
         requires { note.empty_looks ≡ 0 }
         ensures fresh { IsFresh ⟦<NotedLimit as Operator>⟧ result }
         ensures gives { (X B : List Row) → ⟦<NotedLimit as Operator>⟧.may_give result X B
@@ -41,7 +40,7 @@ impl NotedLimit {
         ensures late { ⟦<NotedLimit as Operator>⟧.gives_late result ≡ false }
         ensures waits { ⟦<NotedLimit as Operator>⟧.waits result ≡ true }
         ensures knows { ⟦<NotedLimit as Operator>⟧.knows result ≡ is_some note.known }
-        ensures bell { ⟦<NotedLimit as Operator>⟧.bell result ≡ bell }
+        ensures bell { ⟦<NotedLimit as Operator>⟧.bell result ≡ note.bell }
         ensures learns { (m : _) → ⟦<NotedLimit as Operator>⟧.may_learn result m → (n : ℕ)
             × ((X B : List Row) → ⟦<NotedLimit as Operator>⟧.may_give m X B
             ↔ LimitGives (Some n) 0 [] X B) }
@@ -49,7 +48,6 @@ impl NotedLimit {
         note.unlooked_keeps_none();
         NotedLimit {
             alloc,
-            bell,
             note,
             passed: 0,
             held: HeldPages::new(alloc),
@@ -123,7 +121,7 @@ impl Operator for NotedLimit {
 
     ghost waits = { λ _. true };
 
-    ghost bell = { λ s. s.bell };
+    ghost bell = { λ s. s.note.bell };
 
     ghost knows = { λ s. is_some s.note.known };
 
@@ -134,10 +132,10 @@ impl Operator for NotedLimit {
     ghost went = { λ s T G. (T ≡ []) × (G ≡ []) × (s.held ≡ []) × (s.passed ≡ 0) };
 
     ghost as_made = { λ s.
-        record s { note = unlooked s.note.known; passed = 0; held = []; is_told = false } };
+        record s { note = unlooked s.note.bell s.note.known; passed = 0; held = []; is_told = false } };
 
     ghost may_learn = { λ s m. (n : ℕ)
-        × (m ≡ record s { note = unlooked (Some n); passed = 0; held = []; is_told = false }) };
+        × (m ≡ record s { note = unlooked s.note.bell (Some n); passed = 0; held = []; is_told = false }) };
 
     fn needs_input(&self) -> bool {
         self.note.known().is_some() && !(self.is_told || !self.held.is_empty() || self.is_reached())
@@ -171,10 +169,10 @@ impl Operator for NotedLimit {
         rt: &R,
         bells: &mut B,
     ) -> Result<Option<BlockedOn>, Memory> {
-        let seen = bells.seen(rt, self.bell);
+        let seen = Seen::read(rt, bells, self.note.bell());
         match self.note.look(seen) {
             Some(_) => Ok(None),
-            None => Ok(Some(BlockedOn::new(self.bell, seen))),
+            None => Ok(Some(BlockedOn::new(seen.bell(), seen.count()))),
         }
     }
 

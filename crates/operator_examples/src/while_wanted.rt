@@ -6,7 +6,7 @@ ghost use Rattle.operator_core.specs.Calls.{IsFresh};
 ghost use Rattle.operator_examples.specs.Samples.{WantedGives};
 
 use crate::note::Note;
-use blocked::{Bells, BlockedOn};
+use blocked::{Bells, BlockedOn, ReadBell, Seen};
 use col_pages::Page;
 use operator_core::{HeldPages, OpFault, Operator};
 use sql_values::Memory;
@@ -90,6 +90,8 @@ impl Operator for WhileWanted {
 
     ghost is_finished = { λ s. s.is_told && not (has_row s.held) };
 
+    ghost bell = { λ s. s.note.bell };
+
     ghost knows = { λ s. is_some s.note.known };
 
     ghost empty_looks = { λ s. s.note.empty_looks };
@@ -98,10 +100,10 @@ impl Operator for WhileWanted {
 
     ghost went = { λ s T G. G ++ s.held ≡ T };
 
-    ghost as_made = { λ s. record s { note = unlooked s.note.known; held = []; is_told = false } };
+    ghost as_made = { λ s. record s { note = unlooked s.note.bell s.note.known; held = []; is_told = false } };
 
     ghost may_learn = { λ s m. (n : ℕ)
-        × (m ≡ record s { note = unlooked (Some n); held = []; is_told = false }) };
+        × (m ≡ record s { note = unlooked s.note.bell (Some n); held = []; is_told = false }) };
 
     fn needs_input(&self) -> bool {
         !(self.is_told || !self.held.is_empty())
@@ -133,11 +135,11 @@ impl Operator for WhileWanted {
 
     fn blocked<R: Threads + Wait + Sync, B: Bells>(
         &mut self,
-        _rt: &R,
-        _bells: &mut B,
+        rt: &R,
+        bells: &mut B,
     ) -> Result<Option<BlockedOn>, Memory> {
-        // It waits at no bell, so it has read no count.
-        let _number = self.note.look(0);
+        let seen = Seen::read(rt, bells, self.note.bell());
+        let _number = self.note.look(seen);
         Ok(None)
     }
 

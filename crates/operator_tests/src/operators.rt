@@ -23,7 +23,7 @@ fn one_gives_only_when_told(rt: HostRuntime) -> Result<(), Memory> {
 
 #[test]
 fn one_waits_for_its_note(rt: HostRuntime) -> Result<(), Memory> {
-    let mut op = NotedLimit::new(rt.alloc(), 4, Note::new(2, 1));
+    let mut op = NotedLimit::new(rt.alloc(), Note::new(4, 2, 1));
     let lines = "1 | refused\nlook | bell 4 at 7\nlook | none\n1 | taken\nget | 1,\n2 3 | taken\n\
         get | 2,\n4 | refused";
     assert!(rt; first_wrong(&rt, rt.alloc(), &mut op, lines)? == 0);
@@ -32,7 +32,7 @@ fn one_waits_for_its_note(rt: HostRuntime) -> Result<(), Memory> {
 
 #[test]
 fn one_passes_rows_while_its_note_knows_nothing(rt: HostRuntime) -> Result<(), Memory> {
-    let mut op = WhileWanted::new(rt.alloc(), Note::new(0, 1));
+    let mut op = WhileWanted::new(rt.alloc(), Note::new(4, 0, 1));
     let lines = "look | none\n1 | taken\nget | 1,\nlook | none\n2 | taken\nget | none";
     assert!(rt; first_wrong(&rt, rt.alloc(), &mut op, lines)? == 0);
     Ok(())

@@ -24,6 +24,8 @@ struct Still {
 impl Bells for Still {
     ghost shown = { λ _ _ _. Unit {0} };
 
+    ghost rang = { λ _ _ _. Unit {0} };
+
     fn seen<R: Threads + Wait + Sync>(&mut self, _rt: &R, _bell: u32) -> u64 {
         7
     }

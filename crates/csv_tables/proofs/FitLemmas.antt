@@ -1,6 +1,6 @@
 -- The rows of a table pass a test over the types of its columns that each cell which is read passes:
 -- they fit the types, and have them.
-use Rattle.std.proofs.Common.{◌≡◌, ℕ, ◌+◌, ◌≤◌, Bool, true, false, List, [], ◌∷◌, length, map, refl, ap, sym, arith, subst, Option, Some, None}
+use Rattle.std.proofs.Common.{◌≡◌, ℕ, ◌+◌, ◌≤◌, Bool, true, false, List, [], ◌∷◌, length, refl, ap, sym, arith, subst, Option, Some, None}
 use Rattle.std.specs.Prelude.{All, IsTrue, Result, Ok, Err, ◌==◌, not, if◌then◌else◌, option_map, ℤ}
 use Rattle.std.proofs.lemmas.Bool.{eqb-false, eqb-true}
 use Rattle.std.proofs.lemmas.List.Elements.{All-cons, All-head, All-nil, All-tail}
@@ -20,7 +20,7 @@ use Rattle.sql_values.proofs.BlockLemmas.{typed_fits}
 use Rattle.text_type_laws.proofs.TextLemmas.{parsed_has_type}
 use Rattle.csv_tables.specs.Fields.{is_null, text_in, value_of_field, value_or_malformed}
 use Rattle.csv_tables.specs.Places.{Place, first_and_rest, in_place}
-use Rattle.csv_tables.specs.Tables.{cells_from, differs_at, row_of, rows_from, rows_under, table_of}
+use Rattle.csv_tables.specs.Tables.{cells_from, differs_at, kinds, row_of, rows_from, rows_under, table_of}
 
 decimal_fits : (p s : ℕ) (o : Option ℤ) (v : Value) → option_map value.Decimal o ≡ Some v → fits (Decimal p s) v ≡ true
 decimal_fits p s None v e = cc
@@ -58,31 +58,32 @@ field_passes test kind field v null reads e = by_tests (not (is_utf8 field)) (is
     by_tests false true e = subst (λ w. test w ≡ true) (ok_same (Ok value.Null) value.Null v refl e) null
     by_tests false false e = by_value (value_of_text kind (text_in kind field)) (reads (text_in kind field)) e
 
--- the first and the others of what was read
-record Parts {A E : Type 0} (here : Result A E) (later : Result (List A) E) (all : List A) : Type 0 where
-  first : A
-  others : List A
-  here_is : here ≡ Ok first
-  later_is : later ≡ Ok others
-  all_is : all ≡ first ∷ others
+-- what a field is read as fits the type
+pub field_fits : (kind : SqlType) (field : List ℕ) (v : Value) → value_of_field kind field ≡ Ok v → fits kind v ≡ true
+field_fits kind field v e = field_passes (fits kind) kind field v (null_fits kind) (text_fits kind) e
 
-list_same : {A : Type 0} (r : Result (List A) Place) (xs ys : List A) → r ≡ Ok xs → r ≡ Ok ys → xs ≡ ys
+-- the first and the others of what was read
+pub record Parts {A E : Type 0} (here : Result A E) (later : Result (List A) E) (all : List A) : Type 0 where
+  pub first : A
+  pub others : List A
+  pub here_is : here ≡ Ok first
+  pub later_is : later ≡ Ok others
+  pub all_is : all ≡ first ∷ others
+
+pub list_same : {A : Type 0} (r : Result (List A) Place) (xs ys : List A) → r ≡ Ok xs → r ≡ Ok ys → xs ≡ ys
 list_same r xs ys d e = cc
 
-parts : {A : Type 0} (here : Result A Place) (later : Result (List A) Place) (all : List A) → first_and_rest here later ≡ Ok all → Parts here later all
+pub parts : {A : Type 0} (here : Result A Place) (later : Result (List A) Place) (all : List A) → first_and_rest here later ≡ Ok all → Parts here later all
 parts (Err p) later all e = cc
 parts (Ok x) (Err p) all e = cc
 parts (Ok x) (Ok xs) all e = record { first = x; others = xs; here_is = refl; later_is = refl; all_is = list_same (Ok all) all (x ∷ xs) refl (sym e) }
 
-read_in_place : (row column : ℕ) (r : Result Value ℕ) (v : Value) → in_place row column r ≡ Ok v → r ≡ Ok v
+pub read_in_place : (row column : ℕ) (r : Result Value ℕ) (v : Value) → in_place row column r ≡ Ok v → r ≡ Ok v
 read_in_place row column (Ok w) v e = let same : w ≡ v = placed_same (Ok w) w v refl e in ap (λ (x : Value). Ok x) same
   where
     placed_same : (r : Result Value Place) (v w : Value) → r ≡ Ok v → r ≡ Ok w → v ≡ w
     placed_same r v w d e = cc
 read_in_place row column (Err why) v e = cc
-
-abbrev kinds : List Column → List SqlType
-kinds columns = map (λ column. column.kind) columns
 
 -- a test of rows over types of a kind, which is passed by no cells, and by one more that is read from a field
 record RowTest (Q : SqlType → Type 0) : Type 0 where
@@ -106,12 +107,12 @@ cells_pass Q t row at (column ∷ columns) (field ∷ fields) vs are l e =
     (t.more column.kind field p.first (kinds columns) p.others (All-head (λ c. Q c.kind) column columns are) read rest)
 
 -- a row that was read is not past the last, and is as wide as the columns
-record RowRead (columns : List Column) (limit row : ℕ) (fields : List (List ℕ)) (vs : List Value) : Type 0 where
-  within : (row == limit + 1) ≡ false
-  wide : (length fields == length columns) ≡ true
-  cells : cells_from row 0 columns fields ≡ Ok vs
+pub record RowRead (columns : List Column) (limit row : ℕ) (fields : List (List ℕ)) (vs : List Value) : Type 0 where
+  pub within : (row == limit + 1) ≡ false
+  pub wide : (length fields == length columns) ≡ true
+  pub cells : cells_from row 0 columns fields ≡ Ok vs
 
-row_read : (columns : List Column) (limit row : ℕ) (fields : List (List ℕ)) (vs : List Value) → row_of columns limit row fields ≡ Ok vs → RowRead columns limit row fields vs
+pub row_read : (columns : List Column) (limit row : ℕ) (fields : List (List ℕ)) (vs : List Value) → row_of columns limit row fields ≡ Ok vs → RowRead columns limit row fields vs
 row_read columns limit row fields vs e = by_tests (row == limit + 1) (length fields == length columns) _ _ refl refl e
   where
     by_tests : (past same : Bool) (p q : Place) → (row == limit + 1) ≡ past → (length fields == length columns) ≡ same
@@ -146,7 +147,7 @@ abbrev fit_test : RowTest (λ kind. Unit {0})
 fit_test = record {
   test = fits_row;
   none = refl;
-  more = λ kind field v kinds row is read rest. rw (field_passes (fits kind) kind field v (null_fits kind) (text_fits kind) read) rest;
+  more = λ kind field v kinds row is read rest. rw (field_fits kind field v read) rest;
 }
 
 abbrev type_test : RowTest IsType

@@ -6,3 +6,6 @@ pub mod WriterLemmas
 pub mod CellLemmas
 pub mod ReadBackLemmas
 pub mod FitLemmas
+pub mod BuildLemmas
+pub mod PartLemmas
+pub mod PartRowLemmas

@@ -1,11 +1,13 @@
 -- The records that a reader has left, before and after it read one.
-use Rattle.std.proofs.Common.{◌≡◌, ◌⊎◌, ◌<◌, ◌≤◌, ◌+◌, ◌++◌, ℕ, zero, suc, List, [], ◌∷◌, length, Option, Some, None, Result, Ok, true, false, Bool, inl, inr, refl, ap, arith, add-one}
+use Rattle.std.proofs.Common.{◌≡◌, ◌⊎◌, ◌<◌, ◌≤◌, ◌+◌, ◌++◌, ℕ, zero, suc, List, [], ◌∷◌, length, Option, Some, None, Result, Ok, true, false, Bool, inl, inr, refl, ap, arith, add-one, length-append}
 use Rattle.std.specs.Prelude.{IsSome, if◌then◌else◌}
 use Rattle.csv.specs.Machine.{Read, next_record, step, is_end, ends_at_end, fields_after, field_after}
 use Rattle.csv.specs.Reading.{AreRecords, NextIs, Reached, ReadRecord, ReadsNext, default_config, has_failed, pending_of, records_from, records_next, source_of}
 use Rattle.csv.specs.declared.parser.Config.{Config}
 use Rattle.csv.specs.declared.parser.State.{State}
 use Rattle.csv.specs.declared.parser.State.TheVariants as st
+use Rattle.csv.specs.declared.parser.Action.{Action}
+use Rattle.csv.specs.declared.parser.Action.TheVariants as act
 use Rattle.csv.specs.declared.reader.Reader.{Reader}
 use Rattle.csv_tables.specs.Records.{Gives, Reads, left_from, records_left}
 
@@ -38,7 +40,7 @@ progress cfg s fields field (c ∷ rest) read e =
     (next_record cfg (step cfg s c).0 (fields_after (step cfg s c).1 fields field) (field_after (step cfg s c).1 c field) rest) refl
     (progress cfg (step cfg s c).0 (fields_after (step cfg s c).1 fields field) (field_after (step cfg s c).1 c field) rest read) e
 
-nothing_left : (cfg : Config) (n : ℕ) → records_from cfg n st.StartRecord [] ≡ []
+pub nothing_left : (cfg : Config) (n : ℕ) → records_from cfg n st.StartRecord [] ≡ []
 unfolding records_from next_record
 nothing_left cfg zero = refl
 nothing_left cfg (suc n) = refl
@@ -109,3 +111,40 @@ all_left cfg s bytes [] (s2, rest, h, e) = left_end cfg s bytes (rw (h.0, h.1) e
 all_left cfg s bytes (r ∷ rs) (s2, rest, h, e) =
     let (read, is, first, more) = h in
     rw (left_step cfg s bytes read is, first, all_left cfg read.1 read.2 rs (s2, rest, more, e)) refl
+
+some_at_end : (b : Bool) (fields : List (List ℕ)) (field : List ℕ) (read : Read) → (if b then Some (fields ++ (field ∷ []), st.StartRecord, []) else None) ≡ Some read → 0 < length read.0
+some_at_end true fields field read h =
+    let size = length-append fields (field ∷ []) in
+    rw (← same_read (fields ++ (field ∷ []), st.StartRecord, []) read h) (omega (arith, size))
+some_at_end false fields field read h = cc h
+
+some_step : (a : Action) (s : State) (fields : List (List ℕ)) (field rest : List ℕ) (read : Read) (later : Option Read) → (later ≡ Some read → 0 < length read.0)
+    → (if is_end a then Some (fields_after a fields field, s, rest) else later) ≡ Some read → 0 < length read.0
+some_step act.EndRecord s fields field rest read later more h =
+    let size = length-append fields (field ∷ []) in
+    rw (← same_read (fields ++ (field ∷ []), s, rest) read h) (omega (arith, size))
+some_step act.Skip s fields field rest read later more h = more h
+some_step act.Copy s fields field rest read later more h = more h
+some_step act.EndField s fields field rest read later more h = more h
+
+record_some : (cfg : Config) (s : State) (fields : List (List ℕ)) (field bytes : List ℕ) (read : Read) → next_record cfg s fields field bytes ≡ Some read → 0 < length read.0
+unfolding next_record
+record_some cfg s fields field [] read e = some_at_end (ends_at_end s) fields field read e
+record_some cfg s fields field (c ∷ rest) read e =
+    some_step (step cfg s c).1 (step cfg s c).0 fields field rest read
+    (next_record cfg (step cfg s c).0 (fields_after (step cfg s c).1 fields field) (field_after (step cfg s c).1 c field) rest)
+    (record_some cfg (step cfg s c).0 (fields_after (step cfg s c).1 fields field) (field_after (step cfg s c).1 c field) rest read) e
+
+first_some : (cfg : Config) (n : ℕ) (s : State) (bytes : List ℕ) (o : Option Read) (fields : List (List ℕ)) (more : List (List (List ℕ))) → next_record cfg s [] [] bytes ≡ o
+    → records_next (records_from cfg n) o ≡ fields ∷ more → 0 < length fields
+first_some cfg n s bytes None fields more e h = cc h
+first_some cfg n s bytes (Some read) fields more e h = rw (← same_first read.0 fields _ more h) (record_some cfg s [] [] bytes read e)
+  where
+    same_first : (a b : List (List ℕ)) (x y : List (List (List ℕ))) → a ∷ x ≡ b ∷ y → a ≡ b
+    same_first a b x y e = cc e
+
+-- the first record of a text has a field
+pub records_some : (cfg : Config) (n : ℕ) (s : State) (bytes : List ℕ) (fields : List (List ℕ)) (more : List (List (List ℕ))) → records_from cfg n s bytes ≡ fields ∷ more → 0 < length fields
+unfolding records_from
+records_some cfg zero s bytes fields more e = cc e
+records_some cfg (suc n) s bytes fields more e = first_some cfg n s bytes (next_record cfg s [] [] bytes) fields more refl e

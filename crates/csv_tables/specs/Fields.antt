@@ -1,5 +1,5 @@
 -- The field of a record that stands for a cell, and the cell that a field stands for.
-use Rattle.std.specs.Prelude.{ℕ, Bool, true, false, not, ◌&&◌, ◌||◌, ◌==◌, nat_eq, if◌then◌else◌, List, [], ◌∷◌, length, Option, Some, None, Result, Ok, Err, codes, ◌≡◌}
+use Rattle.std.specs.Prelude.{ℕ, Bool, true, false, not, ◌&&◌, ◌||◌, ◌==◌, nat_eq, if◌then◌else◌, List, [], ◌∷◌, length, Option, Some, None, Result, Ok, Err, codes}
 use Rattle.std.specs.Cmp.Lexicographic.{pointwise}
 use Rattle.std.specs.Str.{is_utf8}
 use Rattle.sql_values.specs.Texts.{value_of_text, text_of_value}
@@ -7,8 +7,6 @@ use Rattle.sql_values.specs.declared.types.SqlType.{SqlType}
 use Rattle.sql_values.specs.declared.types.SqlType.TheVariants.{Varchar}
 use Rattle.sql_values.specs.declared.value.Value.{Value}
 use Rattle.sql_values.specs.declared.value.Value.TheVariants as value
-use Rattle.csv_tables.specs.declared.field.FieldFault.{FieldFault}
-use Rattle.csv_tables.specs.declared.field.FieldFault.TheVariants as flaw
 use Rattle.csv_tables.specs.Places.{not_utf8, malformed}
 
 abbrev pub is_varchar : SqlType → Bool
@@ -62,8 +60,3 @@ abbrev pub field_text : SqlType → Value → List ℕ
 field_text kind value.Null = null_field
 field_text kind (value.Varchar text) = escaped text
 field_text kind v = text_of_value kind v
-
--- why a field stands for no cell
-abbrev pub IsFlawOf : Result Value ℕ → FieldFault → Type 0
-IsFlawOf read (flaw.Refused why) = read ≡ Err why
-IsFlawOf read flaw.Memory = Unit {0}

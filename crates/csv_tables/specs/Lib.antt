@@ -4,3 +4,4 @@ pub mod Records
 pub mod Tables
 pub mod ResultTexts
 pub mod Writers
+pub mod Parts

@@ -1,11 +1,17 @@
 -- The table that a text in CSV stands for.
-use Rattle.std.specs.Prelude.{ℕ, ◌+◌, ◌-◌, ◌^◌, ◌==◌, min, if◌then◌else◌, List, [], ◌∷◌, length, Option, Some, None, Result, Ok, Err, ◌≡◌}
+use Rattle.std.specs.Prelude.{ℕ, ◌+◌, ◌-◌, ◌^◌, ◌==◌, min, if◌then◌else◌, List, [], ◌∷◌, ◌++◌, length, map, Option, Some, None, Result, Ok, Err, ◌≡◌}
 use Rattle.csv.specs.Reading.{default_config, records, strip_bom}
+use Rattle.sql_values.specs.ColumnRows.{TypedRows}
 use Rattle.sql_values.specs.declared.types.Column.{Column}
+use Rattle.sql_values.specs.declared.types.SqlType.{SqlType}
 use Rattle.sql_values.specs.declared.value.Value.{Value}
 use Rattle.csv_tables.specs.declared.fault.TableFault.{TableFault}
 use Rattle.csv_tables.specs.Fields.{same_bytes, value_of_field}
 use Rattle.csv_tables.specs.Places.{Place, place, wrong_header, wrong_width, too_many_rows, first_and_rest, in_place, IsFaultOf}
+
+-- the types of columns
+abbrev pub kinds : List Column → List SqlType
+kinds columns = map (λ column. column.kind) columns
 
 -- the records of a text as `csv` reads it with its default settings, the header being the first
 abbrev pub records_of : List ℕ → List (List (List ℕ))
@@ -37,11 +43,22 @@ row_of columns limit row fields =
     else if length fields == length columns then cells_from row 0 columns fields
     else Err (place row (held (length fields)) wrong_width)
 
+-- a row that was read is behind those before it
+abbrev pub Adds : Result (List Value) Place → TypedRows → TypedRows → Type 0
+Adds (Ok row) before after = after ≡ record before { rows = before.rows ++ row ∷ [] }
+Adds (Err e) before after = ⊥
+
 -- the rows of records, the first of which is this row
 abbrev pub rows_from : List Column → ℕ → ℕ → List (List (List ℕ)) → Result (List (List Value)) Place
 rows_from columns limit row [] = Ok []
 rows_from columns limit row (fields ∷ more) =
     first_and_rest (row_of columns limit row fields) (rows_from columns limit (row + 1) more)
+
+-- rows that were read, in columns of these types
+pub record IsReadInto (read : Result (List (List Value)) Place) (types : List SqlType) (found : TypedRows) : Type 0 where
+  pub rows : read ≡ Ok found.rows
+  pub typed : found.types ≡ types
+  pub whole : found.begun ≡ []
 
 -- the rows under a header that differs from the columns in this place, if in any
 abbrev pub rows_under : Option ℕ → List Column → ℕ → List (List (List ℕ)) → Result (List (List Value)) Place

@@ -1,17 +1,12 @@
-ghost use Rattle.std.specs.Prelude.{◌≡◌, MatchResult};
-ghost use Rattle.csv_tables.specs.Fields.{is_varchar, is_null, unescaped, text_in, value_of_field, IsFlawOf};
+ghost use Rattle.std.specs.Prelude.{◌≡◌, MatchResult, option_map};
+ghost use Rattle.csv_tables.specs.Fields.{is_varchar, is_null, unescaped, text_in, value_of_field};
+ghost use Rattle.sql_values.specs.Cells.{lent_value};
+ghost use Rattle.sql_values.specs.Texts.{value_of_text};
 
 use crate::fault::{MALFORMED, NOT_UTF8};
-use sql_values::{Memory, ParseFault, SqlType, Value, parse_value};
-use std::alloc::Global;
+use scalar_texts::{read_bigint, read_boolean, read_date, read_decimal};
+use sql_values::{LONGEST_TEXT, SqlType, ValueRef};
 use std::str;
-
-/// Why a field stands for no cell.
-#[derive(Clone, Copy, Debug, PartialEq, Eq)]
-pub(crate) enum FieldFault {
-    Refused(u8),
-    Memory,
-}
 
 /// The field of a NULL of any type.
 pub(crate) const NULL_FIELD: &[u8] = b"\\N";
@@ -53,22 +48,44 @@ fn field_value_text(kind: SqlType, field: &str) -> &str
     field
 }
 
+fn lent_text(text: &str) -> Option<ValueRef<'_>>
+    ensures { option_map lent_value result ≡ value_of_text SqlType.Varchar text.now }
+{
+    if text.len() > LONGEST_TEXT {
+        return None;
+    }
+    Some(ValueRef::Varchar(text))
+}
+
+// The value of a type that a text writes. A varchar borrows the text.
+fn parse_lent(kind: SqlType, text: &str) -> Option<ValueRef<'_>>
+    ensures { option_map lent_value result ≡ value_of_text kind text.now }
+{
+    let bytes = text.as_bytes();
+    Some(match kind {
+        SqlType::Boolean => ValueRef::Boolean(read_boolean(bytes)?),
+        SqlType::Bigint => ValueRef::Bigint(read_bigint(bytes)?),
+        SqlType::Decimal { p, s } => ValueRef::Decimal(read_decimal(p, s, bytes)?),
+        SqlType::Varchar => lent_text(text)?,
+        SqlType::Date => ValueRef::Date(read_date(bytes)?),
+    })
+}
+
 #[tactic(auto, using(crate::proofs::ValueLemmas::field_values))]
-/// The cell that a field stands for.
-pub(crate) fn read_field(alloc: Global, kind: SqlType, field: &[u8]) -> Result<Value, FieldFault>
+/// The cell that a field stands for, with a text of the field itself, or why it stands for none.
+pub(crate) fn read_field(kind: SqlType, field: &[u8]) -> Result<ValueRef<'_>, u8>
     ensures { MatchResult result
-        (λ v. value_of_field kind field.now ≡ Ok v)
-        (IsFlawOf (value_of_field kind field.now)) }
+        (λ v. value_of_field kind field.now ≡ Ok (lent_value v))
+        (λ why. value_of_field kind field.now ≡ Err why) }
 {
     let Ok(text) = str::from_utf8(field) else {
-        return Err(FieldFault::Refused(NOT_UTF8));
+        return Err(NOT_UTF8);
     };
     if stands_for_null(kind, field) {
-        return Ok(Value::Null);
+        return Ok(ValueRef::Null);
     }
-    match parse_value(alloc, kind, field_value_text(kind, text)) {
-        Ok(value) => Ok(value),
-        Err(ParseFault::Malformed) => Err(FieldFault::Refused(MALFORMED)),
-        Err(ParseFault::Memory) => Err(FieldFault::Memory),
+    match parse_lent(kind, field_value_text(kind, text)) {
+        Some(value) => Ok(value),
+        None => Err(MALFORMED),
     }
 }

@@ -1,8 +1,10 @@
-ghost use Rattle.std.specs.Prelude.{All, IsTrue, map, ◌≡◌, ◌<◌, ◌≤◌, ◌^◌, List, ℕ, Ok, true, length, unsigned_abs};
+ghost use Rattle.std.specs.Prelude.{All, IsTrue, map, ◌≡◌, ◌≢◌, [], ◌∷◌, ◌++◌, ◌<◌, ◌≤◌, ◌^◌, List, ℕ, Ok, true, length, unsigned_abs};
+ghost use Rattle.csv.specs.Machine.{line_feed};
 ghost use Rattle.csv.specs.Reading.{AreRecords, default_config, strip_bom};
 ghost use Rattle.csv.specs.declared.parser.State.TheVariants as st;
 ghost use Rattle.csv_tables.specs.Fields.{field_text, value_of_field};
-ghost use Rattle.csv_tables.specs.Tables.{IsTable, records_of};
+ghost use Rattle.csv_tables.specs.Parts.{IsCut, quote};
+ghost use Rattle.csv_tables.specs.Tables.{IsTable, records_of, rows_from};
 ghost use Rattle.sql_values.specs.ColumnRows.{fits_row};
 ghost use Rattle.sql_values.specs.Cells.{lent_value};
 ghost use Rattle.scalar_texts.specs.Dates.{has_date};
@@ -18,6 +20,41 @@ pub fn records_are_one(text: &[u8])
     ensures { (found : List (List (List ℕ)))
         → AreRecords default_config st.StartRecord (strip_bom text.now) found
         → records_of text.now ≡ found }
+{}
+
+/// The law that the records of a text are those of its parts, if it is cut where a record begins
+/// and no byte order mark.
+#[tactic(auto, using(crate::proofs::PartLemmas::records_cut))]
+pub fn records_of_parts(before: &[u8], rest: &[u8])
+    requires { IsCut before.now rest.now }
+    ensures { records_of (before.now ++ rest.now) ≡ records_of before.now ++ records_of rest.now }
+{}
+
+/// The law that a text may be cut behind each line feed with no quote before it, if no byte order
+/// mark follows.
+#[tactic(auto, using(crate::proofs::PartLemmas::line_feed_cuts))]
+pub fn line_feeds_cut(line: &[u8], rest: &[u8])
+    requires plain { All (λ b. b ≢ quote) line.now }
+    requires unmarked { strip_bom rest.now ≡ rest.now }
+    ensures { IsCut (line.now ++ line_feed ∷ []) rest.now }
+{}
+
+/// The law that the rows of a text are those of its first part, which has the header, and then
+/// those of the rest, read by itself and counted from 1, if they are no more than may be.
+#[tactic(auto, using(crate::proofs::PartRowLemmas::table_behind))]
+pub fn rows_of_parts(
+    columns: &[Column],
+    limit: u32,
+    first: &[u8],
+    rest: &[u8],
+    rows: &RowList,
+    more: &RowList,
+)
+    requires cut { IsCut first.now rest.now }
+    requires first { IsTable columns.now limit first.now rows.now }
+    requires rest { rows_from columns.now limit 1 (records_of rest.now) ≡ Ok more.now }
+    requires few { length (rows.now ++ more.now) ≤ limit }
+    ensures { IsTable columns.now limit (first.now ++ rest.now) (rows.now ++ more.now) }
 {}
 
 /// The law that each row of a table has, in each column, a value of the variant of the column's type or NULL.

@@ -2,7 +2,8 @@
 //!
 //! `read_table` gives the table that `specs/Tables.antt` says a text is, or the first place in which
 //! it is none; `text_of` gives the text of `specs/ResultTexts.antt`. Records are those of the crate
-//! `csv` with its default settings. `specs/Fields.antt` has what a field says of a cell, both ways.
+//! `csv` with its default settings. `specs/Fields.antt` has what a field says of a cell, both ways,
+//! and `specs/Parts.antt` where a text may be cut so that its records are those of its parts.
 //!
 //! - `fault`: why a text is refused
 //! - `records`: the records of a text, one after the other
@@ -22,8 +23,8 @@ mod table;
 
 pub use fault::{MALFORMED, NOT_UTF8, TOO_MANY_ROWS, TableFault, WRONG_HEADER, WRONG_WIDTH};
 pub use laws::{
-    field_reads_back, records_are_one, rows_of_a_table_are_few, rows_of_a_table_fit,
-    rows_of_a_table_have_types,
+    field_reads_back, line_feeds_cut, records_are_one, records_of_parts, rows_of_a_table_are_few,
+    rows_of_a_table_fit, rows_of_a_table_have_types, rows_of_parts,
 };
 pub use result_text::text_of;
 pub use table::read_table;

@@ -6,7 +6,7 @@ use crate::header::header_difference;
 use crate::records::Records;
 use crate::rows::{empty_rows, read_rows};
 use csv::ByteRecord;
-use sql_values::{Column, Columns, Memory, Table};
+use sql_values::{Column, Columns, Memory, RowList, Table};
 use std::alloc::Global;
 
 fn copy_columns(alloc: Global, columns: &[Column]) -> Result<Columns, Memory>
@@ -56,9 +56,9 @@ pub fn read_table(
         });
     }
     let empty = empty_rows(alloc, columns)?;
-    let rows = read_rows(alloc, columns, limit, records, line, empty)?;
+    let rows = read_rows(columns, limit, records, line, empty)?;
     Ok(Table {
         columns: copy_columns(alloc, columns)?,
-        rows,
+        rows: RowList::of_columns(alloc, rows),
     })
 }

@@ -27,6 +27,7 @@ use Rattle.plan_docs.specs.Plans.{FragmentForm, PlanForm}
 use Rattle.plan_docs.specs.ReadNodes.{inner_node, node_at, node_form}
 use Rattle.plan_trees.specs.TreeForms.{TreeForm}
 use Rattle.plan_types.specs.declared.row_types.RowTypes.{RowTypes}
+use Rattle.plan_spreads.specs.Plans.{plan_spreads}
 use Rattle.plan_types.specs.Faults.{or_fault}
 use Rattle.plan_types.specs.Nodes.{node_types}
 use Rattle.plan_types.specs.Plans.{all_types, fragment_types, output_fault, plan_types, result_fault, root_path}
@@ -195,7 +196,7 @@ document_fits d tables passes own fit =
     let filters = count_by is_filter (places_of d) in
     let p = document_passes d (none_refused d (first_option (refusal_of d) (plan_refusal (plan_of d)) passes)) in
     let later = second_option (refusal_of d) (plan_refusal (plan_of d)) passes in
-    let typed = typed_is (plan_types (plan_of d)) (first_option (untyped (plan_types (plan_of d))) (misplaced (slice_get (plan_of d).fragments 0)) later) in
+    let typed = typed_is (plan_types (plan_of d)) (first_option (untyped (plan_types (plan_of d))) (misplaced (plan_spreads (plan_of d))) later) in
     let r = rooted nodes filters d p in
     let f = fragment_of d r.first in
     let fs = map (fragment_of d) r.rest in

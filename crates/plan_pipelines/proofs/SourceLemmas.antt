@@ -8,8 +8,8 @@ use Rattle.plan_trees.specs.TreeForms as tree
 use Rattle.plan_reader.specs.Trees.{fragment_tree, node_tree, root_tree, tree_of, whole, whole_over}
 use Rattle.plan_runs.specs.RunPlans.{Output, RunPlan, tree_of_run}
 use Rattle.plan_runs.specs.RunPlans as run
-use Rattle.plan_spreads.specs.Runs.{Part, all_parts, no_part, node_run, one_over, one_with, part_read, run_of}
-use Rattle.plan_pipelines.specs.Sources.{AllReadOn, EachSource, IsAmong}
+use Rattle.plan_spreads.specs.Runs.{Part, fragment_parts, no_part, node_run, one_over, one_with, part_read, plan_run}
+use Rattle.plan_spreads.specs.Reading.{AllReadOn, EachSource, IsAmong}
 
 over_one : (id source : ℕ) (o : Output) (tasks : ℕ) (r : RunPlan) → whole_over id source (tree_of_run r) ≡ tree_of_run (one_over id source o tasks r)
 over_one id source o tasks (run.aggregate half keys calls input) = refl
@@ -54,11 +54,11 @@ module _ (tasks : ℕ) (fs : List FragmentForm) where
   from_next i f rest at k = let step : i + 1 + k ≡ i + suc k = omega arith in ap (slice_get fs) step ∙ at (suc k)
 
   runs_from : (i : ℕ) (rest : List FragmentForm) → From i rest → AllReadOn i rest → (more : ℕ) → length rest ≤ more → (k : ℕ) → k < length rest
-      → fragment_tree more fs (i + k) ≡ part_at (all_parts tasks i rest) k
+      → fragment_tree more fs (i + k) ≡ part_at (fragment_parts tasks i rest) k
   runs_from i [] at on more enough k lt = absurd (omega (arith, lt))
   runs_from i (f ∷ rest) at on zero enough k lt = absurd (omega (arith, enough))
   runs_from i (f ∷ rest) at on (suc more) enough zero lt =
-      let parts = all_parts tasks (i + 1) rest in
+      let parts = fragment_parts tasks (i + 1) rest in
       read_root more fs (i + 0) ∙ ap (root_tree (fragment_tree more fs)) (at 0)
       ∙ node_runs (fragment_tree more fs) (i + 1) parts (IsAmong (i + 1) (length rest))
       (λ n among.
@@ -72,15 +72,15 @@ module _ (tasks : ℕ) (fs : List FragmentForm) where
       ap (fragment_tree (suc more) fs) step
       ∙ runs_from (i + 1) rest (from_next i f rest at) on.1 (suc more) (omega (arith, enough)) k (omega (arith, lt))
 
-nothing_runs : (tasks : ℕ) → fragment_tree 0 [] 0 ≡ tree_of_run (part_read 0 (all_parts tasks 0 []) 0).root
+nothing_runs : (tasks : ℕ) → fragment_tree 0 [] 0 ≡ tree_of_run (part_read 0 (fragment_parts tasks 0 []) 0).root
 unfolding fragment_tree
 nothing_runs tasks = refl
 
-fragments_run : (tasks : ℕ) (fs : List FragmentForm) → AllReadOn 0 fs → fragment_tree (length fs) fs 0 ≡ tree_of_run (part_read 0 (all_parts tasks 0 fs) 0).root
+fragments_run : (tasks : ℕ) (fs : List FragmentForm) → AllReadOn 0 fs → fragment_tree (length fs) fs 0 ≡ tree_of_run (part_read 0 (fragment_parts tasks 0 fs) 0).root
 fragments_run tasks [] on = nothing_runs tasks
 fragments_run tasks (f ∷ fs) on =
     runs_from tasks (f ∷ fs) 0 (f ∷ fs) (λ k. let none : 0 + k ≡ k = omega arith in ap (slice_get (f ∷ fs)) none) on (length (f ∷ fs)) (omega arith) 0 (omega arith)
 
-pub plan_runs_as : (plan : PlanForm) (tasks : ℕ) → AllReadOn 0 plan.fragments → tree_of plan ≡ tree_of_run (run_of tasks plan)
+pub plan_runs_as : (plan : PlanForm) (tasks : ℕ) → AllReadOn 0 plan.fragments → tree_of plan ≡ tree_of_run (plan_run tasks plan)
 unfolding tree_of
 plan_runs_as plan tasks on = fragments_run tasks plan.fragments on

@@ -1,3 +1,2 @@
 pub mod Fragments
 pub mod Built
-pub mod Sources

@@ -6,9 +6,9 @@ ghost use Rattle.plan_reader.specs.Trees.{tree_of};
 ghost use Rattle.plan_runs.specs.Placements.{Placed};
 ghost use Rattle.plan_runs.specs.RunPlans.{tree_of_run};
 ghost use Rattle.plan_runs.specs.Spreads.{whole};
+ghost use Rattle.plan_spreads.specs.Reading.{AllReadOn};
 ghost use Rattle.plan_spreads.specs.Runs as several;
 ghost use Rattle.plan_pipelines.specs.Fragments.{IsOneFragment, run_of};
-ghost use Rattle.plan_pipelines.specs.Sources.{AllReadOn};
 
 use plan_docs::Plan;
 
@@ -25,5 +25,5 @@ pub fn fragments_run(plan: &Plan)
 /// number of tasks.
 pub fn plans_run(plan: &Plan)
     ensures { (tasks : ℕ) → AllReadOn 0 (plan_view plan.now).fragments
-        → tree_of (plan_view plan.now) ≡ tree_of_run (several.run_of tasks (plan_view plan.now)) }
+        → tree_of (plan_view plan.now) ≡ tree_of_run (several.plan_run tasks (plan_view plan.now)) }
 {}

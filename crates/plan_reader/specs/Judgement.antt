@@ -1,19 +1,16 @@
 -- What bytes are as a plan: a document that no check refuses, and the plan that it means; or the
 -- code and the place of the first check that fails.
-use Rattle.std.specs.Prelude.{◌≡◌, ◌⊎◌, ℕ, List, [], ◌∷◌, slice_get, Bool, true, false, if◌then◌else◌, Option, Some, None, Result, Ok, Err}
+use Rattle.std.specs.Prelude.{◌≡◌, ◌⊎◌, ℕ, List, Option, Some, None, Result, Ok, Err}
 use Rattle.std.specs.Option.{option_or}
 use Rattle.serde_json.specs.Data.{Data}
-use Rattle.plan_places.specs.declared.key.Key.TheVariants as key
 use Rattle.plan_places.specs.declared.step.Step.{Step}
-use Rattle.plan_places.specs.declared.step.Step.TheVariants as step
 use Rattle.plan_places.specs.Places.{pointer_text}
 use Rattle.plan_checks.specs.declared.fault.PlanFault.{PlanFault}
 use Rattle.plan_checks.specs.declared.fault.PlanFault.TheVariants.{Refused, Memory}
 use Rattle.plan_checks.specs.Documents.{IsJson, IsNotJson, refusal_of}
-use Rattle.plan_docs.specs.declared.plan.Placement.{Placement}
-use Rattle.plan_docs.specs.declared.plan.Placement.TheVariants as placement
 use Rattle.plan_docs.specs.Documents.{plan_of}
-use Rattle.plan_docs.specs.Plans.{FragmentForm, PlanForm}
+use Rattle.plan_docs.specs.Plans.{PlanForm}
+use Rattle.plan_spreads.specs.Plans.{plan_spreads}
 use Rattle.plan_types.specs.Plans.{plan_types}
 
 abbrev pub refused_at : ℕ → List Step → Option (ℕ × List ℕ)
@@ -24,21 +21,14 @@ abbrev pub untyped : {A : Type 0} → Result A (List Step) → Option (ℕ × Li
 untyped (Ok types) = None
 untyped (Err path) = refused_at 5 path
 
-abbrev pub is_single : Placement → Bool
-is_single placement.Single = true
-is_single p = false
-
-abbrev pub first_placement : List Step
-first_placement = step.Key key.Fragments ∷ step.Index 0 ∷ step.Key key.Placement ∷ []
-
--- code 8: the first fragment, which gives the result, is one task
-abbrev pub misplaced : Option FragmentForm → Option (ℕ × List ℕ)
-misplaced None = None
-misplaced (Some f) = if is_single f.placement then None else refused_at 8 first_placement
+-- code 8, where spreads were wanted
+abbrev pub misplaced : {A : Type 0} → Result A (List Step) → Option (ℕ × List ℕ)
+misplaced (Ok spreads) = None
+misplaced (Err path) = refused_at 8 path
 
 -- the checks of a plan, in their order
 abbrev pub plan_refusal : PlanForm → Option (ℕ × List ℕ)
-plan_refusal plan = option_or (untyped (plan_types plan)) (misplaced (slice_get plan.fragments 0))
+plan_refusal plan = option_or (untyped (plan_types plan)) (misplaced (plan_spreads plan))
 
 -- all checks of a document, in their order
 abbrev pub judgement_of : Data → Option (ℕ × List ℕ)

@@ -1,14 +1,14 @@
-ghost use Rattle.std.specs.Prelude.{◌≡◌, None, Some, IfOk, MatchResult, slice_get};
-ghost use Rattle.std.specs.Option.{option_map};
-ghost use Rattle.plan_places.specs.Places.{pointer_text};
+ghost use Rattle.std.specs.Prelude.{◌≡◌, None, MatchResult};
 ghost use Rattle.plan_checks.specs.Documents.{RefusedAs};
-ghost use Rattle.plan_docs.specs.Plans.{fragment_view, plan_view};
+ghost use Rattle.plan_docs.specs.Plans.{plan_view};
+ghost use Rattle.plan_spreads.specs.Plans.{plan_spreads};
 ghost use Rattle.plan_types.specs.Plans.{plan_types};
-ghost use Rattle.plan_reader.specs.Judgement.{first_placement, misplaced, plan_refusal, refused_at, untyped};
+ghost use Rattle.plan_reader.specs.Judgement.{misplaced, plan_refusal, refused_at, untyped};
 
 use plan_checks::PlanFault;
-use plan_docs::{Fragment, Placement, Plan};
-use plan_places::{Key, Step, pointer_of};
+use plan_docs::Plan;
+use plan_places::{Step, pointer_of};
+use plan_spreads::{SpreadFault, spread_plan};
 use plan_types::type_plan;
 use sql_exprs::Misfit;
 use sql_values::Memory;
@@ -44,43 +44,12 @@ fn refused_at(alloc: Global, code: u8, path: &[Step]) -> PlanFault
 }
 
 fn pass_placement(alloc: Global, plan: &Plan) -> Result<(), PlanFault>
-    ensures { MatchResult result
-        (λ _. misplaced (slice_get (plan_view plan.now).fragments 0) ≡ None)
-        (RefusedAs (misplaced (slice_get (plan_view plan.now).fragments 0))) }
+    ensures { MatchResult result (λ _. misplaced (plan_spreads (plan_view plan.now)) ≡ None)
+        (RefusedAs (misplaced (plan_spreads (plan_view plan.now)))) }
 {
-    match plan.fragments.as_slice() {
-        [] => Ok(()),
-        [fragment, ..] => pass_first(alloc, fragment),
+    match spread_plan(alloc, plan) {
+        Ok(_spreads) => Ok(()),
+        Err(SpreadFault::Refused(path)) => Err(PlanFault::Refused { code: 8, path }),
+        Err(SpreadFault::Memory) => Err(PlanFault::Memory),
     }
-}
-
-fn pass_first(alloc: Global, fragment: &Fragment) -> Result<(), PlanFault>
-    ensures { MatchResult result
-        (λ _. misplaced (Some (fragment_view fragment.now)) ≡ None)
-        (RefusedAs (misplaced (Some (fragment_view fragment.now)))) }
-{
-    match fragment.placement {
-        Placement::Single => Ok(()),
-        Placement::Source => Err(misplaced(alloc)),
-        Placement::Hash => Err(misplaced(alloc)),
-    }
-}
-
-fn misplaced(alloc: Global) -> PlanFault
-    ensures { RefusedAs (refused_at 8 first_placement) result }
-{
-    match first_placement(alloc) {
-        Ok(path) => refused_at(alloc, 8, path.as_slice()),
-        Err(Memory) => PlanFault::Memory,
-    }
-}
-
-fn first_placement(alloc: Global) -> Result<Vec<Step>, Memory>
-    ensures { IfOk result (λ path. path.items ≡ first_placement) }
-{
-    let mut path = Vec::with_capacity(alloc, 3)?;
-    path.push(Step::Key(Key::Fragments))?;
-    path.push(Step::Index(0))?;
-    path.push(Step::Key(Key::Placement))?;
-    Ok(path)
 }

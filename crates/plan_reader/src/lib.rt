@@ -1,8 +1,8 @@
 //! Plans: a document is read into a plan, or the first check that fails is told with its place.
 //!
 //! `specs/Judgement.antt` has the order of the checks as one definition: those of the document's
-//! own places, then the types, then the placement. The plan of a document that passes is the one
-//! that the document means. `specs/Trees.antt` says which tree of operators a plan is.
+//! own places, then the types, then the placement (`plan_spreads`). The plan of a document that passes
+//! is the one that the document means. `specs/Trees.antt` says which tree of operators a plan is.
 //!
 //! - `judge`: the checks of a plan
 //! - `read`: `read_plan`

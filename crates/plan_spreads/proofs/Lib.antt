@@ -4,3 +4,4 @@ pub mod ReadParts
 pub mod WidthLemmas
 pub mod NodeLemmas
 pub mod PlanLemmas
+pub mod ReadingLemmas

@@ -18,32 +18,32 @@ use Rattle.plan_runs.specs.RunPlans.{RunPlan}
 use Rattle.plan_runs.specs.RunPlans as run
 use Rattle.plan_runs.specs.Spreads as runs
 use Rattle.plan_runs.specs.Placements.{Placed, scan_whole, values_whole, values_every, remote_whole, filter_stays, project_whole, join_whole, aggregate_whole, final_whole, final_by, sort_whole, topn_whole, topn_parts_whole, limit_whole, limit_parts_whole, union_whole}
-use Rattle.plan_spreads.specs.declared.spread.Spread.{Spread}
-use Rattle.plan_spreads.specs.declared.spread.Spread.TheVariants.{Every}
+use Rattle.plan_spreads.specs.declared.spread.RowSpread.{RowSpread}
+use Rattle.plan_spreads.specs.declared.spread.RowSpread.TheVariants.{Every}
 use Rattle.plan_spreads.specs.Halves.{Halved, aggregates, top_ns, limits, Meets}
 use Rattle.plan_spreads.specs.Nodes.{over, spread_of}
 use Rattle.plan_spreads.specs.Operators.{aggregate_spread, final_spread, first_rows_spread, join_spread, project_spread, remote_spread, scan_spread, union_spread}
-use Rattle.plan_spreads.specs.Runs.{Part, node_run, one_over, output_view, part_read, source_run, spread_view}
+use Rattle.plan_spreads.specs.Runs.{Part, node_run, one_over, output_view, part_read, source_run, row_spread_view}
 use Rattle.plan_spreads.specs.Sources.{fits_reader, fragment_read, half_keys, keys_read, misread, output_of, root_keys, source_fault}
 use Rattle.plan_spreads.proofs.OperatorLemmas.{aggregate_placed, final_over, join_placed, not_first, project_placed, remote_placed, scan_placed, union_placed}
 use Rattle.plan_spreads.proofs.ReadParts.{AllStand, Over, Reads, has_read, over_half}
 use Rattle.plan_spreads.proofs.WidthLemmas.{root_read}
 
-pub chosen : (o : Option Spread) (path : Path) (s : Spread) → ok_or o path ≡ Ok s → o ≡ Some s
+pub chosen : (o : Option RowSpread) (path : Path) (s : RowSpread) → ok_or o path ≡ Ok s → o ≡ Some s
 chosen (Some x) path s e = let same : x ≡ s = cc e in ap Some same
 chosen None path s e = absurd cc
 
 -- the spread of an input, and what the operator made of it
-pub record Made (input : Result Spread Path) (spread : Spread → Option Spread) (s : Spread) : Type 0 where
-  pub below : Spread
+pub record Made (input : Result RowSpread Path) (spread : RowSpread → Option RowSpread) (s : RowSpread) : Type 0 where
+  pub below : RowSpread
   pub was : input ≡ Ok below
   pub gives : spread below ≡ Some s
 
-pub made : (path : Path) (input : Result Spread Path) (spread : Spread → Option Spread) (s : Spread) → over path input spread ≡ Ok s → Made input spread s
+pub made : (path : Path) (input : Result RowSpread Path) (spread : RowSpread → Option RowSpread) (s : RowSpread) → over path input spread ≡ Ok s → Made input spread s
 made path (Ok below) spread s e = record { below = below; was = refl; gives = chosen (spread below) path s e }
 made path (Err p) spread s e = absurd cc
 
-none_some : (s : Spread) → None ≡ Some s → ⊥
+none_some : (s : RowSpread) → None ≡ Some s → ⊥
 none_some s e = cc
 
 pub left_none : (a b : Option Path) → option_or a b ≡ None → a ≡ None
@@ -64,7 +64,7 @@ module _ (first : ℕ) (later : List FragmentForm) (types : List RowTypes) (part
   part_at fragment = part_read first parts fragment
 
   goes : (operator : Option Halved) (fragment : ℕ) (r : Reads first later operator fragment) → (part_at fragment).output ≡ output_view r.f.output
-  goes operator fragment r = (all (fragment - first) r.f r.read).output
+  goes operator fragment r = (all (fragment - first) r.f r.at).output
 
   -- where the source is read by one task
   goes_single : (operator : Option Halved) (path : Path) (fragment : ℕ) (r : Reads first later operator fragment)
@@ -136,25 +136,25 @@ module _ (first : ℕ) (later : List FragmentForm) (types : List RowTypes) (part
       union_whole (single_placed (under path key.Left) left m.0 (left_none l r e)) (single_placed (under path key.Right) right m.1 (right_none l r e))
 
   module _ (p : Placement) (n : ℕ) where
-    source_placed : (id : ℕ) (path : Path) (fragment : ℕ) (s : Spread) → Reads first later None fragment
+    source_placed : (id : ℕ) (path : Path) (fragment : ℕ) (s : RowSpread) → Reads first later None fragment
         → ok_or (remote_spread (output_of (fragment_read first later fragment))) path ≡ Ok s
-        → Placed n (source_run id (part_at fragment)) (spread_view s)
+        → Placed n (source_run id (part_at fragment)) (row_spread_view s)
     source_placed id path fragment s r e =
         let part = part_at fragment in
         let reads = root_read first later types parts all None fragment r in
-        let stands = all (fragment - first) r.f r.read in
+        let stands = all (fragment - first) r.f r.at in
         let found = chosen (remote_spread r.f.output) path s (subst (λ o. ok_or (remote_spread (output_of o)) path ≡ Ok s) r.read e) in
-        subst (λ out. Placed n (run.remote id out part.tasks part.root) (spread_view s)) (sym stands.output)
+        subst (λ out. Placed n (run.remote id out part.tasks part.root) (row_spread_view s)) (sym stands.output)
         (remote_placed n id part.tasks (length (read_from first types fragment).columns) part.root r.f.output s stands.fits reads.1 reads.0 found)
 
-    group_by : (id : ℕ) (path : Path) (input : NodeForm) (s : Spread) → Over first later aggregates input
+    group_by : (id : ℕ) (path : Path) (input : NodeForm) (s : RowSpread) → Over first later aggregates input
         → over path (spread_of p first later (under path key.Input) input) (final_spread p (keys_read first later input)) ≡ Ok s
-        → Placed n (node_run first parts (aggregate_final id input)) (spread_view s)
+        → Placed n (node_run first parts (aggregate_final id input)) (row_spread_view s)
     group_by id path input s o e =
         let part = part_at o.fragment in
         let f = o.reads.f in
         let g = root_read first later types parts all (Some aggregates) o.fragment o.reads in
-        let stands = all (o.fragment - first) f o.reads.read in
+        let stands = all (o.fragment - first) f o.reads.at in
         let at = under path key.Input in
         let over_source = subst (λ x. over path (spread_of p first later at x) (final_spread p (keys_read first later x)) ≡ Ok s) (sym o.is) e in
         let over_read = subst (λ x. over path (ok_or (remote_spread (output_of x)) at) (final_spread p (root_keys x)) ≡ Ok s) o.reads.read over_source in
@@ -162,18 +162,18 @@ module _ (first : ℕ) (later : List FragmentForm) (types : List RowTypes) (part
         let by = final_over f.output p (half_keys f.root) h.below s (chosen (remote_spread f.output) at h.below h.was) h.gives in
         let some = subst (λ k. 0 < k) g.count by.some in
         let within = subst (λ k. AllBelow k by.columns) g.count by.within in
-        subst (λ x. Placed n (node_run first parts (aggregate_final id x)) (spread_view s)) o.is
-        (subst (λ r. Placed n (one_over id o.source part.output part.tasks r) (spread_view s)) (sym g.is)
-        (subst (λ out. Placed n (run.aggregate_parts id o.source out part.tasks g.by_keys g.calls g.below) (spread_view s)) (sym (stands.output ∙ by.is))
-        (subst (λ x. Placed n (run.aggregate_parts id o.source (run.hashed by.columns) part.tasks g.by_keys g.calls g.below) (spread_view x)) by.same
+        subst (λ x. Placed n (node_run first parts (aggregate_final id x)) (row_spread_view s)) o.is
+        (subst (λ r. Placed n (one_over id o.source part.output part.tasks r) (row_spread_view s)) (sym g.is)
+        (subst (λ out. Placed n (run.aggregate_parts id o.source out part.tasks g.by_keys g.calls g.below) (row_spread_view s)) (sym (stands.output ∙ by.is))
+        (subst (λ x. Placed n (run.aggregate_parts id o.source (run.hashed by.columns) part.tasks g.by_keys g.calls g.below) (row_spread_view x)) by.same
         (final_by some within g.reads.is_read g.reads.placed))))
 
     -- a node that has a spread is placed at it, whichever number of tasks runs it
-    pub node_placed : (path : Path) (node : NodeForm) (s : Spread) → Meets first later node → spread_of p first later path node ≡ Ok s
-        → Placed n (node_run first parts node) (spread_view s)
+    pub node_placed : (path : Path) (node : NodeForm) (s : RowSpread) → Meets first later node → spread_of p first later path node ≡ Ok s
+        → Placed n (node_run first parts node) (row_spread_view s)
     node_placed path (scan id table columns kinds) s m e = scan_placed n id table columns kinds p s (chosen (scan_spread p) path s e)
     node_placed path (values id kinds rows) s m e =
-        let same : Every ≡ s = cc e in subst (λ x. Placed n (run.values id kinds rows) (spread_view x)) same values_every
+        let same : Every ≡ s = cc e in subst (λ x. Placed n (run.values id kinds rows) (row_spread_view x)) same values_every
     node_placed path (remote id fragment) s m e =
         source_placed id path fragment s (has_read first later None fragment (fragment_read first later fragment) refl m) e
     node_placed path (filter id predicate input) s m e = filter_stays (node_placed (under path key.Input) input s m e)

@@ -8,7 +8,7 @@ use Rattle.bag_laws.specs.Buckets.{AllBelow, lefts, rights}
 use Rattle.sql_exprs.specs.Forms.{Form, column}
 use Rattle.plan_trees.specs.declared.tree.Pair.{Pair}
 use Rattle.plan_trees.specs.TreeForms.{pair_view}
-use Rattle.plan_spreads.specs.Columns.{add_place, are_paired, is_column, is_key, is_pair, places_of}
+use Rattle.plan_spreads.specs.Columns.{add_place, are_paired, is_column, is_key, is_pair, first_places}
 use Rattle.plan_spreads.specs.Operators.{are_keys}
 
 pub first_true : (a b : Bool) → a && b ≡ true → a ≡ true
@@ -68,12 +68,12 @@ pub record AreAt {A : Type 0} (items : List A) (of : ℕ → A) (d : A) (columns
   pub same : map (λ place. get_or items place d) places ≡ map of columns
 
 pub places_at : {A : Type 0} (stands : ℕ → A → Bool) (of : ℕ → A) (d : A) → ((c : ℕ) (x : A) → stands c x ≡ true → x ≡ of c) → (items : List A)
-    (columns places : List ℕ) → places_of stands items columns ≡ Some places → AreAt items of d columns places
+    (columns places : List ℕ) → first_places stands items columns ≡ Some places → AreAt items of d columns places
 places_at stands of d is items [] places e =
     let same : [] ≡ places = cc e in
     subst (λ ps. AreAt items of d [] ps) same (record { within = All-nil (λ c. c < length items); same = refl })
 places_at stands of d is items (c ∷ cs) places e =
-    let a = added (position_from (stands c) 0 items) (places_of stands items cs) places e in
+    let a = added (position_from (stands c) 0 items) (first_places stands items cs) places e in
     let f = found_first (stands c) items d a.place a.first in
     let rest = places_at stands of d is items cs a.others a.rest in
     subst (λ ps. AreAt items of d (c ∷ cs) ps) a.same (record {

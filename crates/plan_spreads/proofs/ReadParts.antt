@@ -1,6 +1,7 @@
 -- What is known of the fragments that a fragment reads, as they run.
-use Rattle.std.proofs.Common.{◌≡◌, ℕ, ◌+◌, zero, suc, List, [], ◌∷◌, length, Option, Some, None, refl, subst}
-use Rattle.std.specs.Prelude.{slice_get, unwrap_or}
+use Rattle.std.proofs.Common.{◌≡◌, ℕ, ◌+◌, ◌-◌, ◌≤◌, zero, suc, List, [], ◌∷◌, length, Bool, true, false, Option, Some, None, refl, subst}
+use Rattle.std.specs.Prelude.{if◌then◌else◌, nat_le, slice_get, unwrap_or}
+use Rattle.std.proofs.lemmas.Bool.{leb-true}
 use Rattle.sql_values.specs.declared.relational.Call.{Call}
 use Rattle.sql_values.specs.declared.order.KeySpec.{KeySpec}
 use Rattle.plan_trees.specs.Allowed.{width_of}
@@ -67,17 +68,26 @@ pub one_more : (f : FragmentForm) (fs : List FragmentForm) (t : RowTypes) (ts : 
 one_more f fs t ts p ps first rest zero g e = let same : f ≡ g = cc e in subst (λ x. Stands x t p) same first
 one_more f fs t ts p ps first rest (suc k) g e = rest k g e
 
+-- where a source reads one of the later fragments
+there_by : (b : Bool) (o : Option FragmentForm) (f : FragmentForm) → (if b then o else None) ≡ Some f → (b ≡ true) × (o ≡ Some f)
+there_by true o f e = (refl, e)
+there_by false o f e = absurd cc
+
 module _ (first : ℕ) (later : List FragmentForm) where
   -- the fragment that a source reads, and what its root is a half of
   pub record Reads (operator : Option Halved) (fragment : ℕ) : Type 0 where
     pub f : FragmentForm
     pub read : fragment_read first later fragment ≡ Some f
+    pub after : first ≤ fragment
+    pub at : slice_get later (fragment - first) ≡ Some f
     pub is : half f.root ≡ operator
 
   pub has_read : (operator : Option Halved) (fragment : ℕ) (o : Option FragmentForm) → fragment_read first later fragment ≡ o → HasHalf operator o
       → Reads operator fragment
   has_read operator fragment None e h = absurd h
-  has_read operator fragment (Some f) e h = record { f = f; read = e; is = h }
+  has_read operator fragment (Some f) e h =
+      let there = there_by (nat_le first fragment) (slice_get later (fragment - first)) f e in
+      record { f = f; read = e; after = leb-true first fragment there.0; at = there.1; is = h }
 
   -- the source that a FINAL node is over
   pub record Over (operator : Halved) (input : NodeForm) : Type 0 where

@@ -145,7 +145,7 @@ module _ (first : ℕ) (later : List FragmentForm) (types : List RowTypes) (part
   pub root_read : (operator : Option Halved) (fragment : ℕ) (r : Reads first later operator fragment)
       → Rooted operator (half_keys r.f.root) (read_from first types fragment) (part_read first parts fragment)
   root_read operator fragment r =
-      let stands = all (fragment - first) r.f r.read in
+      let stands = all (fragment - first) r.f r.at in
       subst (λ h. Rooted h (half_keys r.f.root) (read_from first types fragment) (part_read first parts fragment)) r.is stands.root
 
   abbrev wide : NodeForm → ℕ

@@ -17,9 +17,9 @@ add_place (Some place) (Some places) = Some (place ∷ places)
 add_place place places = None
 
 -- the first of the items at which each column stands, where each stands at one
-abbrev pub places_of : {A : Type 0} → (ℕ → A → Bool) → List A → List ℕ → Option (List ℕ)
-places_of stands items [] = Some []
-places_of stands items (c ∷ cs) = add_place (position_from (stands c) 0 items) (places_of stands items cs)
+abbrev pub first_places : {A : Type 0} → (ℕ → A → Bool) → List A → List ℕ → Option (List ℕ)
+first_places stands items [] = Some []
+first_places stands items (c ∷ cs) = add_place (position_from (stands c) 0 items) (first_places stands items cs)
 
 abbrev pub is_pair : ℕ → ℕ → Pair → Bool
 is_pair c d pair = (pair.left == c) && (pair.right == d)

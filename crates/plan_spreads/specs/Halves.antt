@@ -13,15 +13,15 @@ pub data Halved : Type 0 where
   top_ns : Halved
   limits : Halved
 
-abbrev pub half_of : NodeStep → Halved → Option Halved
-half_of Partial operator = Some operator
-half_of Single operator = None
+abbrev pub partial_half : NodeStep → Halved → Option Halved
+partial_half Partial operator = Some operator
+partial_half Single operator = None
 
 -- the operator whose PARTIAL half the node is
 abbrev pub half : NodeForm → Option Halved
-half (aggregate id step keys calls input) = half_of step aggregates
-half (top_n id step count keys input) = half_of step top_ns
-half (limit id step count input) = half_of step limits
+half (aggregate id step keys calls input) = partial_half step aggregates
+half (top_n id step count keys input) = partial_half step top_ns
+half (limit id step count input) = partial_half step limits
 half node = None
 
 -- there is the fragment, and its root is a half of the operator, or of none

@@ -5,3 +5,4 @@ pub mod Nodes
 pub mod Plans
 pub mod Runs
 pub mod Halves
+pub mod Reading

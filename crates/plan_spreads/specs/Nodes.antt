@@ -6,17 +6,32 @@ use Rattle.sql_exprs.specs.Typing.{Path, typed_then, under}
 use Rattle.plan_docs.specs.declared.plan.Placement.{Placement}
 use Rattle.plan_docs.specs.Nodes.{NodeForm, scan, values, remote, filter, project, join, aggregate, aggregate_final, sort, top_n, top_n_final, limit, limit_final, union}
 use Rattle.plan_docs.specs.Plans.{FragmentForm}
-use Rattle.plan_spreads.specs.declared.spread.Spread.{Spread}
-use Rattle.plan_spreads.specs.declared.spread.Spread.TheVariants.{Every}
+use Rattle.plan_spreads.specs.declared.spread.RowSpread.{RowSpread}
+use Rattle.plan_spreads.specs.declared.spread.RowSpread.TheVariants.{Every}
 use Rattle.plan_spreads.specs.Operators.{aggregate_spread, final_spread, first_rows_spread, join_spread, project_spread, remote_spread, scan_spread, union_spread}
 use Rattle.plan_spreads.specs.Sources.{fragment_read, keys_read, output_of}
 
+-- the spread of an operator over its one input; a sort, and what takes all rows at once, has none
+abbrev pub operator_spread : Placement → ℕ → List FragmentForm → NodeForm → RowSpread → Option RowSpread
+operator_spread p first later (project id columns input) s = project_spread columns s
+operator_spread p first later (aggregate id step keys calls input) s = aggregate_spread step keys s
+operator_spread p first later (aggregate_final id input) s = final_spread p (keys_read first later input) s
+operator_spread p first later (top_n id step count keys input) s = first_rows_spread step s
+operator_spread p first later (limit id step count input) s = first_rows_spread step s
+operator_spread p first later node s = None
+
+-- that of an operator over its two sides
+abbrev pub sides_spread : NodeForm → RowSpread → RowSpread → Option RowSpread
+sides_spread (join id kind on filters left right) l r = join_spread on l r
+sides_spread (union id left right) l r = union_spread l r
+sides_spread node l r = None
+
 -- the operator's spread over that of its input
-abbrev pub over : Path → Result Spread Path → (Spread → Option Spread) → Result Spread Path
+abbrev pub over : Path → Result RowSpread Path → (RowSpread → Option RowSpread) → Result RowSpread Path
 over path input spread = typed_then input (λ s. ok_or (spread s) path)
 
 -- the node at a path, in a fragment of this placement, where `later` has the fragments from `first` on
-abbrev pub spread_of : Placement → ℕ → List FragmentForm → Path → NodeForm → Result Spread Path
+abbrev pub spread_of : Placement → ℕ → List FragmentForm → Path → NodeForm → Result RowSpread Path
 spread_of p first later path (scan id table columns types) = ok_or (scan_spread p) path
 spread_of p first later path (values id types rows) = Ok Every
 spread_of p first later path (remote id fragment) = ok_or (remote_spread (output_of (fragment_read first later fragment))) path

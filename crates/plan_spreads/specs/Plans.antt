@@ -13,8 +13,8 @@ use Rattle.plan_types.specs.Faults.{or_fault}
 use Rattle.plan_types.specs.Plans.{root_path}
 use Rattle.plan_spreads.specs.declared.fault.SpreadFault.{SpreadFault}
 use Rattle.plan_spreads.specs.declared.fault.SpreadFault.TheVariants as fault
-use Rattle.plan_spreads.specs.declared.spread.Spread.{Spread}
-use Rattle.plan_spreads.specs.declared.spread.Spread.TheVariants.{Whole}
+use Rattle.plan_spreads.specs.declared.spread.RowSpread.{RowSpread}
+use Rattle.plan_spreads.specs.declared.spread.RowSpread.TheVariants.{Whole}
 use Rattle.plan_spreads.specs.Nodes.{spread_of}
 use Rattle.plan_spreads.specs.Operators.{is_parted}
 use Rattle.plan_spreads.specs.Sources.{misread}
@@ -37,26 +37,26 @@ sources_fault i [] = None
 sources_fault i (f ∷ fs) = option_or (misread f.placement (i + 1) fs (root_path i) f.root) (sources_fault (i + 1) fs)
 
 -- rows that each task has would be given once for each
-abbrev pub root_spread : Path → Spread → Result Spread Path
+abbrev pub root_spread : Path → RowSpread → Result RowSpread Path
 root_spread path s = if is_parted s then Ok s else Err path
 
 -- one task may run any node
-abbrev pub fragment_spread : ℕ → List FragmentForm → FragmentForm → Result Spread Path
+abbrev pub fragment_spread : ℕ → List FragmentForm → FragmentForm → Result RowSpread Path
 fragment_spread i later f =
     if is_single f.placement then Ok Whole
     else typed_then (spread_of f.placement (i + 1) later (root_path i) f.root) (root_spread (root_path i))
 
-abbrev pub all_spreads : ℕ → List FragmentForm → Result (List Spread) Path
+abbrev pub all_spreads : ℕ → List FragmentForm → Result (List RowSpread) Path
 all_spreads i [] = Ok []
 all_spreads i (f ∷ fs) = typed_then (fragment_spread i fs f) (λ s. typed_then (all_spreads (i + 1) fs) (λ ss. Ok (s ∷ ss)))
 
-unfoldable pub plan_spreads : PlanForm → Result (List Spread) Path
+unfoldable pub plan_spreads : PlanForm → Result (List RowSpread) Path
 plan_spreads plan =
     or_fault (placement_fault (slice_get plan.fragments 0))
     (or_fault (sources_fault 0 plan.fragments)
     (all_spreads 0 plan.fragments))
 
 -- the fault tells the place as a pointer, or memory was wanting
-abbrev pub RefusedFor : Result (List Spread) Path → SpreadFault → Type 0
+abbrev pub RefusedFor : Result (List RowSpread) Path → SpreadFault → Type 0
 RefusedFor spreads (fault.Refused pointer) = (path : Path) × (spreads ≡ Err path) × (pointer ≡ pointer_text path)
 RefusedFor spreads fault.Memory = Unit {0}

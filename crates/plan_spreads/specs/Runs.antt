@@ -9,15 +9,15 @@ use Rattle.plan_trees.specs.TreeForms.{pair_view}
 use Rattle.plan_runs.specs.RunPlans.{RunPlan}
 use Rattle.plan_runs.specs.RunPlans as run
 use Rattle.plan_runs.specs.Spreads as runs
-use Rattle.plan_spreads.specs.declared.spread.Spread.{Spread}
-use Rattle.plan_spreads.specs.declared.spread.Spread.TheVariants.{Whole, Any, By, Every}
+use Rattle.plan_spreads.specs.declared.spread.RowSpread.{RowSpread}
+use Rattle.plan_spreads.specs.declared.spread.RowSpread.TheVariants.{Whole, Any, By, Every}
 use Rattle.plan_spreads.specs.Plans.{is_single}
 
-abbrev pub spread_view : Spread → runs.Spread
-spread_view Whole = runs.whole
-spread_view Any = runs.any
-spread_view (By columns) = runs.by columns
-spread_view Every = runs.every
+abbrev pub row_spread_view : RowSpread → runs.Spread
+row_spread_view Whole = runs.whole
+row_spread_view Any = runs.any
+row_spread_view (By columns) = runs.by columns
+row_spread_view Every = runs.every
 
 -- the rows of a result go to one place
 abbrev pub output_view : Output → run.Output
@@ -85,9 +85,9 @@ fragment_run tasks first parts f =
     record { tasks = tasks_of tasks f.placement; output = output_view f.output; root = node_run first parts f.root }
 
 -- the fragments from place i on, the last one first
-abbrev pub all_parts : ℕ → ℕ → List FragmentForm → List Part
-all_parts tasks i [] = []
-all_parts tasks i (f ∷ fs) = fragment_run tasks (i + 1) (all_parts tasks (i + 1) fs) f ∷ all_parts tasks (i + 1) fs
+abbrev pub fragment_parts : ℕ → ℕ → List FragmentForm → List Part
+fragment_parts tasks i [] = []
+fragment_parts tasks i (f ∷ fs) = fragment_run tasks (i + 1) (fragment_parts tasks (i + 1) fs) f ∷ fragment_parts tasks (i + 1) fs
 
-abbrev pub run_of : ℕ → PlanForm → RunPlan
-run_of tasks plan = (part_read 0 (all_parts tasks 0 plan.fragments) 0).root
+abbrev pub plan_run : ℕ → PlanForm → RunPlan
+plan_run tasks plan = (part_read 0 (fragment_parts tasks 0 plan.fragments) 0).root

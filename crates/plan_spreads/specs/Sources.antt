@@ -1,5 +1,5 @@
 -- What a remote source reads, and the first one whose fragment gives its rows in another way than its reader needs.
-use Rattle.std.specs.Prelude.{ℕ, ◌-◌, List, length, slice_get, Bool, true, false, if◌then◌else◌, Option, Some, None}
+use Rattle.std.specs.Prelude.{ℕ, ◌-◌, List, length, nat_le, slice_get, Bool, true, false, if◌then◌else◌, Option, Some, None}
 use Rattle.std.specs.Option.{option_or}
 use Rattle.plan_places.specs.declared.key.Key.TheVariants as key
 use Rattle.sql_exprs.specs.Typing.{Path, under}
@@ -14,7 +14,7 @@ use Rattle.plan_docs.specs.Plans.{FragmentForm}
 
 -- a source reads a fragment after its own: `later` has those from `first` on
 abbrev pub fragment_read : ℕ → List FragmentForm → ℕ → Option FragmentForm
-fragment_read first later fragment = slice_get later (fragment - first)
+fragment_read first later fragment = if nat_le first fragment then slice_get later (fragment - first) else None
 
 abbrev pub output_of : Option FragmentForm → Output
 output_of None = output.Result

@@ -1,7 +1,7 @@
 ghost use Rattle.std.specs.Prelude.{◌≡◌, map, IfOk, option_map};
 ghost use Rattle.std.specs.List.{list_any, position_from};
 ghost use Rattle.sql_exprs.specs.Forms.{form_view};
-ghost use Rattle.plan_spreads.specs.Columns.{add_place, are_paired, is_column, is_key, is_pair, places_of};
+ghost use Rattle.plan_spreads.specs.Columns.{add_place, are_paired, is_column, is_key, is_pair, first_places};
 
 use plan_docs::Pair;
 use sql_exprs::Expr;
@@ -65,7 +65,7 @@ pub fn column_places(
     columns: &[u32],
 ) -> Result<Option<Vec<u32>>, Memory>
     ensures { IfOk result (λ found. option_map (λ v. v.items) found
-        ≡ places_of is_column (map form_view exprs.now) columns.now) }
+        ≡ first_places is_column (map form_view exprs.now) columns.now) }
 {
     match columns {
         [] => Ok(Some(Vec::new(alloc))),
@@ -79,7 +79,7 @@ pub fn column_places(
 /// The places at which keys are the columns, where each is a key.
 pub fn key_places(alloc: Global, keys: &[u32], columns: &[u32]) -> Result<Option<Vec<u32>>, Memory>
     ensures { IfOk result (λ found. option_map (λ v. v.items) found
-        ≡ places_of is_key keys.now columns.now) }
+        ≡ first_places is_key keys.now columns.now) }
 {
     match columns {
         [] => Ok(Some(Vec::new(alloc))),

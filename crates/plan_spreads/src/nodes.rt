@@ -3,7 +3,7 @@ ghost use Rattle.std.specs.Option.{ok_or};
 ghost use Rattle.sql_exprs.specs.Typing.{MisfitAt};
 ghost use Rattle.plan_docs.specs.Nodes.{node_view};
 ghost use Rattle.plan_docs.specs.Plans.{fragment_view};
-ghost use Rattle.plan_spreads.specs.Nodes.{spread_of};
+ghost use Rattle.plan_spreads.specs.Nodes.{operator_spread, sides_spread, spread_of};
 ghost use Rattle.plan_spreads.specs.Operators.{remote_spread};
 ghost use Rattle.plan_spreads.specs.Sources.{fragment_read, output_of};
 
@@ -12,7 +12,7 @@ use crate::operators::{
     scan_spread, union_spread,
 };
 use crate::sources::{Reader, fragment_read, keys_read};
-use crate::spread::Spread;
+use crate::spread::RowSpread;
 use plan_docs::Node;
 use plan_places::{Key, Step, then};
 use plan_types::refused_at;
@@ -21,7 +21,7 @@ use sql_values::Memory;
 use std::alloc::Global;
 
 /// The spread, or a fault at the path where there is none.
-fn placed(alloc: Global, path: &[Step], spread: Option<Spread>) -> Result<Spread, Misfit>
+fn placed(alloc: Global, path: &[Step], spread: Option<RowSpread>) -> Result<RowSpread, Misfit>
     ensures { MatchResult result (λ s. ok_or spread path.now ≡ Ok s)
         (MisfitAt (ok_or spread path.now)) }
 {
@@ -31,7 +31,11 @@ fn placed(alloc: Global, path: &[Step], spread: Option<Spread>) -> Result<Spread
     }
 }
 
-fn spread_read(alloc: Global, reader: &Reader<'_>, fragment: u32) -> Result<Option<Spread>, Memory>
+fn spread_read(
+    alloc: Global,
+    reader: &Reader<'_>,
+    fragment: u32,
+) -> Result<Option<RowSpread>, Memory>
     ensures { IfOk result (λ s. s ≡ remote_spread
         (output_of (fragment_read reader.now.first (map fragment_view reader.now.later.now) fragment))) }
 {
@@ -41,75 +45,117 @@ fn spread_read(alloc: Global, reader: &Reader<'_>, fragment: u32) -> Result<Opti
     }
 }
 
+/// The spread of what a remote source at the path gives.
+fn source_spread(
+    alloc: Global,
+    reader: &Reader<'_>,
+    path: &[Step],
+    fragment: u32,
+) -> Result<RowSpread, Misfit>
+    ensures { MatchResult result
+        (λ s. ok_or (remote_spread
+        (output_of (fragment_read reader.now.first (map fragment_view reader.now.later.now) fragment))) path.now ≡ Ok s)
+        (MisfitAt (ok_or (remote_spread
+        (output_of (fragment_read reader.now.first (map fragment_view reader.now.later.now) fragment))) path.now)) }
+{
+    let spread = spread_read(alloc, reader, fragment)?;
+    placed(alloc, path, spread)
+}
+
+/// The spread of an operator over that of its one input.
+fn operator_spread(
+    alloc: Global,
+    reader: &Reader<'_>,
+    node: &Node,
+    below: RowSpread,
+) -> Result<Option<RowSpread>, Memory>
+    ensures { IfOk result (λ s. s ≡ operator_spread reader.now.placement reader.now.first
+        (map fragment_view reader.now.later.now) (node_view node.now) below) }
+{
+    match node {
+        Node::Project { columns, .. } => project_spread(alloc, columns.as_slice(), below),
+        Node::Aggregate { step, keys, .. } => {
+            aggregate_spread(alloc, *step, keys.as_slice(), below)
+        }
+        Node::AggregateFinal { input, .. } => {
+            let keys = keys_read(reader, input);
+            Ok(final_spread(reader.placement, keys, below))
+        }
+        Node::TopN { step, .. } | Node::Limit { step, .. } => Ok(first_rows_spread(*step, below)),
+        Node::Scan { .. }
+        | Node::Values { .. }
+        | Node::Remote { .. }
+        | Node::Filter { .. }
+        | Node::Join { .. }
+        | Node::Sort { .. }
+        | Node::TopNFinal { .. }
+        | Node::LimitFinal { .. }
+        | Node::Union { .. } => Ok(None),
+    }
+}
+
+/// The spread of an operator over those of its two sides.
+fn sides_spread(node: &Node, left: RowSpread, right: RowSpread) -> Option<RowSpread>
+    ensures { result ≡ sides_spread (node_view node.now) left right }
+{
+    match node {
+        Node::Join { on, .. } => join_spread(on.as_slice(), left, right),
+        Node::Union { .. } => union_spread(left, right),
+        Node::Scan { .. }
+        | Node::Values { .. }
+        | Node::Remote { .. }
+        | Node::Filter { .. }
+        | Node::Project { .. }
+        | Node::Aggregate { .. }
+        | Node::AggregateFinal { .. }
+        | Node::Sort { .. }
+        | Node::TopN { .. }
+        | Node::TopNFinal { .. }
+        | Node::Limit { .. }
+        | Node::LimitFinal { .. } => None,
+    }
+}
+
 /// The spread of the rows of the node at a path.
 pub fn spread_of(
     alloc: Global,
     reader: &Reader<'_>,
     path: &[Step],
     node: &Node,
-) -> Result<Spread, Misfit>
+) -> Result<RowSpread, Misfit>
     ensures { MatchResult result
         (λ s. spread_of reader.now.placement reader.now.first
         (map fragment_view reader.now.later.now) path.now (node_view node.now) ≡ Ok s)
         (MisfitAt (spread_of reader.now.placement reader.now.first
         (map fragment_view reader.now.later.now) path.now (node_view node.now))) }
 {
-    let under = then(alloc, path, Step::Key(Key::Input))?;
     match node {
         Node::Scan { .. } => placed(alloc, path, scan_spread(reader.placement)),
-        Node::Values { .. } => Ok(Spread::Every),
-        Node::Remote { fragment, .. } => {
-            let read = spread_read(alloc, reader, *fragment)?;
-            placed(alloc, path, read)
+        Node::Values { .. } => Ok(RowSpread::Every),
+        Node::Remote { fragment, .. } => source_spread(alloc, reader, path, *fragment),
+        Node::Filter { input, .. } => {
+            let inner = then(alloc, path, Step::Key(Key::Input))?;
+            spread_of(alloc, reader, inner.as_slice(), input)
         }
-        Node::Filter { input, .. } => spread_of(alloc, reader, under.as_slice(), input),
-        Node::Project { columns, input, .. } => {
-            let input = spread_of(alloc, reader, under.as_slice(), input)?;
-            let spread = project_spread(alloc, columns.as_slice(), input)?;
+        Node::Project { input, .. }
+        | Node::Aggregate { input, .. }
+        | Node::AggregateFinal { input, .. }
+        | Node::Sort { input, .. }
+        | Node::TopN { input, .. }
+        | Node::TopNFinal { input, .. }
+        | Node::Limit { input, .. }
+        | Node::LimitFinal { input, .. } => {
+            let inner = then(alloc, path, Step::Key(Key::Input))?;
+            let below = spread_of(alloc, reader, inner.as_slice(), input)?;
+            let spread = operator_spread(alloc, reader, node, below)?;
             placed(alloc, path, spread)
         }
-        Node::Join {
-            on,
-            left,
-            right,
-            ..
-        } => {
+        Node::Join { left, right, .. } | Node::Union { left, right, .. } => {
             let inner = then(alloc, path, Step::Key(Key::Left))?;
             let left = spread_of(alloc, reader, inner.as_slice(), left)?;
             let inner = then(alloc, path, Step::Key(Key::Right))?;
             let right = spread_of(alloc, reader, inner.as_slice(), right)?;
-            placed(alloc, path, join_spread(on.as_slice(), left, right))
-        }
-        Node::Aggregate {
-            step,
-            keys,
-            input,
-            ..
-        } => {
-            let input = spread_of(alloc, reader, under.as_slice(), input)?;
-            let spread = aggregate_spread(alloc, *step, keys.as_slice(), input)?;
-            placed(alloc, path, spread)
-        }
-        Node::AggregateFinal { input, .. } => {
-            let keys = keys_read(reader, input);
-            let input = spread_of(alloc, reader, under.as_slice(), input)?;
-            placed(alloc, path, final_spread(reader.placement, keys, input))
-        }
-        Node::TopN { step, input, .. } | Node::Limit { step, input, .. } => {
-            let input = spread_of(alloc, reader, under.as_slice(), input)?;
-            placed(alloc, path, first_rows_spread(*step, input))
-        }
-        Node::Sort { input, .. } | Node::TopNFinal { input, .. } | Node::LimitFinal { input, .. } =>
-            {
-                spread_of(alloc, reader, under.as_slice(), input)?;
-                Err(refused_at(alloc, path))
-            }
-        Node::Union { left, right, .. } => {
-            let inner = then(alloc, path, Step::Key(Key::Left))?;
-            let left = spread_of(alloc, reader, inner.as_slice(), left)?;
-            let inner = then(alloc, path, Step::Key(Key::Right))?;
-            let right = spread_of(alloc, reader, inner.as_slice(), right)?;
-            placed(alloc, path, union_spread(left, right))
+            placed(alloc, path, sides_spread(node, left, right))
         }
     }
 }

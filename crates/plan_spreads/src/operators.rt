@@ -4,30 +4,30 @@ ghost use Rattle.sql_exprs.specs.Forms.{form_view};
 ghost use Rattle.plan_spreads.specs.Operators.{aggregate_spread, are_keys, final_spread, first_rows_spread, is_every, is_parted, join_spread, partial_spread, project_spread, remote_spread, scan_spread, union_spread, whole_spread};
 
 use crate::given_columns::{are_paired, column_places, key_places};
-use crate::spread::Spread;
+use crate::spread::RowSpread;
 use plan_docs::{NodeStep, Output, Pair, Placement};
 use sql_exprs::Expr;
 use sql_values::{Memory, Places};
 use std::alloc::Global;
 
-pub fn scan_spread(placement: Placement) -> Option<Spread>
+pub fn scan_spread(placement: Placement) -> Option<RowSpread>
     ensures { result ≡ scan_spread placement }
 {
     match placement {
-        Placement::Source => Some(Spread::Any),
+        Placement::Source => Some(RowSpread::Any),
         _ => None,
     }
 }
 
-pub fn remote_spread(alloc: Global, output: &Output) -> Result<Option<Spread>, Memory>
+pub fn remote_spread(alloc: Global, output: &Output) -> Result<Option<RowSpread>, Memory>
     ensures { IfOk result (λ s. s ≡ remote_spread output.now) }
 {
     match output {
         Output::Hash(columns) => {
             let columns = Places::of(Vec::from_slice(alloc, columns.as_slice())?);
-            Ok(Some(Spread::By(columns)))
+            Ok(Some(RowSpread::By(columns)))
         }
-        Output::Broadcast => Ok(Some(Spread::Every)),
+        Output::Broadcast => Ok(Some(RowSpread::Every)),
         _ => Ok(None),
     }
 }
@@ -36,29 +36,29 @@ pub fn remote_spread(alloc: Global, output: &Output) -> Result<Option<Spread>, M
 pub fn project_spread(
     alloc: Global,
     exprs: &[Expr],
-    input: Spread,
-) -> Result<Option<Spread>, Memory>
+    input: RowSpread,
+) -> Result<Option<RowSpread>, Memory>
     ensures { IfOk result (λ s. s ≡ project_spread (map form_view exprs.now) input) }
 {
     match input {
-        Spread::By(columns) => match column_places(alloc, exprs, columns.as_slice())? {
-            Some(places) => Ok(Some(Spread::By(Places::of(places)))),
-            None => Ok(Some(Spread::Any)),
+        RowSpread::By(columns) => match column_places(alloc, exprs, columns.as_slice())? {
+            Some(places) => Ok(Some(RowSpread::By(Places::of(places)))),
+            None => Ok(Some(RowSpread::Any)),
         },
-        Spread::Any => Ok(Some(Spread::Any)),
-        Spread::Every => Ok(Some(Spread::Every)),
-        Spread::Whole => Ok(None),
+        RowSpread::Any => Ok(Some(RowSpread::Any)),
+        RowSpread::Every => Ok(Some(RowSpread::Every)),
+        RowSpread::Whole => Ok(None),
     }
 }
 
-pub fn join_spread(on: &[Pair], left: Spread, right: Spread) -> Option<Spread>
+pub fn join_spread(on: &[Pair], left: RowSpread, right: RowSpread) -> Option<RowSpread>
     ensures { result ≡ join_spread on.now left right }
 {
     match (left, right) {
-        (left, Spread::Every) => Some(left),
-        (Spread::By(columns), Spread::By(others)) => {
+        (left, RowSpread::Every) => Some(left),
+        (RowSpread::By(columns), RowSpread::By(others)) => {
             if are_paired(on, columns.as_slice(), others.as_slice()) {
-                Some(Spread::By(columns))
+                Some(RowSpread::By(columns))
             } else {
                 None
             }
@@ -68,37 +68,37 @@ pub fn join_spread(on: &[Pair], left: Spread, right: Spread) -> Option<Spread>
 }
 
 /// Whether each row is in one task.
-pub fn is_parted(spread: &Spread) -> bool
+pub fn is_parted(spread: &RowSpread) -> bool
     ensures { result ≡ is_parted spread.now }
 {
-    matches!(spread, Spread::Any | Spread::By(_))
+    matches!(spread, RowSpread::Any | RowSpread::By(_))
 }
 
-fn is_every(spread: &Spread) -> bool
+fn is_every(spread: &RowSpread) -> bool
     ensures { result ≡ is_every spread.now }
 {
-    matches!(spread, Spread::Every)
+    matches!(spread, RowSpread::Every)
 }
 
-fn partial_spread(input: Spread) -> Option<Spread>
+fn partial_spread(input: RowSpread) -> Option<RowSpread>
     ensures { result ≡ partial_spread input }
 {
     if is_parted(&input) {
-        return Some(Spread::Any);
+        return Some(RowSpread::Any);
     }
     None
 }
 
 /// The spread of whole groups: those of a bucket by some of the keys.
-fn whole_spread(alloc: Global, keys: &[u32], input: Spread) -> Result<Option<Spread>, Memory>
+fn whole_spread(alloc: Global, keys: &[u32], input: RowSpread) -> Result<Option<RowSpread>, Memory>
     ensures { IfOk result (λ s. s ≡ whole_spread keys.now input) }
 {
     if keys.is_empty() {
         return Ok(None);
     }
     match input {
-        Spread::By(columns) => match key_places(alloc, keys, columns.as_slice())? {
-            Some(places) => Ok(Some(Spread::By(Places::of(places)))),
+        RowSpread::By(columns) => match key_places(alloc, keys, columns.as_slice())? {
+            Some(places) => Ok(Some(RowSpread::By(Places::of(places)))),
             None => Ok(None),
         },
         _ => Ok(None),
@@ -109,8 +109,8 @@ pub fn aggregate_spread(
     alloc: Global,
     step: NodeStep,
     keys: &[u32],
-    input: Spread,
-) -> Result<Option<Spread>, Memory>
+    input: RowSpread,
+) -> Result<Option<RowSpread>, Memory>
     ensures { IfOk result (λ s. s ≡ aggregate_spread step keys.now input) }
 {
     match step {
@@ -138,13 +138,13 @@ fn are_keys(keys: usize, columns: &[u32]) -> bool
 }
 
 /// The spread of groups that a FINAL node makes whole, by so many keys.
-pub fn final_spread(placement: Placement, keys: usize, input: Spread) -> Option<Spread>
+pub fn final_spread(placement: Placement, keys: usize, input: RowSpread) -> Option<RowSpread>
     ensures { result ≡ final_spread placement keys input }
 {
     match (placement, input) {
-        (Placement::Hash, Spread::By(columns)) => {
+        (Placement::Hash, RowSpread::By(columns)) => {
             if are_keys(keys, columns.as_slice()) {
-                Some(Spread::By(columns))
+                Some(RowSpread::By(columns))
             } else {
                 None
             }
@@ -154,7 +154,7 @@ pub fn final_spread(placement: Placement, keys: usize, input: Spread) -> Option<
 }
 
 /// The spread of a top n or a limit.
-pub fn first_rows_spread(step: NodeStep, input: Spread) -> Option<Spread>
+pub fn first_rows_spread(step: NodeStep, input: RowSpread) -> Option<RowSpread>
     ensures { result ≡ first_rows_spread step input }
 {
     match step {
@@ -163,14 +163,14 @@ pub fn first_rows_spread(step: NodeStep, input: Spread) -> Option<Spread>
     }
 }
 
-pub fn union_spread(left: Spread, right: Spread) -> Option<Spread>
+pub fn union_spread(left: RowSpread, right: RowSpread) -> Option<RowSpread>
     ensures { result ≡ union_spread left right }
 {
     if is_parted(&left) && is_parted(&right) {
-        return Some(Spread::Any);
+        return Some(RowSpread::Any);
     }
     if is_every(&left) && is_every(&right) {
-        return Some(Spread::Every);
+        return Some(RowSpread::Every);
     }
     None
 }

@@ -10,7 +10,7 @@ use crate::fault::SpreadFault;
 use crate::nodes::spread_of;
 use crate::operators::is_parted;
 use crate::sources::{Reader, pass_sources};
-use crate::spread::Spread;
+use crate::spread::RowSpread;
 use plan_docs::{Fragment, Placement, Plan};
 use plan_places::{Key, Step, pointer_of};
 use plan_types::{refused_at, root_path};
@@ -19,7 +19,7 @@ use sql_values::Memory;
 use std::alloc::Global;
 
 /// The spread of the root of each fragment of a plan, or the first place at which its placement is broken.
-pub fn spread_plan(alloc: Global, plan: &Plan) -> Result<Vec<Spread>, SpreadFault>
+pub fn spread_plan(alloc: Global, plan: &Plan) -> Result<Vec<RowSpread>, SpreadFault>
     ensures { MatchResult result (λ ss. plan_spreads (plan_view plan.now) ≡ Ok ss.items)
         (RefusedFor (plan_spreads (plan_view plan.now))) }
 {
@@ -34,7 +34,7 @@ pub fn spread_plan(alloc: Global, plan: &Plan) -> Result<Vec<Spread>, SpreadFaul
 }
 
 #[tactic(auto, unfolding(crate::specs::Plans::plan_spreads))]
-fn plan_spreads(alloc: Global, plan: &Plan) -> Result<Vec<Spread>, Misfit>
+fn plan_spreads(alloc: Global, plan: &Plan) -> Result<Vec<RowSpread>, Misfit>
     ensures { MatchResult result (λ ss. plan_spreads (plan_view plan.now) ≡ Ok ss.items)
         (MisfitAt (plan_spreads (plan_view plan.now))) }
 {
@@ -121,7 +121,7 @@ fn pass_fragment(
 }
 
 /// The spreads of the roots of all fragments from one on.
-fn all_spreads(alloc: Global, at: usize, fragments: &[Fragment]) -> Result<Vec<Spread>, Misfit>
+fn all_spreads(alloc: Global, at: usize, fragments: &[Fragment]) -> Result<Vec<RowSpread>, Misfit>
     requires { at + length fragments.now < 2 ^ 64 }
     ensures { MatchResult result
         (λ ss. all_spreads at (map fragment_view fragments.now) ≡ Ok ss.items)
@@ -143,14 +143,14 @@ fn fragment_spread(
     at: usize,
     later: &[Fragment],
     fragment: &Fragment,
-) -> Result<Spread, Misfit>
+) -> Result<RowSpread, Misfit>
     requires { at + 1 < 2 ^ 64 }
     ensures { MatchResult result
         (λ s. fragment_spread at (map fragment_view later.now) (fragment_view fragment.now) ≡ Ok s)
         (MisfitAt (fragment_spread at (map fragment_view later.now) (fragment_view fragment.now))) }
 {
     if is_single(fragment.placement) {
-        return Ok(Spread::Whole);
+        return Ok(RowSpread::Whole);
     }
     let path = root_path(alloc, at)?;
     let reader = Reader {
@@ -163,7 +163,7 @@ fn fragment_spread(
 }
 
 /// The spread of a root: not one by which each task would give all rows.
-fn root_spread(alloc: Global, path: &[Step], spread: Spread) -> Result<Spread, Misfit>
+fn root_spread(alloc: Global, path: &[Step], spread: RowSpread) -> Result<RowSpread, Misfit>
     ensures { MatchResult result (λ s. root_spread path.now spread ≡ Ok s)
         (MisfitAt (root_spread path.now spread)) }
 {

@@ -19,14 +19,15 @@ pub struct Reader<'a> {
     pub later: &'a [Fragment],
 }
 
-/// The fragment that a source reads.
+/// The fragment that a source reads, where it is one after its own.
 pub fn fragment_read<'a>(reader: &Reader<'a>, fragment: u32) -> Option<&'a Fragment>
     ensures { option_map (λ f. fragment_view f.now) result
         ≡ fragment_read reader.now.first (map fragment_view reader.now.later.now) fragment }
 {
-    reader
-        .later
-        .get((fragment as usize).saturating_sub(reader.first))
+    if (fragment as usize) < reader.first {
+        return None;
+    }
+    reader.later.get(fragment as usize - reader.first)
 }
 
 /// Whether a reader of this placement takes rows that go there.

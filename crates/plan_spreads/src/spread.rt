@@ -2,7 +2,7 @@ use sql_values::Places;
 
 /// How the rows of a node are spread over the tasks of its fragment.
 #[derive(Debug, Drop)]
-pub enum Spread {
+pub enum RowSpread {
     /// There is one task.
     Whole,
     /// Each row is in one task.

@@ -5,7 +5,7 @@ mod cases;
 use crate::lines::{Case, case_of, unquoted};
 use cases::{FIRST, HALVES, HASHED, OTHERS, ROOTS, SECOND, THREE, TWO, VALUES};
 use plan_docs::{Plan, read_plan_doc};
-use plan_spreads::{Spread, SpreadFault, spread_plan};
+use plan_spreads::{RowSpread, SpreadFault, spread_plan};
 use serde_json::Value;
 use std::alloc::Global;
 use std::test::Fail;
@@ -16,12 +16,12 @@ fn plan_of(alloc: Global, quoted: &str) -> Result<Plan, Fail> {
     Ok(read_plan_doc(alloc, &document)?)
 }
 
-fn push_spread(alloc: Global, text: &mut String, spread: &Spread) -> Result<(), Fail> {
+fn push_spread(alloc: Global, text: &mut String, spread: &RowSpread) -> Result<(), Fail> {
     match spread {
-        Spread::Whole => text.push_str(" whole")?,
-        Spread::Any => text.push_str(" any")?,
-        Spread::Every => text.push_str(" every")?,
-        Spread::By(columns) => {
+        RowSpread::Whole => text.push_str(" whole")?,
+        RowSpread::Any => text.push_str(" any")?,
+        RowSpread::Every => text.push_str(" every")?,
+        RowSpread::By(columns) => {
             text.push_str(" by")?;
             for column in columns.as_slice() {
                 let number = format!(in alloc; ":{column}")?;
@@ -33,7 +33,7 @@ fn push_spread(alloc: Global, text: &mut String, spread: &Spread) -> Result<(), 
 }
 
 /// The spreads, a blank before each.
-fn text_of(alloc: Global, spreads: &[Spread]) -> Result<String, Fail> {
+fn text_of(alloc: Global, spreads: &[RowSpread]) -> Result<String, Fail> {
     let mut text = String::new(alloc);
     for spread in spreads {
         push_spread(alloc, &mut text, spread)?;

@@ -83,7 +83,9 @@ pub const HALVES: &str = "\
 {'kind':'HASH','columns':[0]} | {'kind':'SINGLE'} | /fragments/1/root/input\n\
 'SOURCE' | 'SINGLE' | whole by:0 whole\n\
 'SOURCE' | 'HASH' | /fragments/2/root/input\n\
-'fragment':2 | 'fragment':9 | /fragments/1/root/input";
+'fragment':2 | 'fragment':9 | /fragments/1/root/input\n\
+'fragment':2 | 'fragment':1 | /fragments/1/root/input\n\
+'fragment':2 | 'fragment':0 | /fragments/1/root/input";
 
 /// A document of four fragments, three of which are not placed right.
 pub const THREE: &str = "{'output':['x'],'tables':[{'name':'t','columns':[\

@@ -1,5 +1,5 @@
 -- What a driver keeps over its turns, and what follows from it.
-use Rattle.std.proofs.Common.{◌≡◌, ◌<◌, ℕ, List, [], ◌∷◌, Bool, true, false, Option, Some, None, Err, length, map, refl, sym, subst, arith}
+use Rattle.std.proofs.Common.{◌≡◌, ◌<◌, ℕ, List, [], ◌∷◌, Bool, true, false, Option, Some, None, Err, length, map, refl, sym, subst, ◌∙◌, arith}
 use Rattle.sql_values.specs.declared.fail.Fail.{Fail}
 use Rattle.operator_core.specs.Answers.{NotMemory}
 use Rattle.operator_core.specs.Calls.{IsLawful}
@@ -21,7 +21,7 @@ use Rattle.driver_loop.specs.declared.stage.Stage.{Stage}
 use Rattle.driver_loop.specs.declared.target.Target.{Target}
 use Rattle.driver_loop.specs.contracts.stage.StageOperator.TheImpl.{ghosts}
 use Rattle.driver_loop.specs.Faults.{run_fault}
-use Rattle.driver_loop.specs.Ends.{rows_taken, has_ended, rows_given}
+use Rattle.driver_loop.specs.Ends.{rows_taken, has_ended, is_told, rows_given}
 use Rattle.driver_loop.specs.Drivers.{DriverState, IsWhole, IsDriver, IsOver, HasFailed, CanGoOn, Went}
 
 pub whole : (fault : Option RunFault) → fault ≡ None → IsWhole fault
@@ -36,31 +36,30 @@ entered_none laws [] e = (refl, refl)
 entered_none laws (s ∷ stages) e = ([], 0, Steps-made ghosts laws s (cc), entered_none laws stages (cc), omega arith)
 
 pub driver_new : IsLawful ghosts → (d : DriverState) → rows_taken d.source ≡ [] → map ghosts.as_made d.stages ≡ d.stages → rows_given d.target ≡ []
-    → d.work ≡ 0 → d.is_finished ≡ false → d.fault ≡ None → IsDriver d
-driver_new laws d taken made given none going unfailed = record {
+    → is_told d.target ≡ false → d.work ≡ 0 → d.is_finished ≡ false → d.fault ≡ None → IsDriver d
+driver_new laws d taken made given untold none going unfailed = record {
   links = λ w. rw (taken, given) (Linked-made ghosts laws d.stages made);
   turns = λ w. Turns-made ghosts laws (has_ended d.source) d.stages made;
+  told = λ w told. absurd (let clash : false ≡ true = sym untold ∙ told in cc);
   counts = λ e. record { rows = 0; entered = rw (taken, given) (entered_none laws d.stages made); work = omega (arith, none) };
   over = λ f. cc;
   failed = λ node kind f. cc;
 }
 
--- its target ended with the rows that it was given
-pub driver_ended : (number : ℕ) (source : Source) (stages : List Stage) (t u : Target) (work : ℕ) (over : Bool) (fault : Option RunFault) → rows_given u ≡ rows_given t
-    → IsDriver (record { number = number; source = source; stages = stages; target = t; work = work; is_finished = over; fault = fault })
-    → IsDriver (record { number = number; source = source; stages = stages; target = u; work = work; is_finished = over; fault = fault })
-driver_ended number source stages t u work over fault same kept = record {
-  links = λ w. rw same (kept.links w);
-  turns = kept.turns;
-  counts = λ e. let c = kept.counts e in record { rows = c.rows; entered = rw same c.entered; work = c.work };
-  over = kept.over;
-  failed = kept.failed;
-}
-
-pub over_ended : (number : ℕ) (source : Source) (stages : List Stage) (t u : Target) (work : ℕ) (over : Bool) (fault : Option RunFault) → rows_given u ≡ rows_given t
-    → IsOver (record { number = number; source = source; stages = stages; target = t; work = work; is_finished = over; fault = fault })
-    → IsOver (record { number = number; source = source; stages = stages; target = u; work = work; is_finished = over; fault = fault })
-over_ended number source stages t u work over fault same o = record { ended = o.ended; chain = rw same o.chain }
+-- its target is finished behind the last stage
+pub driver_finished : (number : ℕ) (source : Source) (stages : List Stage) (target : Target) (work : ℕ) (fault : Option RunFault) (over : Bool) → fault ≡ None
+    → last_finished ghosts (has_ended source) stages ≡ true
+    → IsDriver (record { number = number; source = source; stages = stages; target = target; work = work; is_finished = over; fault = fault })
+    → IsDriver (record { number = number; source = source; stages = stages; target = target; work = work; is_finished = true; fault = fault })
+driver_finished number source stages target work fault over unfailed last kept =
+    record {
+      links = kept.links;
+      turns = kept.turns;
+      told = kept.told;
+      counts = λ e. let c = kept.counts e in record { rows = c.rows; entered = c.entered; work = c.work };
+      over = λ _. (unfailed, last);
+      failed = kept.failed;
+    }
 
 -- there is room for as many stages
 pub room_stays : (old new : List Stage) (room : ℕ) → AllLater ghosts old new → length old < room → length new < room

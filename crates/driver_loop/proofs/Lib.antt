@@ -1,3 +1,4 @@
 pub mod TargetLemmas
 pub mod RowsLemmas
 pub mod DriverLemmas
+pub mod StepLemmas

@@ -1,102 +1,82 @@
 -- What a target keeps while it is given rows, and at its end.
-use Rattle.std.proofs.Common.{◌≡◌, [], Bool, true, false, Option, Some, None, refl, sym, ap, subst, ◌∙◌}
+use Rattle.std.proofs.Common.{◌≡◌, [], ℕ, ◌+◌, Bool, true, false, Option, Some, None, refl, sym, ap, subst, ◌∙◌, arith, cond}
+use Rattle.blocked.specs.Counts.{rings_at}
 use Rattle.key_index.specs.Keys.{IndexedRows}
 use Rattle.driver_loop.specs.declared.target.Target.{Target}
 use Rattle.driver_loop.specs.declared.target.Target.TheVariants.{Result, Build}
-use Rattle.driver_loop.specs.Builds.{BuildState, IsPublishedAs}
-use Rattle.driver_loop.specs.Ends.{EndsAs, rows_given, target_emptied, target_made}
+use Rattle.driver_loop.specs.Builds.{BuildState, IsKept, IsPublishedAs, build_dues, build_kept}
+use Rattle.driver_loop.specs.Ends.{KeepsCell, is_done, is_told, rows_given, target_kept, target_made}
 use Rattle.driver_loop.specs.Drivers.{IsBuiltAs}
 
--- without its rows it was made as with them
-made_emptied : (t : Target) → target_made (target_emptied t) ≡ target_made t
-made_emptied (Result rows types) = refl
-made_emptied (Build build) = refl
+made_kept : (t : Target) → target_made (target_kept t) ≡ target_made t
+made_kept (Result result) = refl
+made_kept (Build build) = refl
 
-pub emptied_made : (t u : Target) → target_emptied u ≡ target_emptied t → target_made u ≡ target_made t
-emptied_made t u e = sym (made_emptied u) ∙ ap target_made e ∙ made_emptied t
+pub kept_made : (t u : Target) → target_kept u ≡ target_kept t → target_made u ≡ target_made t
+kept_made t u e = sym (made_kept u) ∙ ap target_made e ∙ made_kept t
 
--- one that is as it was made was given no rows
+-- one that is as it was made was given no rows, and was not told
 pub made_none : (t : Target) → target_made t ≡ t → rows_given t ≡ []
-made_none (Result rows types) e = sym (ap rows_given e)
+made_none (Result result) e = sym (ap rows_given e)
 made_none (Build build) e = sym (ap rows_given e)
 
-abbrev is_lost : Target → Bool
-is_lost (Result rows types) = false
+pub made_untold : (t : Target) → target_made t ≡ t → is_told t ≡ false
+made_untold (Result result) e = sym (ap is_told e)
+made_untold (Build build) e = sym (ap is_told e)
+
+abbrev pub is_lost : Target → Bool
+is_lost (Result result) = false
 is_lost (Build build) = build.is_lost
 
-abbrev is_published : Target → Bool
-is_published (Result rows types) = false
-is_published (Build build) = build.is_published
+lost_kept : (t : Target) → is_lost (target_kept t) ≡ is_lost t
+lost_kept (Result result) = refl
+lost_kept (Build build) = refl
 
-abbrev known : Target → Option IndexedRows
-known (Result rows types) = None
-known (Build build) = build.note.known
+lost_not : (over : Bool) (t : Target) → IsBuiltAs over t → is_lost t ≡ false
+lost_not over (Result result) b = refl
+lost_not over (Build build) b = b.0
 
--- a build of which this is so was not published
-unpublished : (build : BuildState) → build.is_lost ≡ false → build.is_published ≡ false → build.note.known ≡ None → IsBuiltAs false (Build build)
-unpublished build kept first none = (kept, first, (λ x e. cc), (λ e. cc))
+-- a build that is not lost is published where it is done, and only there
+published : (over : Bool) (build : BuildState) → IsKept build → build.is_lost ≡ false → build.is_published ≡ over → IsBuiltAs over (Build build)
+published true build kept whole e =
+    let known = kept.known whole e in
+    (whole, e, (λ x is. (refl, (let same : Some x ≡ Some build.source = sym is ∙ known in cc))), (λ _. known))
+published false build kept whole e =
+    let none = kept.unknown whole e in
+    (whole, e, (λ x is. absurd (let clash : Some x ≡ None = sym is ∙ none in cc)), (λ clash. absurd (let c : false ≡ true = clash in cc)))
 
--- what such a target says
-lost_not : (t : Target) → IsBuiltAs false t → is_lost t ≡ false
-lost_not (Result rows types) b = refl
-lost_not (Build build) b = b.0
-
-published_not : (t : Target) → IsBuiltAs false t → is_published t ≡ false
-published_not (Result rows types) b = refl
-published_not (Build build) b = b.1
-
-knows_none : (o : Option IndexedRows) → ((x : IndexedRows) → o ≡ Some x → false ≡ true) → o ≡ None
-knows_none None h = refl
-knows_none (Some x) h = absurd (let e : false ≡ true = h x refl in cc)
-
-known_not : (t : Target) → IsBuiltAs false t → known t ≡ None
-known_not (Result rows types) b = refl
-known_not (Build build) b = knows_none build.note.known (λ x e. (b.2 x e).0)
-
-lost_emptied : (t : Target) → is_lost (target_emptied t) ≡ is_lost t
-lost_emptied (Result rows types) = refl
-lost_emptied (Build build) = refl
-
-published_emptied : (t : Target) → is_published (target_emptied t) ≡ is_published t
-published_emptied (Result rows types) = refl
-published_emptied (Build build) = refl
-
-known_emptied : (t : Target) → known (target_emptied t) ≡ known t
-known_emptied (Result rows types) = refl
-known_emptied (Build build) = refl
-
--- of one that was given more rows it is still so
-pub emptied_built : (t u : Target) → target_emptied u ≡ target_emptied t → IsBuiltAs false t → IsBuiltAs false u
-emptied_built t (Result rows types) e b = tt
-emptied_built t (Build build) e b = unpublished build
-    (ap is_lost e ∙ lost_emptied t ∙ lost_not t b)
-    (ap is_published e ∙ published_emptied t ∙ published_not t b)
-    (ap known e ∙ known_emptied t ∙ known_not t b)
-
-pub built_stays : (finished : Bool) (t u : Target) → finished ≡ false → target_emptied u ≡ target_emptied t → IsBuiltAs finished t → IsBuiltAs finished u
-built_stays finished t u going e b = rw going (emptied_built t u e (rw (← going) b))
+-- a target that was not lost, and was kept as it was made, is built as far as it is done
+pub built_on : (over now : Bool) (t u : Target) → KeepsCell u → target_kept u ≡ target_kept t → is_done u ≡ now → IsBuiltAs over t → IsBuiltAs now u
+built_on over now t (Result result) kept e done b = tt
+built_on over now t (Build build) kept e done b = published now build kept (ap is_lost e ∙ lost_kept t ∙ lost_not over t b) done
 
 -- one that was made so
 pub made_built : (t : Target) → target_made t ≡ t → IsBuiltAs false t
-made_built (Result rows types) e = tt
-made_built (Build build) e = unpublished build (sym (ap is_lost e)) (sym (ap is_published e)) (sym (ap known e))
+made_built (Result result) e = tt
+made_built (Build build) e = (sym (ap is_lost e), sym (ap is_done e), (λ x is. absurd (let clash : Some x ≡ None = sym is ∙ sym (ap known e) in cc)), (λ clash. absurd (let c : false ≡ true = clash in cc)))
+  where
+    known : Target → Option IndexedRows
+    known (Result result) = None
+    known (Build build) = build.note.known
 
-published_built : (build after : BuildState) → IsPublishedAs build after → IsBuiltAs true (Build after)
-published_built build after p =
-    subst (λ (b : BuildState). IsBuiltAs true (Build b)) (sym p.new_is) (p.kept, refl, (λ x e. (refl, cc)), (λ e. refl))
+-- a build whose rows were published
+pub published_rows : (old new : BuildState) → IsPublishedAs old new → new.source.rows ≡ old.source.rows
+published_rows old new p = ap (λ (b : BuildState). b.source.rows) p.new_is
 
--- at its end
-pub ended_built : (t u : Target) → EndsAs t u → IsBuiltAs true u
-ended_built (Result rows types) u ends = subst (IsBuiltAs true) (sym ends) tt
-ended_built (Build build) (Build after) ends = published_built build after ends
-ended_built (Build build) (Result rows types) ends = tt
+pub published_kept : (old new : BuildState) → IsPublishedAs old new → build_kept new ≡ build_kept old
+published_kept old new p = ap build_kept p.new_is
 
-pub ended_made : (t u : Target) → EndsAs t u → target_made u ≡ target_made t
-ended_made (Result rows types) u ends = ap target_made ends
-ended_made (Build build) (Build after) ends = ap (λ (b : BuildState). target_made (Build b)) ends.new_is
-ended_made (Build build) (Result rows types) ends = absurd ends
+pub published_told : (old new : BuildState) → IsPublishedAs old new → new.is_told ≡ old.is_told
+published_told old new p = ap (λ (b : BuildState). b.is_told) p.new_is
 
-pub ended_rows : (t u : Target) → EndsAs t u → rows_given u ≡ rows_given t
-ended_rows (Result rows types) u ends = ap rows_given ends
-ended_rows (Build build) (Build after) ends = ap (λ (b : BuildState). b.source.rows) ends.new_is
-ended_rows (Build build) (Result rows types) ends = absurd ends
+pub published_untold : (old new : BuildState) → IsPublishedAs old new → old.is_told ≡ false → new.is_published ≡ old.is_published
+published_untold old new p untold = absurd (let clash : true ≡ false = sym p.told ∙ untold in cc)
+
+-- its bell was due once
+pub published_dues : (old new : BuildState) (number bell : ℕ) → IsPublishedAs old new → number ≡ old.bell → build_dues new bell ≡ build_dues old bell + rings_at bell number
+published_dues old new number bell p e =
+    ap (λ (b : BuildState). build_dues b bell) p.new_is
+    ∙ sym (ap (λ (first : Bool). cond first (rings_at bell old.bell) 0 + rings_at bell number) p.first ∙ ap (λ (n : ℕ). 0 + rings_at bell n) e ∙ plain (rings_at bell old.bell))
+  where
+    plain : (n : ℕ) → 0 + n ≡ n
+    plain n = omega arith

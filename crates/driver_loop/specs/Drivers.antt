@@ -15,7 +15,7 @@ use Rattle.driver_loop.specs.declared.stage.Stage.{Stage}
 use Rattle.driver_loop.specs.declared.target.Target.{Target}
 use Rattle.driver_loop.specs.declared.target.Target.TheVariants.{Result, Build}
 use Rattle.driver_loop.specs.contracts.stage.StageOperator.TheImpl.{ghosts}
-use Rattle.driver_loop.specs.Ends.{rows_taken, has_ended, rows_given}
+use Rattle.driver_loop.specs.Ends.{rows_taken, has_ended, is_told, rows_given}
 
 -- its number, its parts, how many rows entered its stages and its target, and how its last turn ended it
 pub record DriverState : Type 0 where
@@ -40,10 +40,11 @@ pub record HasCounted (d : DriverState) : Type 0 where
   pub work : d.work ≡ min rows most_count
 
 -- what its stages took and gave goes on from what it took of its source to what it gave to its target, and each was
--- told to finish only where its giver was finished; and it is finished, or failed, as it says
+-- told to finish only where its giver was finished, as the target was; and it is finished, or failed, as it says
 pub record IsDriver (d : DriverState) : Type 0 where
   pub links : IsWhole d.fault → Linked ghosts d.stages (rows_taken d.source) (rows_given d.target)
   pub turns : IsWhole d.fault → ToldInTurn ghosts (has_ended d.source) d.stages
+  pub told : IsWhole d.fault → is_told d.target ≡ true → last_finished ghosts (has_ended d.source) d.stages ≡ true
   pub counts : d.fault ≡ None → HasCounted d
   pub over : d.is_finished ≡ true → (d.fault ≡ None) × (last_finished ghosts (has_ended d.source) d.stages ≡ true)
   pub failed : (node : ℕ) (kind : Fail) → d.fault ≡ Some (ExprFailed node kind) → SomeFails ghosts d.stages node kind
@@ -56,7 +57,7 @@ pub record IsOver (d : DriverState) : Type 0 where
 
 -- a build has its rows: once they were published its note knows them, and before that nothing
 abbrev pub IsBuiltAs : Bool → Target → Type 0
-IsBuiltAs is_finished (Result rows types) = Unit {0}
+IsBuiltAs is_finished (Result result) = Unit {0}
 IsBuiltAs is_finished (Build build) =
     (build.is_lost ≡ false)
     × (build.is_published ≡ is_finished)

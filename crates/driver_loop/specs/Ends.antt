@@ -1,5 +1,5 @@
 -- What the sources of drivers gave, and their targets were given.
-use Rattle.std.specs.Prelude.{◌≡◌, List, [], Bool, true, false, Option, Some, None}
+use Rattle.std.specs.Prelude.{◌≡◌, ℕ, List, [], Bool, true, false, Option, Some, None}
 use Rattle.relations.specs.Sorts.{IsBeginning}
 use Rattle.operator_core.specs.Rows.{Row}
 use Rattle.split_source.specs.Scans.{given}
@@ -8,7 +8,7 @@ use Rattle.driver_loop.specs.declared.source.Source.{Source}
 use Rattle.driver_loop.specs.declared.source.Source.TheVariants.{Scan, Rows}
 use Rattle.driver_loop.specs.declared.target.Target.{Target}
 use Rattle.driver_loop.specs.declared.target.Target.TheVariants.{Result, Build}
-use Rattle.driver_loop.specs.Builds.{IsPublishedAs, build_emptied, build_made}
+use Rattle.driver_loop.specs.Builds.{IsKept, build_dues, build_kept, build_made}
 
 -- the rows that a source gave
 abbrev pub rows_taken : Source → List Row
@@ -42,30 +42,44 @@ claim_of (Rows rows) = None
 
 -- the rows that a target was given
 abbrev pub rows_given : Target → List Row
-rows_given (Result rows types) = rows
+rows_given (Result result) = result.rows
 rows_given (Build build) = build.source.rows
 
--- it without these rows
-abbrev pub target_emptied : Target → Target
-target_emptied (Result rows types) = Result [] types
-target_emptied (Build build) = Build (build_emptied build)
+-- it was told that no page comes any more
+abbrev pub is_told : Target → Bool
+is_told (Result result) = result.is_told
+is_told (Build build) = build.is_told
+
+-- nothing is left to do: a build is published
+abbrev pub is_done : Target → Bool
+is_done (Result result) = result.is_told
+is_done (Build build) = build.is_published
 
 -- it as it was made
 abbrev pub target_made : Target → Target
-target_made (Result rows types) = Result [] types
+target_made (Result result) = Result (record result { rows = []; is_told = false })
 target_made (Build build) = Build (build_made build)
 
--- a result stays as it is, and a build publishes its rows
-abbrev pub EndsAs : Target → Target → Type 0
-EndsAs (Result rows types) after = after ≡ Result rows types
-EndsAs (Build build) (Build after) = IsPublishedAs build after
-EndsAs (Build build) (Result rows types) = ⊥
+-- it as it was made, but that its rows are lost where they are
+abbrev pub target_kept : Target → Target
+target_kept (Result result) = Result (record result { rows = []; is_told = false })
+target_kept (Build build) = Build (build_kept build)
+
+-- what a target keeps of its cell
+abbrev pub KeepsCell : Target → Type 0
+KeepsCell (Result result) = Unit {0}
+KeepsCell (Build build) = IsKept build
+
+-- how often this bell was to be rung for what it did
+abbrev pub target_dues : Target → ℕ → ℕ
+target_dues (Result result) bell = 0
+target_dues (Build build) bell = build_dues build bell
 
 abbrev pub is_build : Target → Bool
-is_build (Result rows types) = false
+is_build (Result result) = false
 is_build (Build build) = true
 
 -- the rows that a target hands over: a build leaves its own in the cell
 abbrev pub rows_kept : Target → List Row
-rows_kept (Result rows types) = rows
+rows_kept (Result result) = result.rows
 rows_kept (Build build) = []

@@ -37,7 +37,7 @@ note_of_stage (Probe op types) = record { bell = op.bell; note = op.note } ∷ [
 
 -- the note of a target that builds
 abbrev pub note_of_target : Target → List CellNote
-note_of_target (Result rows types) = []
+note_of_target (Result result) = []
 note_of_target (Build build) = record { bell = build.bell; note = build.note } ∷ []
 
 -- the notes of its stages in their order, and then that of its target

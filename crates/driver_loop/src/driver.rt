@@ -5,7 +5,7 @@ ghost use Rattle.blocked.specs.Counts.{most_count};
 ghost use Rattle.col_pages.specs.Pages.{most_rows};
 ghost use Rattle.futures.specs.Task.{Covers, Keeps};
 ghost use Rattle.driver_turns.specs.Turns.{StageBlocked};
-ghost use Rattle.driver_loop.specs.Ends.{is_build, rows_taken, has_ended, source_made, target_made, IsBegun, IsDrained};
+ghost use Rattle.driver_loop.specs.Ends.{is_build, rows_taken, has_ended, source_made, target_dues, target_made, IsBegun, IsDrained};
 ghost use Rattle.driver_loop.specs.Drivers.{IsDriver, IsOver, HasFailed, CanGoOn, IsBuilt, IsWhole, Went};
 ghost use Rattle.driver_loop.specs.Turns.{IsLeftBy, IfBlocked, ArePiecesOf, notes_of};
 
@@ -14,10 +14,11 @@ use crate::pieces::{CellNote, Pieces};
 use crate::run_fault::RunFault;
 use crate::source::Source;
 use crate::stage::Stage;
+use crate::step::take_turn;
 use crate::target::Target;
 use crate::turn::{Turn, hear};
 use blocked::{Bells, BlockedOn};
-use driver_turns::{Turned, turn};
+use driver_turns::Turned;
 use futures::Future;
 use futures::task::Context;
 use operator_core::{Operator, laws};
@@ -144,9 +145,9 @@ impl<'w> Driver<'w> {
         self.source.keeps();
     }
 
-    /// Moves rows until its last stage is finished, `quantum` of them entered a stage or the target, or nothing
+    /// Moves rows until its target is finished, `quantum` of them entered a stage or the target, or nothing
     /// moves and a stage waits. The future of one who waits has then registered with the context. Where the last
-    /// stage is finished, the target ends: a build is published, and the bell of its cell is rung.
+    /// stage is finished, the target is told, and ends: a build is published, and the bell of its cell is rung.
     pub fn turn<R: Threads + Wait + Sync, B: Bells>(
         &mut self,
         rt: &R,
@@ -174,9 +175,12 @@ impl<'w> Driver<'w> {
         ensures context { Keeps cx.old cx.new }
         ensures bells { (bell count : ℕ) → B.shown bells.old bell count
             → B.shown bells.new bell count }
+        ensures rang { IsWhole self.new.fault → (bell times : ℕ)
+            → B.rang bells.old bell (times + target_dues self.old.target bell)
+            → B.rang bells.new bell (times + target_dues self.new.target bell) }
     {
         laws::laws::<Stage<'w>>(PhantomData);
-        let (units, turned) = match turn(
+        let (units, turned) = match take_turn(
             rt,
             &mut self.source,
             &mut self.stages,
@@ -195,16 +199,10 @@ impl<'w> Driver<'w> {
         match turned {
             Turned::Yield => Turn::Yield,
             Turned::Blocked(on) => Turn::Blocked(hear(on, cx)),
-            Turned::Finished => match self.target.end(rt, bells) {
-                Ok(()) => {
-                    self.is_finished = true;
-                    Turn::Finished
-                }
-                Err(_) => {
-                    self.fault = Some(RunFault::Memory);
-                    Turn::Failed(RunFault::Memory)
-                }
-            },
+            Turned::Finished => {
+                self.is_finished = true;
+                Turn::Finished
+            }
         }
     }
 

@@ -30,8 +30,10 @@
 //! - `source`: `Source`, where pages come from. A scan of claimed splits, or rows of the plan (`rows_source`)
 //! - `stage`: `Stage`, the operators, one variant each. It behaves as its operator does, and expects pages of
 //!   the operator's types
-//! - `target`: `Target`, where pages go to. The rows of a result are kept as the pages in which they came
+//! - `target`: `Target`, where pages go to. The rows of a result (`ResultTarget`) are kept as the pages in which
+//!   they came
 //! - `build`: `BuildTarget`, which keeps them as the source of a join (`specs/Builds.antt`)
+//! - `step`: a turn of these parts, said of the rows that the target has
 //! - `driver`: `Driver`. `turn`: what a turn answers. `pieces`: what a driver hands back. `notes`: how the
 //!   notes of its stages come into one list
 //! - `run_fault`: `RunFault`, why a run gave up
@@ -45,6 +47,7 @@ mod rows_source;
 mod run_fault;
 mod source;
 mod stage;
+mod step;
 mod target;
 mod turn;
 mod types;
@@ -56,5 +59,5 @@ pub use rows_source::RowsSource;
 pub use run_fault::RunFault;
 pub use source::Source;
 pub use stage::Stage;
-pub use target::Target;
+pub use target::{ResultTarget, Target};
 pub use turn::Turn;

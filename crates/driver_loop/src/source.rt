@@ -3,10 +3,13 @@ ghost use Rattle.std.specs.Prelude.{◌≡◌, true};
 ghost use Rattle.driver_loop.specs.Ends.{has_ended, claim_of, IsBegun, IsDrained};
 
 use crate::rows_source::RowsSource;
+use blocked::Bells;
 use col_pages::Page;
 use split_source::{ClaimSeat, ScanSource};
 use sql_values::Memory;
-use stage_moves::PageSource;
+use stage_moves::{PageSource, Ready};
+use std::sync::Wait;
+use std::thread::Threads;
 
 /// Where the pages of a driver come from.
 #[derive(Drop)]
@@ -31,6 +34,14 @@ impl<'w> PageSource for Source<'w> {
             Source::Scan(scan) => scan.is_ended(),
             Source::Rows(rows) => rows.is_ended(),
         }
+    }
+
+    fn ready<R: Threads + Wait + Sync, B: Bells>(
+        &mut self,
+        _rt: &R,
+        _bells: &mut B,
+    ) -> Result<Ready, Memory> {
+        Ok(Ready::Now)
     }
 
     fn take(&mut self) -> Result<Option<Page>, Memory> {

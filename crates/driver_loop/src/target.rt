@@ -1,14 +1,14 @@
 //! Where the pages of a driver go to, one variant each.
-ghost use Rattle.std.specs.Prelude.{◌≡◌, ℕ, ◌<◌, ◌++◌, length, OnOk};
+ghost use Rattle.std.specs.Prelude.{◌≡◌, [], false, ◌<◌, ◌++◌, length, OnOk};
 ghost use Rattle.std.specs.Vec.{vec_capacity};
-ghost use Rattle.driver_loop.specs.Ends.{is_build, rows_kept, EndsAs};
+ghost use Rattle.driver_loop.specs.Ends.{is_build, rows_kept, KeepsCell};
 ghost use Rattle.driver_loop.specs.Turns.{note_of_target};
 
 use crate::build::BuildTarget;
 use crate::notes::put_note;
 use crate::pieces::CellNote;
 use crate::types::are_same;
-use blocked::Bells;
+use blocked::{Bells, BlockedOn};
 use col_pages::Page;
 use operator_core::HeldPages;
 use sql_values::{Memory, Types};
@@ -17,58 +17,121 @@ use std::alloc::Global;
 use std::sync::Wait;
 use std::thread::Threads;
 
+/// Rows of a result, kept as the pages in which they came.
+#[derive(Drop)]
+pub struct ResultTarget {
+    rows: HeldPages,
+    types: Types,
+    is_told: bool,
+}
+
+impl ResultTarget {
+    /// No rows yet, of these types.
+    pub fn new(alloc: Global, types: Types) -> ResultTarget
+        ensures { result ≡ record { rows = []; types = types; is_told = false } }
+    {
+        ResultTarget {
+            rows: HeldPages::new(alloc),
+            types,
+            is_told: false,
+        }
+    }
+
+    fn put(&mut self, page: Page) -> Result<(), Memory>
+        ensures { OnOk result (self.new ≡ record self.old { rows = self.old.rows ++ page.rows }) }
+    {
+        if !are_same(page.types(), self.types.as_slice()) {
+            return Err(Memory);
+        }
+        self.rows.push(page)
+    }
+}
+
 /// Where the pages of a driver go to. A page of other types counts as want of memory.
 #[derive(Drop)]
 pub enum Target<'w> {
-    /// Rows of these types, kept as the pages in which they came.
-    Result(HeldPages, Types),
+    Result(ResultTarget),
     /// The source of a join, which is published at the end.
     Build(BuildTarget<'w>),
 }
 
 impl<'w> PageTarget for Target<'w> {
-    ghost use Rattle.driver_loop.specs.Ends.{rows_given, target_emptied};
+    ghost use Rattle.driver_loop.specs.Ends.{is_done, is_told, rows_given, target_dues, target_kept};
+    ghost use Rattle.std.specs.Prelude.{not};
 
-    ghost given = { rows_given };
+    ghost gave = { λ t Y. Y ≡ rows_given t };
 
-    ghost emptied = { target_emptied };
+    ghost wants = { λ t. not (is_told t) };
+
+    ghost is_told = { is_told };
+
+    ghost is_finished = { is_done };
+
+    ghost as_made = { target_kept };
+
+    ghost dues = { target_dues };
+
+    fn wants(&self) -> bool {
+        !self.is_told()
+    }
+
+    fn is_told(&self) -> bool {
+        match self {
+            Target::Result(result) => result.is_told,
+            Target::Build(build) => build.is_told(),
+        }
+    }
+
+    fn is_finished(&self) -> bool {
+        match self {
+            Target::Result(result) => result.is_told,
+            Target::Build(build) => build.is_finished(),
+        }
+    }
 
     fn put(&mut self, page: Page) -> Result<(), Memory> {
         match self {
-            Target::Result(rows, types) => {
-                if !are_same(page.types(), types.as_slice()) {
-                    return Err(Memory);
-                }
-                rows.push(page)
-            }
+            Target::Result(result) => result.put(page),
             Target::Build(build) => build.put(page),
+        }
+    }
+
+    fn finish(&mut self) {
+        match self {
+            Target::Result(result) => result.is_told = true,
+            Target::Build(build) => build.finish(),
+        }
+    }
+
+    fn ready<R: Threads + Wait + Sync, B: Bells>(
+        &mut self,
+        rt: &R,
+        bells: &mut B,
+    ) -> Result<Option<BlockedOn>, Memory> {
+        match self {
+            Target::Result(_) => Ok(None),
+            Target::Build(build) => build.ready(rt, bells),
         }
     }
 }
 
 impl<'w> Target<'w> {
+    /// The law of what it knows of its cell.
+    pub(crate) fn keeps(&self)
+        ensures { KeepsCell self.now }
+    {
+        match self {
+            Target::Result(_) => {}
+            Target::Build(build) => build.keeps(),
+        }
+    }
+
     pub(crate) fn is_build(&self) -> bool
         ensures { result ≡ is_build self.now }
     {
         match self {
-            Target::Result(_, _) => false,
+            Target::Result(_) => false,
             Target::Build(_) => true,
-        }
-    }
-
-    /// Ends it, where no page comes any more: a build is published.
-    pub(crate) fn end<R: Threads + Wait + Sync, B: Bells>(
-        &mut self,
-        rt: &R,
-        bells: &mut B,
-    ) -> Result<(), Memory>
-        ensures ended { OnOk result (EndsAs self.old self.new) }
-        ensures bells { (bell count : ℕ) → B.shown bells.old bell count
-            → B.shown bells.new bell count }
-    {
-        match self {
-            Target::Result(_, _) => Ok(()),
-            Target::Build(build) => build.publish(rt, bells),
         }
     }
 
@@ -79,7 +142,7 @@ impl<'w> Target<'w> {
             → notes.new.items ≡ notes.old.items ++ note_of_target self.entry }
     {
         match self {
-            Target::Result(rows, _) => rows,
+            Target::Result(result) => result.rows,
             Target::Build(build) => {
                 put_note(notes, build.into_note());
                 HeldPages::new(alloc)

@@ -10,7 +10,7 @@ ghost use Rattle.driver_loop.specs.Ends.{rows_taken, target_made};
 
 use crate::fixtures::Rung;
 use col_pages::Page;
-use driver_loop::{Driver, Source, Stage, Target, Turn};
+use driver_loop::{Driver, ResultTarget, Source, Stage, Target, Turn};
 use futures::task::{Doorbell, Solo};
 use operator_core::{HeldPages, Operator};
 use row_ops::{FilterProject, LimitOp, are_typed};
@@ -153,7 +153,7 @@ fn result<'w>(alloc: Global) -> Result<Target<'w>, Memory>
     ensures { IfOk result (λ t. target_made t ≡ t) }
 {
     let types = whole(alloc)?;
-    Ok(Target::Result(HeldPages::new(alloc), Types::of(types)))
+    Ok(Target::Result(ResultTarget::new(alloc, Types::of(types))))
 }
 
 /// A driver that scans the table alone.

@@ -1,10 +1,10 @@
 //! What drivers are tested with.
-use blocked::{Bell, Bells, Due};
+use blocked::{Bell, Bells, BlockedOn, Due};
 use col_pages::{Page, PageBuilder};
 use operator_core::HeldPages;
 use operator_examples::NotNull;
 use sql_values::{Memory, SqlType, ValueRef};
-use stage_moves::{PageSource, PageTarget};
+use stage_moves::{PageSource, PageTarget, Ready};
 use std::alloc::Global;
 use std::sync::Wait;
 use std::thread::Threads;
@@ -18,6 +18,8 @@ pub(crate) struct Rung {
 
 impl Bells for Rung {
     ghost shown = { λ _ _ _. Unit {0} };
+
+    ghost rang = { λ _ _ _. Unit {0} };
 
     fn seen<R: Threads + Wait + Sync>(&mut self, _rt: &R, _bell: u32) -> u64 {
         7
@@ -49,34 +51,101 @@ impl PageSource for Nothing {
         self.is_ended
     }
 
+    fn ready<R: Threads + Wait + Sync, B: Bells>(
+        &mut self,
+        _rt: &R,
+        _bells: &mut B,
+    ) -> Result<Ready, Memory> {
+        Ok(Ready::Now)
+    }
+
     fn take(&mut self) -> Result<Option<Page>, Memory> {
         self.is_ended = true;
         Ok(None)
     }
 }
 
-/// A target that keeps its pages.
+/// A target that keeps its pages. Once it was told that no page comes any more it is blocked at bell 5 as often as it
+/// has waits.
 #[derive(Drop)]
 pub(crate) struct Kept {
     pub(crate) pages: HeldPages,
+    is_told: bool,
+    waits: u32,
+    is_through: bool,
+    in_vain: u64,
+    looked_at: u64,
 }
 
 impl PageTarget for Kept {
-    ghost use Rattle.std.specs.Prelude.{[]};
+    ghost use Rattle.std.specs.Prelude.{◌≡◌, ◌&&◌, [], false, not};
 
-    ghost given = { λ s. s.pages };
+    ghost gave = { λ s Y. Y ≡ s.pages };
 
-    ghost emptied = { λ s. record s { pages = [] } };
+    ghost wants = { λ s. not s.is_told };
+
+    ghost is_told = { λ s. s.is_told };
+
+    ghost is_finished = { λ s. s.is_told && s.is_through };
+
+    ghost as_made = { λ s. record s { pages = []; is_told = false; is_through = false; waits = 0; in_vain = 0; looked_at = 0 } };
+
+    ghost looks = { λ s. record { bell = 5; in_vain = s.in_vain; looked_at = s.looked_at } };
+
+    fn wants(&self) -> bool {
+        !self.is_told
+    }
+
+    fn is_told(&self) -> bool {
+        self.is_told
+    }
+
+    fn is_finished(&self) -> bool {
+        self.is_told && self.is_through
+    }
 
     fn put(&mut self, page: Page) -> Result<(), Memory> {
         self.pages.push(page)
     }
+
+    fn finish(&mut self) {
+        self.is_told = true;
+    }
+
+    fn ready<R: Threads + Wait + Sync, B: Bells>(
+        &mut self,
+        rt: &R,
+        bells: &mut B,
+    ) -> Result<Option<BlockedOn>, Memory> {
+        if !self.is_told {
+            return Ok(None);
+        }
+        if self.is_through || self.waits == 0 {
+            self.is_through = true;
+            return Ok(None);
+        }
+        let seen = bells.seen(rt, 5);
+        self.waits -= 1;
+        self.in_vain = self.in_vain.saturating_add(1);
+        self.looked_at = seen;
+        Ok(Some(BlockedOn::new(5, seen)))
+    }
+}
+
+/// One without a page, which waits so often at its end.
+pub(crate) fn target_of(alloc: Global, waits: u32) -> Kept {
+    Kept {
+        pages: HeldPages::new(alloc),
+        is_told: false,
+        waits,
+        is_through: false,
+        in_vain: 0,
+        looked_at: 0,
+    }
 }
 
 pub(crate) fn empty_target(alloc: Global) -> Kept {
-    Kept {
-        pages: HeldPages::new(alloc),
-    }
+    target_of(alloc, 0)
 }
 
 /// Puts a row of this number behind the others, where there is room; 0 stands for NULL.

@@ -6,10 +6,10 @@ ghost use Rattle.driver_loop.specs.Ends.{rows_taken, target_made};
 
 use crate::drivers::{run, turn_once, whole};
 use crate::fixtures::Rung;
-use driver_loop::{BuildTarget, Driver, RowsSource, Source, Stage, Target, Turn};
+use driver_loop::{BuildTarget, Driver, ResultTarget, RowsSource, Source, Stage, Target, Turn};
 use futures::task::{Doorbell, Solo};
 use hash_join::{LookupBuilder, LookupCell, ProbeOp};
-use operator_core::{HeldPages, Operator};
+use operator_core::Operator;
 use row_ops::ValuesOp;
 use sql_values::{JoinKind, Memory, Row, RowList, SqlType, Types, Value};
 use std::alloc::Global;
@@ -94,7 +94,7 @@ fn pairs<'w>(alloc: Global) -> Result<Target<'w>, Memory>
     ensures { IfOk result (λ t. target_made t ≡ t) }
 {
     let types = Vec::from_array(alloc, [SqlType::Bigint, SqlType::Bigint])?;
-    Ok(Target::Result(HeldPages::new(alloc), Types::of(types)))
+    Ok(Target::Result(ResultTarget::new(alloc, Types::of(types))))
 }
 
 /// Joins the rows 2 and 3 with what is in the cell.

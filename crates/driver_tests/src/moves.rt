@@ -1,11 +1,11 @@
-use crate::fixtures::{Kept, Nothing, empty_target, page, stages};
+use crate::fixtures::{Nothing, page, stages};
 use col_pages::Page;
 use operator_core::OpFault;
 use operator_examples::NotNull;
 use sql_values::Memory;
 use stage_moves::{
-    are_finished, drain, feed, give_page, move_page, move_pages, pass, pass_end, take_page,
-    takes_input,
+    Passing, are_finished, drain, feed, give_page, move_page, move_pages, pass, pass_end,
+    take_page, takes_input,
 };
 use std::alloc::Global;
 
@@ -20,7 +20,7 @@ fn told(given: Result<Option<Page>, OpFault>) -> Option<u32> {
 
 /// Feeds a page where the first stage takes one.
 fn put(stages: &mut Vec<NotNull>, page: Page) -> Option<u32> {
-    if !takes_input(stages) {
+    if !takes_input(stages, true) {
         return Some(0);
     }
     told(feed(stages, page))
@@ -93,25 +93,31 @@ fn without_stages_a_page_goes_past(rt: HostRuntime) -> Result<(), Memory> {
     Ok(())
 }
 
-/// Whether the moves of a pass give what they should, one after the other and all at once.
-fn is_a_pass_its_moves(
-    alloc: Global,
-    stages: &mut Vec<NotNull>,
-    target: &mut Kept,
-) -> Result<bool, Memory> {
+/// How many rows a pass moved, and how many of these go to the target.
+fn moved(passing: Result<Passing, OpFault>) -> Option<(u64, u32)> {
+    let Ok(Passing { rows, out }) = passing else {
+        return None;
+    };
+    Some((rows, out.map_or(0, |page| page.len())))
+}
+
+/// Whether the moves of a pass give what they should, one after the other and all at once. A target that wants no page
+/// is given none.
+fn is_a_pass_its_moves(alloc: Global, stages: &mut Vec<NotNull>) -> Result<bool, Memory> {
     let mut source = Nothing { is_ended: false };
-    let was_empty = take_page(&mut source, stages, target) == Ok(0);
+    let was_empty = moved(take_page(&mut source, stages, true)) == Some((0, 0));
     let was_taken = feeds(alloc, stages, &[1, 2])? == None;
     let was_moved = move_pages(stages, false, 8) == Ok(2);
-    let was_given = give_page(stages, target) == Ok(2);
-    let was_passed = pass(&mut source, stages, target, 8) == Ok(0);
-    Ok(was_empty & was_taken & was_moved & was_given & was_passed & are_finished(stages, true))
+    let was_kept = moved(give_page(stages, false)) == Some((0, 0));
+    let was_given = moved(give_page(stages, true)) == Some((2, 2));
+    let was_passed = moved(pass(&mut source, stages, true, 8)) == Some((0, 0));
+    let are_over = are_finished(stages, true);
+    Ok(was_empty & was_taken & was_moved & was_kept & was_given & was_passed & are_over)
 }
 
 #[test]
 fn a_pass_is_made_of_its_moves(rt: HostRuntime) -> Result<(), Memory> {
     let mut stages = stages(rt.alloc())?;
-    let mut target = empty_target(rt.alloc());
-    assert!(rt; is_a_pass_its_moves(rt.alloc(), &mut stages, &mut target)?);
+    assert!(rt; is_a_pass_its_moves(rt.alloc(), &mut stages)?);
     Ok(())
 }

@@ -1,4 +1,4 @@
-use crate::fixtures::{Kept, Nothing, Rung, empty_target, page, stages};
+use crate::fixtures::{Kept, Nothing, Rung, empty_target, page, stages, target_of};
 use col_pages::Page;
 use driver_turns::{Turned, look_at_stages, turn};
 use operator_core::OpFault;
@@ -11,7 +11,7 @@ use std::thread::Threads;
 
 /// Feeds a page where the first stage takes one.
 fn put(stages: &mut Vec<NotNull>, page: Page) -> bool {
-    if !takes_input(stages) {
+    if !takes_input(stages, true) {
         return false;
     }
     feed(stages, page).is_ok()
@@ -93,9 +93,26 @@ fn a_turn_yields_at_its_quantum(rt: HostRuntime) -> Result<(), Memory> {
     Ok(())
 }
 
+#[test]
+fn a_turn_waits_until_its_target_has_ended(rt: HostRuntime) -> Result<(), Memory> {
+    let mut stages: Vec<NotNull> = Vec::new(rt.alloc());
+    let mut source = Nothing { is_ended: true };
+    let mut target = target_of(rt.alloc(), 1);
+    let first = turn_of(&rt, rt.alloc(), &mut source, &mut stages, &mut target, 9);
+    let second = turn_of(&rt, rt.alloc(), &mut source, &mut stages, &mut target, 9);
+    let was_blocked = first
+        == End::Blocked {
+            units: 0,
+            bell: 5,
+            seen: 7,
+        };
+    assert!(rt; was_blocked & (second == End::Finished(0)));
+    Ok(())
+}
+
 /// A stage that gives its first two rows, once its note knows so after this many looks in vain.
 fn noted(alloc: Global, bell: u32, looks: u32) -> NotedLimit {
-    NotedLimit::new(alloc, bell, Note::new(2, looks))
+    NotedLimit::new(alloc, Note::new(bell, 2, looks))
 }
 
 #[test]

@@ -1,8 +1,8 @@
 -- What looks and passes leave of a driver, put together to a turn.
-use Rattle.std.proofs.Common.{◌≡◌, ◌≤◌, ℕ, ◌<◌, List, length, get_or, set, Bool, Option, Some, None, Err, sym, subst, ◌∙◌, arith}
+use Rattle.std.proofs.Common.{◌≡◌, ◌⊎◌, inl, inr, ◌≤◌, ◌+◌, ℕ, ◌<◌, List, [], ◌++◌, length, get_or, set, Bool, true, Option, Some, None, Err, refl, sym, subst, ◌∙◌, arith, append-nil}
 use Rattle.std.specs.Prelude.{IfSome}
 use Rattle.sql_values.specs.declared.fail.Fail.{Fail}
-use Rattle.blocked.specs.Counts.{Rose}
+use Rattle.blocked.specs.Counts.{Rose, most_count}
 use Rattle.blocked.specs.declared.blocked_on.BlockedOn.{BlockedOn}
 use Rattle.operator_core.specs.declared.operator.Operator.{Ghosts}
 use Rattle.operator_core.specs.declared.fault.OpFault.{OpFault}
@@ -13,13 +13,16 @@ use Rattle.operator_core.specs.Calls.{IsLawful, Stays, Looked}
 use Rattle.operator_core.specs.Stages.{Linked, ToldInTurn}
 use Rattle.operator_core.proofs.StageLemmas.{Steps-looked}
 use Rattle.operator_core.proofs.LinkLemmas.{Linked-set}
-use Rattle.operator_core.proofs.TurnLemmas.{Turns-set}
+use Rattle.operator_core.proofs.TurnLemmas.{Turns-set, Turns-later}
 use Rattle.operator_core.proofs.MadeLemmas.{CameFrom-looked, AllCameFrom-set}
 use Rattle.operator_core.proofs.ChainLemmas.{failure}
 use Rattle.stage_moves.specs.Moves.{SomeFails}
 use Rattle.stage_moves.specs.Passes.{Passed}
 use Rattle.stage_moves.specs.Places.{AllStay, IsLater, AllLater}
-use Rattle.driver_turns.specs.Turns.{WentOn, StageBlocked, StageFailed}
+use Rattle.stage_moves.specs.Counts.{Counted}
+use Rattle.stage_moves.specs.Looks.{Looks, HasWaited}
+use Rattle.driver_turns.specs.Turns.{WentOn, WentTo, WorkedTo, StageBlocked, StageFailed, IsHeldUp, IsBlocked, RangDues}
+use Rattle.stage_moves.proofs.CountLemmas.{Counted-none, Counted-then}
 use Rattle.stage_moves.proofs.PlaceLemmas.{AllLater-same, AllLater-then, AllLater-looked, AllLater-stay, AllCameFrom-stay, each-at, each-length, item-is}
 
 module _ {S : Type 0} (g : Ghosts S) where
@@ -42,6 +45,15 @@ module _ {S : Type 0} (g : Ghosts S) where
     turns = p.turns;
     came = λ ms c. AllCameFrom-stay g ms old new p.same c;
     later = AllLater-stay g old new p.same;
+  }
+
+  -- the source looked, and may have ended
+  pub WentOn-came : (old new : List S) (X A Y : List Row) (was is : Bool) → A ≡ X → (was ≡ true → is ≡ true) → WentOn g old new X X Y Y was was → WentOn g old new X A Y Y was is
+  WentOn-came old new X A Y was is e so p = record {
+    links = λ l. subst (λ (x : List Row). Linked g new x Y) (sym e) (p.links l);
+    turns = λ t. Turns-later g was is new so (p.turns t);
+    came = p.came;
+    later = p.later;
   }
 
   -- a stage looked at its note
@@ -113,6 +125,137 @@ module _ {S : Type 0} (g : Ghosts S) where
   pub WentOn-step : (old mid new : List S) (X A Y B : List Row) (was is : Bool) → WentOn g old mid X X Y Y was was → Passed g mid new X A Y B was is → WentOn g old new X A Y B was is
   WentOn-step old mid new X A Y B was is p q = WentOn-then old mid new X X A Y Y B was was is p (WentOn-passed mid new X A Y B was is q)
 
+  -- what was given is given to whom it went on to
+  pub WentTo-given : (gave now : List Row → Type 0) (old new : List S) (X A Y : List Row) (was is : Bool) → ((Y : List Row) → gave Y → now Y) → WentTo g gave old new X A Y was is
+      → WentTo g now old new X A Y was is
+  WentTo-given gave now old new X A Y was is on p = record { rows = p.rows; given = on p.rows p.given; went = p.went }
+
+  pub WentTo-after : (gave : List Row → Type 0) (old mid new : List S) (X A C Y : List Row) (was is be : Bool) → WentOn g old mid X A Y Y was is → WentTo g gave mid new A C Y is be
+      → WentTo g gave old new X C Y was be
+  WentTo-after gave old mid new X A C Y was is be p q =
+      record { rows = q.rows; given = q.given; went = WentOn-then old mid new X A C Y Y q.rows was is be p q.went }
+
+  pub WentTo-passed : (gave : List Row → Type 0) (old new : List S) (X A Y B : List Row) (was is : Bool) → gave B → Passed g old new X A Y B was is → WentTo g gave old new X A Y was is
+  WentTo-passed gave old new X A Y B was is given p = record { rows = B; given = given; went = WentOn-passed old new X A Y B was is p }
+
+  pub WentTo-still : (gave : List Row → Type 0) (old new : List S) (X A Y : List Row) (was is : Bool) → gave Y → Passed g old new X A Y (Y ++ []) was is → WentTo g gave old new X A Y was is
+  WentTo-still gave old new X A Y was is given p =
+      WentTo-passed gave old new X A Y Y was is given (subst (λ (y : List Row). Passed g old new X A Y y was is) (append-nil Y) p)
+
+  pub WorkedTo-passed : (gave : List Row → Type 0) (old new : List S) (X A Y B : List Row) (was is : Bool) (missed misses rows : ℕ) → gave B → Passed g old new X A Y B was is
+      → Counted g old new X A Y B rows → misses ≡ missed → WorkedTo g gave old new X A Y was is missed misses rows
+  WorkedTo-passed gave old new X A Y B was is missed misses rows given p counts same = record {
+    rows = B;
+    given = given;
+    went = WentOn-passed old new X A Y B was is p;
+    entered = rows;
+    again = 0;
+    counts = counts;
+    units_are = omega arith;
+    within = λ below. omega (arith, same);
+  }
+
+  pub WentTo-looked : (gave : List Row → Type 0) (old new : List S) (X A Y : List Row) (was is : Bool) → gave Y → WentOn g old new X A Y Y was is → WentTo g gave old new X A Y was is
+  WentTo-looked gave old new X A Y was is given went = record { rows = Y; given = given; went = went }
+
+  pub WorkedTo-none : (gave : List Row → Type 0) (ss : List S) (X Y : List Row) (ended : Bool) (missed : ℕ) → gave Y → WorkedTo g gave ss ss X X Y ended ended missed missed 0
+  WorkedTo-none gave ss X Y ended missed given = record {
+    rows = Y;
+    given = given;
+    went = WentOn-none ss X Y ended;
+    entered = 0;
+    again = 0;
+    counts = Counted-none g ss X X Y refl;
+    units_are = refl;
+    within = λ below. omega arith;
+  }
+
+  -- the source and the stages were looked at
+  pub WorkedTo-looked : (gave : List Row → Type 0) (old new : List S) (X A Y : List Row) (was is : Bool) (missed misses again : ℕ) → gave Y → WentOn g old new X A Y Y was is
+      → Counted g old new X A Y Y 0 → (misses < most_count → missed + again ≤ misses) → WorkedTo g gave old new X A Y was is missed misses again
+  WorkedTo-looked gave old new X A Y was is missed misses again given went counts within =
+      record { rows = Y; given = given; went = went; entered = 0; again = again; counts = counts; units_are = omega arith; within = within }
+
+  pub WorkedTo-given : (gave now : List Row → Type 0) (old new : List S) (X A Y : List Row) (was is : Bool) (missed misses units : ℕ) → ((Y : List Row) → gave Y → now Y)
+      → WorkedTo g gave old new X A Y was is missed misses units → WorkedTo g now old new X A Y was is missed misses units
+  WorkedTo-given gave now old new X A Y was is missed misses units on p = record {
+    rows = p.rows;
+    given = on p.rows p.given;
+    went = p.went;
+    entered = p.entered;
+    again = p.again;
+    counts = p.counts;
+    units_are = p.units_are;
+    within = p.within;
+  }
+
+  pub WorkedTo-then : (gave now : List Row → Type 0) (old mid new : List S) (X A C Y : List Row) (was is be : Bool) (missed misses more units then all : ℕ)
+      → WorkedTo g gave old mid X A Y was is missed misses units → ((B : List Row) → gave B → WorkedTo g now mid new A C B is be misses more then)
+      → misses ≤ more → all ≡ units + then → WorkedTo g now old new X C Y was be missed more all
+  WorkedTo-then gave now old mid new X A C Y was is be missed misses more units then all p on rises e =
+      let q = on p.rows p.given in
+      record {
+        rows = q.rows;
+        given = q.given;
+        went = WentOn-then old mid new X A C Y p.rows q.rows was is be p.went q.went;
+        entered = p.entered + q.entered;
+        again = p.again + q.again;
+        counts = Counted-then g old mid new X A C Y p.rows q.rows p.entered q.entered p.counts q.counts;
+        units_are = omega (arith, e, p.units_are, q.units_are);
+        within = λ below. omega (arith, p.within (omega (arith, below, rises)), q.within below);
+      }
+
+  pub WorkedTo-went : (gave : List Row → Type 0) (old new : List S) (X A Y : List Row) (was is : Bool) (missed misses units : ℕ) → WorkedTo g gave old new X A Y was is missed misses units
+      → WentTo g gave old new X A Y was is
+  WorkedTo-went gave old new X A Y was is missed misses units p = record { rows = p.rows; given = p.given; went = p.went }
+
+  pub WentTo-then : (gave now : List Row → Type 0) (old mid new : List S) (X A C Y : List Row) (was is be : Bool) → WentTo g gave old mid X A Y was is
+      → ((B : List Row) → gave B → WentTo g now mid new A C B is be) → WentTo g now old new X C Y was be
+  WentTo-then gave now old mid new X A C Y was is be p on =
+      let q = on p.rows p.given in
+      record { rows = q.rows; given = q.given; went = WentOn-then old mid new X A C Y p.rows q.rows was is be p.went q.went }
+
+  -- who waits since looked since whatever came before
+  pub Waited-since : (a b c : Looks) (shown : ℕ → ℕ → Type 0) (on : BlockedOn) → a.in_vain ≤ b.in_vain → HasWaited b c shown on → HasWaited a c shown on
+  Waited-since a b c shown on h w = record { looked = rose-since a.in_vain b.in_vain c.in_vain h w.looked; bell = w.bell; seen = w.seen; handed = w.handed; unrung = w.unrung }
+
+  pub Blocked-all_since : (old mid new : List S) (sa sb sc ta tb tc : Looks) (shown : ℕ → ℕ → Type 0) (on : BlockedOn) → AllLater g old mid → AllLater g mid new
+      → sa.in_vain ≤ sb.in_vain → ta.in_vain ≤ tb.in_vain → IsBlocked g mid new sb sc tb tc shown on → IsBlocked g old new sa sc ta tc shown on
+  Blocked-all_since old mid new sa sb sc ta tb tc shown on later latest s t (inl (inl b)) = inl (inl (Blocked-since old mid new shown on later latest b))
+  Blocked-all_since old mid new sa sb sc ta tb tc shown on later latest s t (inl (inr w)) = inl (inr (Waited-since sa sb sc shown on s w))
+  Blocked-all_since old mid new sa sb sc ta tb tc shown on later latest s t (inr w) = inr (Waited-since ta tb tc shown on t w)
+
+  Blocked-shown : (old new : List S) (shown later : ℕ → ℕ → Type 0) (on : BlockedOn) → ((bell count : ℕ) → shown bell count → later bell count) → StageBlocked g old new shown on
+      → StageBlocked g old new later on
+  Blocked-shown old new shown later on more b = record {
+    place = b.place;
+    before = b.before;
+    after = b.after;
+    there = b.there;
+    was = b.was;
+    is = b.is;
+    waits = b.waits;
+    unknown = b.unknown;
+    looked = b.looked;
+    bell = b.bell;
+    seen = more on.bell on.seen b.seen;
+    handed = b.handed;
+    unrung = b.unrung;
+  }
+
+  Waited-shown : (was is now : Looks) (shown later : ℕ → ℕ → Type 0) (on : BlockedOn) → now ≡ is → ((bell count : ℕ) → shown bell count → later bell count) → HasWaited was is shown on
+      → HasWaited was now later on
+  Waited-shown was is now shown later on e more w = subst (λ (l : Looks). HasWaited was l later on) (sym e)
+      (record { looked = w.looked; bell = w.bell; seen = more on.bell on.seen w.seen; handed = w.handed; unrung = w.unrung })
+
+  -- who was held up is so after a pass, with what the bells show by then
+  pub Blocked-later : (old mid new : List S) (su sl sn tu tn : Looks) (shown later : ℕ → ℕ → Type 0) (o : Option BlockedOn) → AllStay g mid new → sn ≡ sl
+      → ((bell count : ℕ) → shown bell count → later bell count) → IfSome o (λ on. IsHeldUp g old mid su sl shown on) → IfSome o (λ on. IsBlocked g old new su sn tu tn later on)
+  Blocked-later old mid new su sl sn tu tn shown later None stay e more h = tt
+  Blocked-later old mid new su sl sn tu tn shown later (Some on) stay e more (inl b) =
+      inl (inl (Blocked-shown old new shown later on more (Blocked-stays old mid new shown on stay b)))
+  Blocked-later old mid new su sl sn tu tn shown later (Some on) stay e more (inr w) = inl (inr (Waited-shown su sl sn shown later on e more w))
+
   -- a failure is one of a stage, as it was made, on what came to it
   pub SomeFails-after : (ss : List S) (ended : Bool) (X Y : List Row) (node : ℕ) (kind : Fail) → SomeFails g ss node kind → Linked g ss X Y → ToldInTurn g ended ss
       → StageFailed g ss ended X node kind
@@ -126,3 +269,46 @@ module _ {S : Type 0} (g : Ghosts S) where
 
 pub expr-not-memory : (fault : OpFault) (node : ℕ) (kind : Fail) → fault ≡ Expr node kind → NotMemory {A = Unit {0}} (Err fault)
 expr-not-memory fault node kind e = subst (λ (f : OpFault). NotMemory {A = Unit {0}} (Err f)) (sym e) tt
+
+-- what two rang for their dues, one after the other
+pub RangDues-both : (a b c : ℕ → ℕ → Type 0) (s t u v : ℕ → ℕ) → RangDues a b s t → RangDues b c u v → RangDues a c (λ bell. s bell + u bell) (λ bell. t bell + v bell)
+RangDues-both a b c s t u v p q = λ bell times rang.
+    subst (c bell) (order (t bell) (v bell) times)
+    (q bell (times + t bell) (subst (b bell) (swap (t bell) (u bell) times) (p bell (times + u bell) (subst (a bell) (move (s bell) (u bell) times) rang))))
+  where
+    move : (s u n : ℕ) → n + (s + u) ≡ n + u + s
+    move s u n = omega arith
+
+    swap : (t u n : ℕ) → n + u + t ≡ n + t + u
+    swap t u n = omega arith
+
+    order : (t v n : ℕ) → n + t + v ≡ n + (t + v)
+    order t v n = omega arith
+
+pub RangDues-then : (a b c : ℕ → ℕ → Type 0) (s t u : ℕ → ℕ) → RangDues a b s t → RangDues b c t u → RangDues a c s u
+RangDues-then a b c s t u p q = λ bell times rang. q bell times (p bell times rang)
+
+-- the dues are what they were
+pub RangDues-same : (a b : ℕ → ℕ → Type 0) (s t u v : ℕ → ℕ) → ((bell : ℕ) → u bell ≡ s bell) → ((bell : ℕ) → v bell ≡ t bell) → RangDues a b s t → RangDues a b u v
+RangDues-same a b s t u v e f p = λ bell times rang.
+    subst (λ (n : ℕ). b bell (times + n)) (sym (f bell)) (p bell times (subst (λ (n : ℕ). a bell (times + n)) (e bell) rang))
+
+-- the source rang and then the target, and between the two their dues stayed
+pub RangDues-step : (a b c : ℕ → ℕ → Type 0) (i l m t p n : ℕ → ℕ) → RangDues a b i l → RangDues b c p n → ((bell : ℕ) → m bell ≡ l bell) → ((bell : ℕ) → p bell ≡ t bell)
+    → RangDues a c (λ bell. i bell + t bell) (λ bell. m bell + n bell)
+RangDues-step a b c i l m t p n first then same kept =
+    RangDues-same a c (λ bell. i bell + p bell) (λ bell. l bell + n bell) (λ bell. i bell + t bell) (λ bell. m bell + n bell)
+    (λ bell. at-right (i bell) (t bell) (p bell) (sym (kept bell)))
+    (λ bell. at-left (m bell) (l bell) (n bell) (same bell))
+    (RangDues-both a b c i l p n first then)
+  where
+    at-right : (i t p : ℕ) → t ≡ p → i + t ≡ i + p
+    at-right i t p e = omega (arith, e)
+
+    at-left : (m l n : ℕ) → m ≡ l → m + n ≡ l + n
+    at-left m l n e = omega (arith, e)
+
+-- the source rang, and then nobody
+pub RangDues-alone : (a b : ℕ → ℕ → Type 0) (i l m t n : ℕ → ℕ) → RangDues a b i l → ((bell : ℕ) → m bell ≡ l bell) → ((bell : ℕ) → n bell ≡ t bell)
+    → RangDues a b (λ bell. i bell + t bell) (λ bell. m bell + n bell)
+RangDues-alone a b i l m t n first same kept = RangDues-step a b b i l m t n n first (λ bell times rang. rang) same kept

@@ -1,12 +1,14 @@
 -- What a turn of a driver leaves, and why it ends.
-use Rattle.std.specs.Prelude.{◌≡◌, ◌<◌, ◌≤◌, ℕ, List, length, get_or, take, Bool, true, false}
+use Rattle.std.specs.Prelude.{◌≡◌, ◌⊎◌, ◌+◌, ◌<◌, ◌≤◌, ℕ, List, length, get_or, take, Bool, true, false}
 use Rattle.sql_values.specs.declared.fail.Fail.{Fail}
-use Rattle.blocked.specs.Counts.{Rose}
+use Rattle.blocked.specs.Counts.{Rose, most_count}
 use Rattle.blocked.specs.declared.blocked_on.BlockedOn.{BlockedOn}
 use Rattle.operator_core.specs.declared.operator.Operator.{Ghosts}
 use Rattle.operator_core.specs.Rows.{Row}
 use Rattle.operator_core.specs.Stages.{Linked, ToldInTurn, AllCameFrom, FailsAfter, last_finished}
 use Rattle.stage_moves.specs.Places.{AllLater}
+use Rattle.stage_moves.specs.Counts.{Counted}
+use Rattle.stage_moves.specs.Looks.{Looks, HasWaited}
 use Rattle.driver_turns.specs.declared.turns.Turned.{Turned}
 use Rattle.driver_turns.specs.declared.turns.Turned.TheVariants.{Yield, Blocked, Finished}
 
@@ -35,11 +37,42 @@ pub record StageBlocked {S : Type 0} (g : Ghosts S) (old new : List S) (shown : 
   pub handed : g.looked_at after ≡ on.seen
   pub unrung : on.rung ≡ false
 
--- why a turn ended: enough rows were counted, a stage is blocked, or the last stage is finished
-abbrev pub TurnedSo : {S : Type 0} → Ghosts S → List S → List S → Bool → (ℕ → ℕ → Type 0) → ℕ → ℕ → Turned → Type 0
-TurnedSo g old new ended shown quantum units Yield = (quantum ≤ units) × (last_finished g ended new ≡ false)
-TurnedSo g old new ended shown quantum units (Blocked on) = StageBlocked g old new shown on × (last_finished g ended new ≡ false)
-TurnedSo g old new ended shown quantum units Finished = last_finished g ended new ≡ true
+-- The target was given Y and is given more by now, and its stages went on to what it was given.
+pub record WentTo {S : Type 0} (g : Ghosts S) (gave : List Row → Type 0) (old new : List S) (X A Y : List Row) (was is : Bool) : Type 0 where
+  pub rows : List Row
+  pub given : gave rows
+  pub went : WentOn g old new X A Y rows was is
+
+-- The same, and so many units were counted: the rows that entered the stages and the target, and asks in vain, no more
+-- than the source counted of these.
+pub record WorkedTo {S : Type 0} (g : Ghosts S) (gave : List Row → Type 0) (old new : List S) (X A Y : List Row) (was is : Bool) (missed misses units : ℕ) : Type 0 where
+  pub rows : List Row
+  pub given : gave rows
+  pub went : WentOn g old new X A Y rows was is
+  pub entered : ℕ
+  pub again : ℕ
+  pub counts : Counted g old new X A Y rows entered
+  pub units_are : units ≡ entered + again
+  pub within : misses < most_count → missed + again ≤ misses
+
+-- a stage waits, or the source does
+abbrev pub IsHeldUp : {S : Type 0} → Ghosts S → List S → List S → Looks → Looks → (ℕ → ℕ → Type 0) → BlockedOn → Type 0
+IsHeldUp g old new source_was source_is shown on = StageBlocked g old new shown on ⊎ HasWaited source_was source_is shown on
+
+-- a stage waits, or the source or the target does
+abbrev pub IsBlocked : {S : Type 0} → Ghosts S → List S → List S → Looks → Looks → Looks → Looks → (ℕ → ℕ → Type 0) → BlockedOn → Type 0
+IsBlocked g old new source_was source_is target_was target_is shown on =
+    IsHeldUp g old new source_was source_is shown on ⊎ HasWaited target_was target_is shown on
+
+-- why a turn ended: enough units were counted, somebody waits, or the target is finished
+abbrev pub TurnedSo : (BlockedOn → Type 0) → Bool → ℕ → ℕ → Turned → Type 0
+TurnedSo blocked finished quantum units Yield = (quantum ≤ units) × (finished ≡ false)
+TurnedSo blocked finished quantum units (Blocked on) = blocked on × (finished ≡ false)
+TurnedSo blocked finished quantum units Finished = finished ≡ true
+
+-- each bell was rung as much more often as more dues of it came
+abbrev pub RangDues : (old new : ℕ → ℕ → Type 0) (was is : ℕ → ℕ) → Type 0
+RangDues old new was is = (bell times : ℕ) → old bell (times + was bell) → new bell (times + is bell)
 
 -- one of the stages, as it was made, fails so on what the ones before it gave of X, whatever rows still come to it
 pub record StageFailed {S : Type 0} (g : Ghosts S) (stages : List S) (ended : Bool) (X : List Row) (node : ℕ) (kind : Fail) : Type 0 where

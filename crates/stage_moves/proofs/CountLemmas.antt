@@ -91,6 +91,15 @@ module _ {S : Type 0} (g : Ghosts S) where
   pub Counted-none : (ss : List S) (X A Y : List Row) → A ≡ X → Counted g ss ss X A Y Y 0
   Counted-none ss X A Y e = record { entered = λ n l. none-more ss A Y n (subst (λ (x : List Row). LinkedBy g ss x Y n) (sym e) l) }
 
+  pub Counted-still : (ss : List S) (X A Y : List Row) → A ≡ X → Counted g ss ss X A Y (Y ++ []) 0
+  Counted-still ss X A Y e = subst (λ (y : List Row). Counted g ss ss X A Y y 0) (sym (append-nil Y)) (Counted-none ss X A Y e)
+
+  -- no page was out
+  pub Counted-in : (old new : List S) (X A Y : List Row) (rows : ℕ) (o : Option TypedPage) → o ≡ None → Counted g old new X A Y (Y ++ gave (Ok o)) rows
+      → Counted g old new X A Y Y rows
+  Counted-in old new X A Y rows o e c = subst (λ (y : List Row). Counted g old new X A Y y rows) (append-nil Y)
+      (subst (λ (o : Option TypedPage). Counted g old new X A Y (Y ++ gave (Ok o)) rows) e c)
+
   -- a page goes past where there is no stage
   pub Counted-past : (ss : List S) (P X Y : List Row) → length ss ≡ 0 → Counted g ss ss X (X ++ P) Y (Y ++ P) (length P)
   Counted-past [] P X Y e = record { entered = λ n l. (ap (λ x. x ++ P) l.0, at-end n Y P l.1) }
@@ -177,6 +186,13 @@ module _ {S : Type 0} (g : Ghosts S) where
       let none : Counted g old new X (X ++ P) Y (Y ++ []) (length P) = subst (λ (o : Option TypedPage). Counted g old new X (X ++ P) Y (Y ++ gave (Ok o)) (length P)) e c in
       subst (λ (x : List Row). Counted g old new X x Y Y rows) (sym a)
       (subst (λ (m : ℕ). Counted g old new X (X ++ P) Y Y m) (sym n) (subst (λ (y : List Row). Counted g old new X (X ++ P) Y y (length P)) (append-nil Y) none))
+
+  pub Counted-moved_on : (old mid new : List S) (X A : List Row) (rows more all : ℕ) (o : Option TypedPage) → o ≡ None → ((Y : List Row) → Counted g old mid X A Y (Y ++ gave (Ok o)) rows)
+      → ((Y : List Row) → Counted g mid new A A Y Y more) → all ≡ rows + more → (Y : List Row) → Counted g old new X A Y Y all
+  Counted-moved_on old mid new X A rows more all o none c d e Y = Counted-both old mid new X A A Y Y Y rows more all (Counted-in old mid X A Y rows o none (c Y)) (d Y) e
+
+  pub Counted-none_out : (old new : List S) (X A Y : List Row) (rows : ℕ) → Counted g old new X A Y Y rows → Counted g old new X A Y (Y ++ []) rows
+  Counted-none_out old new X A Y rows c = subst (λ (y : List Row). Counted g old new X A Y y rows) (sym (append-nil Y)) c
 
 -- a page is moved only where fewer rows than there is room for were
 pub few-more : (moved room most from rows added : ℕ) → moved < room + most → rows ≤ most → (nat_lt moved from ≡ false → rows ≡ 0) → from ≡ room → added ≡ rows

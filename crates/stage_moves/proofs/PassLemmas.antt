@@ -21,6 +21,15 @@ module _ {S : Type 0} (g : Ghosts S) where
     same = AllStay-same g ss;
   }
 
+  pub Passed-still : (ss : List S) (X A Y : List Row) (was is : Bool) → A ≡ X → (was ≡ true → is ≡ true) → Passed g ss ss X A Y (Y ++ []) was is
+  Passed-still ss X A Y was is e so = subst (λ (y : List Row). Passed g ss ss X A Y y was is) (sym (append-nil Y)) (Passed-none ss X A Y was is e so)
+
+  -- no page was out
+  pub Passed-in : (old new : List S) (X A Y : List Row) (was is : Bool) (o : Option TypedPage) → o ≡ None → Passed g old new X A Y (Y ++ gave (Ok o)) was is
+      → Passed g old new X A Y Y was is
+  Passed-in old new X A Y was is o e p = subst (λ (y : List Row). Passed g old new X A Y y was is) (append-nil Y)
+      (subst (λ (o : Option TypedPage). Passed g old new X A Y (Y ++ gave (Ok o)) was is) e p)
+
   -- a move took and gave these rows
   pub Passed-moved : (old new : List S) (P Q X A Y B : List Row) (was is : Bool) → Moved g old new P Q → A ≡ X ++ P → B ≡ Y ++ Q → (was ≡ true → is ≡ true)
       → Passed g old new X A Y B was is
@@ -68,3 +77,10 @@ module _ {S : Type 0} (g : Ghosts S) where
   pub Passed-on : (old mid new : List S) (X A Y B : List Row) (was is b : Bool) → b ≡ is → Passed g old mid X A Y B was is → Passed g mid new A A B B b b → Passed g old new X A Y B was is
   Passed-on old mid new X A Y B was is b e p q =
       Passed-then old mid new X A A Y B B was is is p (subst (λ (x : Bool). Passed g mid new A A B B x x) e q)
+
+  pub Passed-moved_on : (old mid new : List S) (X A : List Row) (was is b : Bool) (o : Option TypedPage) → b ≡ is → o ≡ None → ((Y : List Row) → Passed g old mid X A Y (Y ++ gave (Ok o)) was is)
+      → ((Y : List Row) → Passed g mid new A A Y Y b b) → (Y : List Row) → Passed g old new X A Y Y was is
+  Passed-moved_on old mid new X A was is b o e none p q Y = Passed-on old mid new X A Y Y was is b e (Passed-in old mid X A Y was is o none (p Y)) (q Y)
+
+  pub Passed-none_out : (old new : List S) (X A Y : List Row) (was is : Bool) → Passed g old new X A Y Y was is → Passed g old new X A Y (Y ++ []) was is
+  Passed-none_out old new X A Y was is p = subst (λ (y : List Row). Passed g old new X A Y y was is) (sym (append-nil Y)) p

@@ -26,3 +26,8 @@ pub record SomeFails {S : Type 0} (g : Ghosts S) (stages : List S) (node : ℕ) 
 abbrev pub first_needs : {S : Type 0} → Ghosts S → List S → Bool
 first_needs g [] = true
 first_needs g (s ∷ ss) = g.needs_input s
+
+-- a page of the source can be taken now: the first stage needs one or, where there is no stage, the target wants one
+abbrev pub takes_page : {S : Type 0} → Ghosts S → Bool → List S → Bool
+takes_page g wants [] = wants
+takes_page g wants (s ∷ ss) = g.needs_input s

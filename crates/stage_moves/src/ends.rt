@@ -1,10 +1,26 @@
-ghost use Rattle.std.specs.Prelude.{◌≡◌, ◌++◌, List, Bool, true, false, IfOk, MatchOption, IsOk};
+ghost use Rattle.std.specs.Prelude.{◌≡◌, ◌≤◌, ◌+◌, ◌++◌, ℕ, List, Bool, true, false, IfOk, IfSome, IsOk, MatchOption};
 ghost use Rattle.operator_core.specs.Rows.{Row};
+ghost use Rattle.stage_moves.specs.Looks.{Looks, no_looks, HasWaited};
+ghost use Rattle.stage_moves.specs.Ready.{IsReady};
 
+use blocked::{Bells, BlockedOn};
 use col_pages::Page;
 use sql_values::Memory;
+use std::sync::Wait;
+use std::thread::Threads;
 
-/// Where the pages of a driver come from.
+/// What a source found when it looked.
+#[derive(Drop)]
+pub enum Ready {
+    /// It need not wait.
+    Now,
+    /// It asked in vain, and nobody rings for it: it is to be asked again.
+    Missed,
+    /// It has to wait.
+    Blocked(BlockedOn),
+}
+
+/// Where the pages of a driver come from. It looks apart from the pass that moves its pages.
 pub trait PageSource {
     // The rows that it gave so far.
     ghost taken: { Self → List Row };
@@ -15,31 +31,124 @@ pub trait PageSource {
     // It as it was made.
     ghost as_made: { Self → Self };
 
-    /// Whether no page comes any more. False until a call of `take` answered None.
+    // What it tells of its looks.
+    ghost looks: { Self → Looks } = { λ _. no_looks };
+
+    // How often it asked in vain where nobody rings.
+    ghost misses: { Self → ℕ } = { λ _. 0 };
+
+    // How often a bell was to be rung for what it took.
+    ghost dues: { Self → ℕ → ℕ } = { λ _ _. 0 };
+
+    /// Whether no page comes any more.
     fn is_ended(&self) -> bool
         ensures { result ≡ is_ended self.now };
 
-    /// The next page; None where it is ended. After want of memory it has its page still: who implements this
-    /// promises so, and no clause says it.
+    /// Looks for what is to be taken next, and rings for what it took.
+    fn ready<R: Threads + Wait + Sync, B: Bells>(
+        &mut self,
+        rt: &R,
+        bells: &mut B,
+    ) -> Result<Ready, Memory>
+        ensures made { as_made self.new ≡ as_made self.old }
+        ensures taken { IsOk result → taken self.new ≡ taken self.old }
+        ensures ended { IsOk result → is_ended self.old ≡ true → is_ended self.new ≡ true }
+        ensures answer { IfOk result (λ found. IsReady (looks self.old) (looks self.new)
+            (misses self.old) (misses self.new) (B.shown bells.new) found) }
+        ensures looks { (looks self.old).in_vain ≤ (looks self.new).in_vain }
+        ensures misses { misses self.old ≤ misses self.new }
+        ensures bells { (bell count : ℕ) → B.shown bells.old bell count
+            → B.shown bells.new bell count }
+        ensures rang { IsOk result → (bell times : ℕ)
+            → B.rang bells.old bell (times + dues self.old bell)
+            → B.rang bells.new bell (times + dues self.new bell) };
+
+    /// The next page; None where there is none now. After want of memory it has its page still: who
+    /// implements this promises so, and no clause says it.
     fn take(&mut self) -> Result<Option<Page>, Memory>
         requires { is_ended self.old ≡ false }
         ensures made { as_made self.new ≡ as_made self.old }
-        ensures page { IfOk result (λ o. MatchOption o
-            ((taken self.new ≡ taken self.old) × (is_ended self.new ≡ true))
-            (λ page. (taken self.new ≡ taken self.old ++ page.rows)
-            × (is_ended self.new ≡ false))) };
+        ensures page { IfOk result (λ o. MatchOption o (taken self.new ≡ taken self.old)
+            (λ page. taken self.new ≡ taken self.old ++ page.rows)) }
+        ensures ended { is_ended self.old ≡ true → is_ended self.new ≡ true }
+        ensures looks { looks self.new ≡ looks self.old }
+        ensures misses { misses self.new ≡ misses self.old }
+        ensures dues { (bell : ℕ) → dues self.new bell ≡ dues self.old bell };
 }
 
-/// Where the pages of a driver go to.
+/// Where the pages of a driver go to. What it does with them that may wait is apart from the pass.
 pub trait PageTarget {
-    // The rows that it was given so far.
-    ghost given: { Self → List Row };
+    // It was given these rows so far.
+    ghost gave: { Self → List Row → Type 0 };
 
-    // It without the rows that it was given.
-    ghost emptied: { Self → Self };
+    // It takes a page now.
+    ghost wants: { Self → Bool };
+
+    // It was told that no page comes any more.
+    ghost is_told: { Self → Bool };
+
+    // It was told, and has nothing left to do.
+    ghost is_finished: { Self → Bool };
+
+    // It as it was made.
+    ghost as_made: { Self → Self };
+
+    // What it tells of its looks.
+    ghost looks: { Self → Looks } = { λ _. no_looks };
+
+    // How often a bell was to be rung for what it did.
+    ghost dues: { Self → ℕ → ℕ } = { λ _ _. 0 };
+
+    /// Whether it takes a page now.
+    fn wants(&self) -> bool
+        ensures { result ≡ wants self.now };
+
+    /// Whether it was told that no page comes any more.
+    fn is_told(&self) -> bool
+        ensures { result ≡ is_told self.now };
+
+    /// Whether it was told, and has nothing left to do.
+    fn is_finished(&self) -> bool
+        ensures finished { result ≡ is_finished self.now }
+        ensures told { is_finished self.now ≡ true → is_told self.now ≡ true };
 
     /// Takes a page.
     fn put(&mut self, page: Page) -> Result<(), Memory>
-        ensures rows { IsOk result → given self.new ≡ given self.old ++ page.rows }
-        ensures same { IsOk result → emptied self.new ≡ emptied self.old };
+        requires { wants self.old ≡ true }
+        ensures rows { IsOk result → (Y : List Row) → gave self.old Y → gave self.new (Y ++ page.rows) }
+        ensures made { IsOk result → as_made self.new ≡ as_made self.old }
+        ensures told { IsOk result → is_told self.new ≡ is_told self.old }
+        ensures finished { IsOk result → is_finished self.new ≡ is_finished self.old }
+        ensures looks { looks self.new ≡ looks self.old }
+        ensures dues { IsOk result → (bell : ℕ) → dues self.new bell ≡ dues self.old bell };
+
+    /// Tells it that no page comes any more.
+    fn finish(&mut self)
+        ensures rows { (Y : List Row) → gave self.old Y → gave self.new Y }
+        ensures made { as_made self.new ≡ as_made self.old }
+        ensures told { is_told self.new ≡ true }
+        ensures looks { looks self.new ≡ looks self.old }
+        ensures dues { (bell : ℕ) → dues self.new bell ≡ dues self.old bell };
+
+    /// Does what is to be done with the pages that it took and, once it was told, what ends it, and rings for
+    /// it. Answers where it has to wait for that.
+    fn ready<R: Threads + Wait + Sync, B: Bells>(
+        &mut self,
+        rt: &R,
+        bells: &mut B,
+    ) -> Result<Option<BlockedOn>, Memory>
+        ensures rows { IsOk result → (Y : List Row) → gave self.old Y → gave self.new Y }
+        ensures made { IsOk result → as_made self.new ≡ as_made self.old }
+        ensures told { IsOk result → is_told self.new ≡ is_told self.old }
+        ensures untold { IsOk result → is_told self.old ≡ false
+            → is_finished self.new ≡ is_finished self.old }
+        ensures answer { IfOk result (λ waits. IfSome waits (HasWaited (looks self.old) (looks self.new)
+            (B.shown bells.new))) }
+        ensures unfinished { IfOk result (λ waits. IfSome waits (λ _. is_finished self.new ≡ false)) }
+        ensures looks { (looks self.old).in_vain ≤ (looks self.new).in_vain }
+        ensures bells { (bell count : ℕ) → B.shown bells.old bell count
+            → B.shown bells.new bell count }
+        ensures rang { IsOk result → (bell times : ℕ)
+            → B.rang bells.old bell (times + dues self.old bell)
+            → B.rang bells.new bell (times + dues self.new bell) };
 }

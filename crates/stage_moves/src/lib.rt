@@ -16,8 +16,9 @@
 //!
 //! - `typed_operator`: `TypedOperator`, an operator that knows the types of the rows that it expects
 //! - `moves`: the moves
-//! - `ends`: `PageSource` and `PageTarget`, where pages come from and go to
-//! - `one_pass`: one pass over all stages. `Passed` (`specs/Passes.antt`) says that what the stages took and
+//! - `ends`: `PageSource` and `PageTarget`, where pages come from and go to. What may wait at an end is a call of
+//!   its own, apart from the pass (`specs/Looks.antt`)
+//! - `one_pass`: one pass over all stages, up to the page that comes out for the target. `Passed` (`specs/Passes.antt`) says that what the stages took and
 //!   gave goes on as what the source gave and the target was given
 #![tactic(auto)]
 
@@ -26,7 +27,7 @@ mod moves;
 mod one_pass;
 mod typed_operator;
 
-pub use ends::{PageSource, PageTarget};
+pub use ends::{PageSource, PageTarget, Ready};
 pub use moves::{are_finished, drain, feed, move_page, pass_end, takes_input};
-pub use one_pass::{give_page, move_pages, pass, take_page};
+pub use one_pass::{Passing, give_page, move_pages, pass, take_page};
 pub use typed_operator::TypedOperator;

@@ -1,12 +1,12 @@
 //! The moves of a driver. A driver keeps `Linked` and `ToldInTurn` of its stages over each of them.
-ghost use Rattle.std.specs.Prelude.{◌≡◌, ◌+◌, ◌<◌, ◌≤◌, ◌++◌, ℕ, List, [], true, length, map, IfOk, OnOk};
+ghost use Rattle.std.specs.Prelude.{◌≡◌, ◌+◌, ◌<◌, ◌≤◌, ◌++◌, ℕ, List, [], true, false, None, length, map, IfOk, OnOk};
 ghost use Rattle.sql_values.specs.declared.fail.Fail.{Fail as Kind};
 ghost use Rattle.col_pages.specs.Pages.{most_rows};
 ghost use Rattle.operator_core.specs.Answers.{NotMemory, gave};
 ghost use Rattle.operator_core.specs.Rows.{Row};
 ghost use Rattle.operator_core.specs.Stages.{Linked, ToldInTurn, last_finished, giver_finished};
 ghost use Rattle.stage_moves.specs.Counts.{Counted};
-ghost use Rattle.stage_moves.specs.Moves.{Moved, SomeFails, first_needs};
+ghost use Rattle.stage_moves.specs.Moves.{Moved, SomeFails, first_needs, takes_page};
 ghost use Rattle.stage_moves.specs.Places.{AllStay};
 
 use crate::typed_operator::TypedOperator;
@@ -14,13 +14,16 @@ use col_pages::Page;
 use operator_core::OpFault;
 use operator_core::stage::{give_out, take_in, tell};
 
-/// Whether a page of the source can be fed now.
-pub fn takes_input<S: TypedOperator>(stages: &[S]) -> bool
-    ensures { result ≡ first_needs S.Operator stages.now }
+/// Whether a page of the source can be taken now: the first stage takes one or, where there is no stage, the
+/// target wants one.
+pub fn takes_input<S: TypedOperator>(stages: &[S], wants: bool) -> bool
+    ensures takes { result ≡ takes_page S.Operator wants stages.now }
+    ensures needs { result ≡ true → first_needs S.Operator stages.now ≡ true }
+    ensures some { result ≡ true → wants ≡ false → 0 < length stages.now }
 {
     match stages.first() {
         Some(stage) => stage.needs_input(),
-        None => true,
+        None => wants,
     }
 }
 
@@ -53,6 +56,7 @@ pub fn feed<S: TypedOperator>(stages: &mut Vec<S>, page: Page) -> Result<Option<
         → Moved S.Operator stages.old.items stages.new.items page.rows (gave result) }
     ensures counts { OnOk result ((X Y : List Row) → Counted S.Operator stages.old.items
         stages.new.items X (X ++ page.rows) Y (Y ++ gave result) (length page.rows)) }
+    ensures none { 0 < length stages.old.items → IfOk result (λ o. o ≡ None) }
     ensures fault { (node : ℕ) (kind : Kind) → result ≡ Err (OpFault.Expr node kind)
         → SomeFails S.Operator stages.new.items node kind }
 {

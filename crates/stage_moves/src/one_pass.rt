@@ -1,53 +1,61 @@
-//! One pass over the stages of a driver: a page comes from the source, pages move on, and one goes to the
-//! target.
-ghost use Rattle.std.specs.Prelude.{◌≡◌, ◌+◌, ◌<◌, ◌≤◌, ℕ, List, Bool, true, false, length, IfOk};
+//! One pass over the stages of a driver: a page comes from the source, pages move on, and one comes out for
+//! the target.
+ghost use Rattle.std.specs.Prelude.{◌≡◌, ◌+◌, ◌++◌, ◌<◌, ◌≤◌, ℕ, List, Bool, true, false, None, Ok, length, IfOk};
 ghost use Rattle.sql_values.specs.declared.fail.Fail.{Fail as Kind};
 ghost use Rattle.col_pages.specs.Pages.{most_rows};
 ghost use Rattle.operator_core.specs.Rows.{Row};
-ghost use Rattle.operator_core.specs.Answers.{NotMemory};
+ghost use Rattle.operator_core.specs.Answers.{NotMemory, gave};
 ghost use Rattle.stage_moves.specs.Counts.{Counted};
 ghost use Rattle.stage_moves.specs.Moves.{SomeFails};
 ghost use Rattle.stage_moves.specs.Passes.{Passed};
+ghost use Rattle.stage_moves.specs.Outs.{rows_out};
 
-use crate::ends::{PageSource, PageTarget};
+use crate::ends::PageSource;
 use crate::moves::{drain, feed, move_page, pass_end, takes_input};
 use crate::typed_operator::TypedOperator;
+use col_pages::Page;
 use operator_core::OpFault;
 
-/// Feeds a page of the source, where there is one and the first stage takes it. Answers its number of rows.
-pub fn take_page<I: PageSource, S: TypedOperator, T: PageTarget>(
+/// What a pass moved: how many rows entered a stage or go to the target, and the page that goes there.
+#[derive(Drop)]
+pub struct Passing {
+    pub rows: u64,
+    pub out: Option<Page>,
+}
+
+/// Feeds a page of the source, where there is one and the first stage takes it. Without a stage the page goes
+/// to the target, where that wants one.
+pub fn take_page<I: PageSource, S: TypedOperator>(
     source: &mut I,
     stages: &mut Vec<S>,
-    target: &mut T,
-) -> Result<u32, OpFault>
-    ensures passed { NotMemory result → Passed S.Operator stages.old.items stages.new.items
-        (I.taken source.old) (I.taken source.new) (T.given target.old) (T.given target.new)
+    wants: bool,
+) -> Result<Passing, OpFault>
+    ensures passed { NotMemory result → (Y : List Row) → Passed S.Operator stages.old.items
+        stages.new.items (I.taken source.old) (I.taken source.new) Y (Y ++ rows_out result)
         (I.is_ended source.old) (I.is_ended source.new) }
-    ensures counts { IfOk result (λ rows. Counted S.Operator stages.old.items stages.new.items
-        (I.taken source.old) (I.taken source.new) (T.given target.old) (T.given target.new) rows) }
-    ensures source { I.as_made source.new ≡ I.as_made source.old }
-    ensures target { NotMemory result → T.emptied target.new ≡ T.emptied target.old }
-    ensures few { IfOk result (λ rows. rows ≤ most_rows) }
+    ensures counts { IfOk result (λ p. (Y : List Row) → Counted S.Operator stages.old.items
+        stages.new.items (I.taken source.old) (I.taken source.new) Y (Y ++ rows_out (Ok p)) p.rows) }
+    ensures made { I.as_made source.new ≡ I.as_made source.old }
+    ensures looks { I.looks source.new ≡ I.looks source.old }
+    ensures misses { I.misses source.new ≡ I.misses source.old }
+    ensures dues { (bell : ℕ) → I.dues source.new bell ≡ I.dues source.old bell }
+    ensures few { IfOk result (λ p. p.rows ≤ most_rows) }
+    ensures out { wants ≡ false → IfOk result (λ p. p.out ≡ None) }
     ensures fault { (node : ℕ) (kind : Kind) → result ≡ Err (OpFault.Expr node kind)
         → SomeFails S.Operator stages.new.items node kind }
 {
-    if source.is_ended() || !takes_input(stages) {
-        return Ok(0);
+    if source.is_ended() || !takes_input(stages, wants) {
+        return Ok(Passing { rows: 0, out: None });
     }
     let page = match source.take() {
         Ok(Some(page)) => page,
-        Ok(None) => return Ok(0),
+        Ok(None) => return Ok(Passing { rows: 0, out: None }),
         Err(_) => return Err(OpFault::Memory),
     };
-    let rows = page.len();
-    let past = match feed(stages, page) {
-        Ok(Some(page)) => page,
-        Ok(None) => return Ok(rows),
-        Err(fault) => return Err(fault),
-    };
-    match target.put(past) {
-        Ok(()) => Ok(rows),
-        Err(_) => Err(OpFault::Memory),
+    let rows = u64::from(page.len());
+    match feed(stages, page) {
+        Ok(out) => Ok(Passing { rows, out }),
+        Err(fault) => Err(fault),
     }
 }
 
@@ -102,68 +110,95 @@ pub fn move_pages<S: TypedOperator>(
     Ok(moved)
 }
 
-/// Gives a page of the last stage to the target, where there is one. Answers its number of rows.
-pub fn give_page<S: TypedOperator, T: PageTarget>(
-    stages: &mut Vec<S>,
-    target: &mut T,
-) -> Result<u32, OpFault>
-    ensures passed { NotMemory result → (X : List Row) (ended : Bool)
-        → Passed S.Operator stages.old.items stages.new.items X X (T.given target.old)
-        (T.given target.new) ended ended }
-    ensures counts { IfOk result (λ rows. (X : List Row) → Counted S.Operator stages.old.items
-        stages.new.items X X (T.given target.old) (T.given target.new) rows) }
-    ensures target { NotMemory result → T.emptied target.new ≡ T.emptied target.old }
-    ensures few { IfOk result (λ rows. rows ≤ most_rows) }
-    ensures fault { (node : ℕ) (kind : Kind) → result ≡ Err (OpFault.Expr node kind)
-        → SomeFails S.Operator stages.new.items node kind }
+/// How many rows a page has that goes to the target.
+fn out_len(out: &Option<Page>) -> u64
+    ensures len { result ≡ length (gave (Ok out.now)) }
+    ensures few { result ≤ most_rows }
 {
-    let page = match drain(stages) {
-        Ok(Some(page)) => page,
-        Ok(None) => return Ok(0),
-        Err(fault) => return Err(fault),
-    };
-    let rows = page.len();
-    match target.put(page) {
-        Ok(()) => Ok(rows),
-        Err(_) => Err(OpFault::Memory),
+    match out {
+        Some(page) => u64::from(page.len()),
+        None => 0,
     }
 }
 
-/// A page of the source is fed, pages move on, and one goes to the target. No move begins once `room` rows were
-/// moved. Answers how many rows it moved.
-pub fn pass<I: PageSource, S: TypedOperator, T: PageTarget>(
-    source: &mut I,
-    stages: &mut Vec<S>,
-    target: &mut T,
-    room: u32,
-) -> Result<u64, OpFault>
-    ensures passed { NotMemory result → Passed S.Operator stages.old.items stages.new.items
-        (I.taken source.old) (I.taken source.new) (T.given target.old) (T.given target.new)
-        (I.is_ended source.old) (I.is_ended source.new) }
-    ensures counts { IfOk result (λ rows. Counted S.Operator stages.old.items stages.new.items
-        (I.taken source.old) (I.taken source.new) (T.given target.old) (T.given target.new) rows) }
-    ensures source { I.as_made source.new ≡ I.as_made source.old }
-    ensures target { NotMemory result → T.emptied target.new ≡ T.emptied target.old }
-    ensures few { 0 < room → IfOk result (λ rows. rows < room + most_rows) }
+/// The page that the last stage gives, where there is one and the target wants it.
+pub fn give_page<S: TypedOperator>(stages: &mut Vec<S>, wants: bool) -> Result<Passing, OpFault>
+    ensures passed { NotMemory result → (X Y : List Row) (ended : Bool)
+        → Passed S.Operator stages.old.items stages.new.items X X Y (Y ++ rows_out result)
+        ended ended }
+    ensures counts { IfOk result (λ p. (X Y : List Row) → Counted S.Operator stages.old.items
+        stages.new.items X X Y (Y ++ rows_out (Ok p)) p.rows) }
+    ensures few { IfOk result (λ p. p.rows ≤ most_rows) }
+    ensures out { wants ≡ false → IfOk result (λ p. p.out ≡ None) }
     ensures fault { (node : ℕ) (kind : Kind) → result ≡ Err (OpFault.Expr node kind)
         → SomeFails S.Operator stages.new.items node kind }
 {
-    let taken = match take_page(source, stages, target) {
-        Ok(rows) => rows,
+    if !wants {
+        return Ok(Passing { rows: 0, out: None });
+    }
+    match drain(stages) {
+        Ok(out) => Ok(Passing {
+            rows: out_len(&out),
+            out,
+        }),
+        Err(fault) => Err(fault),
+    }
+}
+
+/// A page of the source is fed, pages move on, and one comes out for the target, where that wants one. No move
+/// begins once `room` rows were moved.
+pub fn pass<I: PageSource, S: TypedOperator>(
+    source: &mut I,
+    stages: &mut Vec<S>,
+    wants: bool,
+    room: u32,
+) -> Result<Passing, OpFault>
+    ensures passed { NotMemory result → (Y : List Row) → Passed S.Operator stages.old.items
+        stages.new.items (I.taken source.old) (I.taken source.new) Y (Y ++ rows_out result)
+        (I.is_ended source.old) (I.is_ended source.new) }
+    ensures counts { IfOk result (λ p. (Y : List Row) → Counted S.Operator stages.old.items
+        stages.new.items (I.taken source.old) (I.taken source.new) Y (Y ++ rows_out (Ok p)) p.rows) }
+    ensures made { I.as_made source.new ≡ I.as_made source.old }
+    ensures looks { I.looks source.new ≡ I.looks source.old }
+    ensures misses { I.misses source.new ≡ I.misses source.old }
+    ensures dues { (bell : ℕ) → I.dues source.new bell ≡ I.dues source.old bell }
+    ensures few { 0 < room → IfOk result (λ p. p.rows < room + most_rows) }
+    ensures out { wants ≡ false → IfOk result (λ p. p.out ≡ None) }
+    ensures fault { (node : ℕ) (kind : Kind) → result ≡ Err (OpFault.Expr node kind)
+        → SomeFails S.Operator stages.new.items node kind }
+{
+    let Passing { rows: taken, out } = match take_page(source, stages, wants) {
+        Ok(taken) => taken,
         Err(fault) => return Err(fault),
     };
-    if taken >= room {
-        return Ok(u64::from(taken));
+    match out {
+        Some(page) => return Ok(Passing {
+            rows: taken,
+            out: Some(page),
+        }),
+        None => {}
     }
-    let moved = match move_pages(stages, source.is_ended(), room - taken) {
-        Ok(rows) => rows + u64::from(taken),
+    if taken >= u64::from(room) {
+        return Ok(Passing {
+            rows: taken,
+            out: None,
+        });
+    }
+    let moved = match move_pages(stages, source.is_ended(), room - taken as u32) {
+        Ok(rows) => rows + taken,
         Err(fault) => return Err(fault),
     };
     if moved >= u64::from(room) {
-        return Ok(moved);
+        return Ok(Passing {
+            rows: moved,
+            out: None,
+        });
     }
-    match give_page(stages, target) {
-        Ok(rows) => Ok(moved + u64::from(rows)),
+    match give_page(stages, wants) {
+        Ok(given) => Ok(Passing {
+            rows: moved + given.rows,
+            out: given.out,
+        }),
         Err(fault) => Err(fault),
     }
 }

@@ -46,7 +46,7 @@ use Rattle.task_executor.proofs.StandLemmas.{Stands, all_taken, stand}
 -- a target that keeps rows keeps those that it was given
 kept_given : (target : Target) → IsResult target → rows_kept target ≡ rows_given target
 kept_given (Build b) is = absurd is
-kept_given (Kept rows own) is = refl
+kept_given (Kept result) is = refl
 
 module _ (plan : PlanForm) (tables : Tables) (laws : IsLawful ghosts) (before drivers : List DriverState) (rows : List Row)
     (net : IsNetOf plan tables before) (later : AreLater before drivers) (whole : AreWholeDrivers drivers) (still : AreStill drivers rows) where

@@ -40,8 +40,8 @@ made_cells (Probe op types) = refl
 -- a target that keeps rows keeps rows later on too
 result_later : (before after : Target) → IsResult before → target_made after ≡ target_made before → IsResult after
 result_later (Build b) after is same = absurd is
-result_later (Kept rows own) (Build b) is same = absurd cc
-result_later (Kept rows own) (Kept now types) is same = tt
+result_later (Kept result) (Build b) is same = absurd cc
+result_later (Kept result) (Kept now) is same = tt
 
 module _ (names : Names) where
   abbrev Holds : ℕ × ℕ → Type 0
@@ -85,10 +85,10 @@ module _ (names : Names) where
 
   result_named : (target : Target) → IsResult target → All Holds (target_cell target)
   result_named (Build b) is = absurd is
-  result_named (Kept rows own) is = All-nil Holds
+  result_named (Kept result) is = All-nil Holds
 
   build_named : (bell : ℕ) (keys : List ℕ) (types : List SqlType) (target : Target) → BuildsFor names bell keys types target → All Holds (target_cell target)
-  build_named bell keys types (Kept rows own) builds = absurd builds
+  build_named bell keys types (Kept result) builds = absurd builds
   build_named bell keys types (Build b) builds = All-cons Holds (b.bell, b.note.cell) [] (builds.1 ∙ ap names (sym builds.0)) (All-nil Holds)
 
   module _ (tables : Tables) where

@@ -155,8 +155,8 @@ module _ (names : Names) where
   build_on build now same = cc
 
   builds_on : (bell : ℕ) (keys : List ℕ) (types : List SqlType) (before after : Target) → BuildsFor names bell keys types before → target_made after ≡ target_made before → BuildsFor names bell keys types after
-  builds_on bell keys types (Result rows own) after builds same = absurd builds
-  builds_on bell keys types (Build build) (Result rows own) builds same = absurd cc
+  builds_on bell keys types (Result result) after builds same = absurd builds
+  builds_on bell keys types (Build build) (Result result) builds same = absurd cc
   builds_on bell keys types (Build build) (Build now) builds same =
       let made = build_on build now same in (
         ap (λ (b : BuildState). b.bell) made ∙ builds.0,

@@ -36,7 +36,7 @@ stages_noted [] = refl
 stages_noted (s ∷ ss) = map-append cell_noted (note_of_stage s) (flat_map note_of_stage ss) ∙ (λ i. stage_noted s i ++ stages_noted ss i)
 
 target_noted : (t : Target) → map cell_noted (note_of_target t) ≡ target_cell t
-target_noted (Result rows own) = refl
+target_noted (Result result) = refl
 target_noted (Build b) = refl
 
 named_notes : (names : Names) (notes : List CellNote) → All (λ (c : ℕ × ℕ). c.1 ≡ names c.0) (map cell_noted notes) → All (λ (n : CellNote). n.note.cell ≡ names n.bell) notes

@@ -91,7 +91,7 @@ pub record IsBuild (names : Names) (bell : ℕ) (keys : List ℕ) (types : List 
 
 build_is : (names : Names) (bell : ℕ) (keys : List ℕ) (types : List SqlType) (done : Bool) (target : Target) → BuildsFor names bell keys types target → IsBuiltAs done target
     → IsBuild names bell keys types done target
-build_is names bell keys types done (Result rows own) builds built = absurd builds
+build_is names bell keys types done (Result result) builds built = absurd builds
 build_is names bell keys types done (Build build) builds built =
     record { build = build; is = refl; rings = builds.0; keyed = builds.2; typed = builds.3; known = built.2 }
 

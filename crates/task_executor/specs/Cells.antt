@@ -27,7 +27,7 @@ cell_of (Probe op types) = (op.bell, op.note.cell) ∷ []
 
 -- and of the one in which a target publishes
 abbrev pub target_cell : Target → List (ℕ × ℕ)
-target_cell (Result rows types) = []
+target_cell (Result result) = []
 target_cell (Build b) = (b.bell, b.note.cell) ∷ []
 
 abbrev pub cells_of : DriverState → List (ℕ × ℕ)

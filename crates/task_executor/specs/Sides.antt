@@ -56,11 +56,11 @@ pub record RunsPipeline (names : Names) (tables : Tables) (run : RunPlan) (bells
 
 -- the target builds what is looked up by these columns, in the cell of this bell
 abbrev pub BuildsFor : Names → ℕ → List ℕ → List SqlType → Target → Type 0
-BuildsFor names bell keys types (Result rows own) = ⊥
+BuildsFor names bell keys types (Result result) = ⊥
 BuildsFor names bell keys types (Build b) = (b.bell ≡ bell) × (b.note.cell ≡ names bell) × (b.source.keys ≡ keys) × (b.source.types ≡ types)
 
 abbrev pub IsResult : Target → Type 0
-IsResult (Result rows own) = Unit {0}
+IsResult (Result result) = Unit {0}
 IsResult (Build b) = ⊥
 
 -- one of the drivers is that of a join's right side, those before it are of its left side, and those behind it of

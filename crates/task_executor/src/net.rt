@@ -14,8 +14,7 @@ use crate::shape::Shape;
 use crate::sides::add_sides;
 use crate::source::source_of;
 use crate::wiring::{Wiring, root_of};
-use driver_loop::{Driver, Target};
-use operator_core::HeldPages;
+use driver_loop::{Driver, ResultTarget, Target};
 use plan_reader::Plan;
 use sql_values::{Memory, Table};
 use std::alloc::Global;
@@ -71,7 +70,7 @@ impl<'w> Net<'w> {
         let cells = cells.as_slice();
         let source = source_of(alloc, tables, source_below(root), shape, own)?;
         let pipeline = Pipeline::of(alloc, root, cells, shape.page)?;
-        let target = Target::Result(HeldPages::new(alloc), pipeline.types);
+        let target = Target::Result(ResultTarget::new(alloc, pipeline.types));
         let mut drivers = Vec::new(alloc);
         drivers.push(Driver::new(alloc, 0, source, pipeline.stages, target)?)?;
         add_sides(alloc, tables, root, cells, claims, shape, &mut drivers)?;

@@ -15,6 +15,8 @@ pub(crate) struct StillBells {
 impl Bells for StillBells {
     ghost shown = { λ bells bell count. Unit {0} };
 
+    ghost rang = { λ _ _ _. Unit {0} };
+
     fn seen<R: Threads + Wait + Sync>(&mut self, _rt: &R, _bell: u32) -> u64 {
         0
     }

@@ -9,6 +9,7 @@ loop-place-init g c = record {
   went = λ X Y ended. WentOn-none g.S.Operator c.args.stages.now.items X Y ended;
   counts = λ X Y. Counted-none g.S.Operator c.args.stages.now.items X X Y refl;
   bells = λ bell count shown. shown;
+  rang = λ bell times rang. rang;
 }
 
 pub returns-in-Ok-Some-clause-went : goal.returns-in-Ok-Some-clause-went
@@ -29,4 +30,5 @@ loop-place-preserved g c = record {
   went = λ X Y ended. WentOn-then g.S.Operator _ _ _ X X X Y Y Y ended ended ended (c.loop-place.invariant.went X Y ended) ((c.in-Ok-None.ensures).went refl X Y ended);
   counts = λ X Y. Counted-after g.S.Operator _ _ _ X X Y Y 0 (c.loop-place.invariant.counts X Y) ((c.in-Ok-None.ensures).counts refl X Y);
   bells = λ bell count shown. (c.in-Ok-None.ensures).bells bell count (c.loop-place.invariant.bells bell count shown);
+  rang = λ bell times rang. (c.in-Ok-None.ensures).rang bell times (c.loop-place.invariant.rang bell times rang);
 }

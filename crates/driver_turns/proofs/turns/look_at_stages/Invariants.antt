@@ -10,4 +10,5 @@ invariant-loop-place g l = record {
   went : (X Y : List Row) (ended : Bool) → WentOn g.S.Operator l.fn.stages.items l.stages.items X X Y Y ended ended;
   counts : (X Y : List Row) → Counted g.S.Operator l.fn.stages.items l.stages.items X X Y Y 0;
   bells : (bell count : ℕ) → g.B.Bells.shown l.fn.bells bell count → g.B.Bells.shown l.bells bell count;
+  rang : (bell times : ℕ) → g.B.Bells.rang l.fn.bells bell times → g.B.Bells.rang l.bells bell times;
 }

@@ -1,31 +1,22 @@
-use Rattle.std.proofs.Common.{refl}
-use Rattle.stage_moves.proofs.CountLemmas.{Counted-after}
-use Rattle.stage_moves.proofs.MoveLemmas.{not-memory_err}
-use Rattle.driver_turns.proofs.TurnLemmas.{WentOn-step, Blocked-passed}
+use Rattle.std.proofs.Common.{refl, sym, ◌∙◌}
+use Rattle.stage_moves.proofs.PlaceLemmas.{AllLater-same}
+use Rattle.driver_turns.proofs.TurnLemmas.{WentOn-none, WentTo-looked, WorkedTo-none, RangDues-step}
 use Rattle.driver_turns.proofs.turns.step.Goals as goal
 
-pub returns-in-Err-pass-clause-went : goal.returns-in-Err-pass-clause-went
-returns-in-Err-pass-clause-went g c = λ ok. WentOn-step g.S.Operator _ _ _ _ _ _ _ _ _
-    ((c.in-Ok.ensures).went refl (g.I.PageSource.taken c.args.source.now) (g.T.PageTarget.given c.args.target.now) (g.I.PageSource.is_ended c.args.source.now))
-    ((c.in-Err-pass.ensures).passed (not-memory_err (Unit {0}) (Unit {0}) c.in-Err-pass.fault ok))
+pub returns-in-Ok-clause-went : goal.returns-in-Ok-clause-went
+returns-in-Ok-clause-went g c = λ _ Y given. WentTo-looked g.S.Operator _ _ _ _ _ Y _ _ ((c.in-Ok.ensures).rows refl Y given) (WentOn-none g.S.Operator _ _ Y _)
 
-pub returns-then-rows-gt0-clause-went : goal.returns-then-rows-gt0-clause-went
-returns-then-rows-gt0-clause-went g c = λ _. WentOn-step g.S.Operator _ _ _ _ _ _ _ _ _
-    ((c.in-Ok.ensures).went refl (g.I.PageSource.taken c.args.source.now) (g.T.PageTarget.given c.args.target.now) (g.I.PageSource.is_ended c.args.source.now))
-    ((c.in-Ok-pass.ensures).passed tt)
+pub returns-in-Ok-clause-worked : goal.returns-in-Ok-clause-worked
+returns-in-Ok-clause-worked g c = λ Y given. WorkedTo-none g.S.Operator _ _ _ Y _ _ ((c.in-Ok.ensures).rows refl Y given)
 
-pub returns-then-rows-gt0-clause-counts : goal.returns-then-rows-gt0-clause-counts
-returns-then-rows-gt0-clause-counts g c = Counted-after g.S.Operator _ _ _ _ _ _ _ _
-    ((c.in-Ok.ensures).counts refl (g.I.PageSource.taken c.args.source.now) (g.T.PageTarget.given c.args.target.now)) ((c.in-Ok-pass.ensures).counts)
+pub returns-in-Ok-clause-later : goal.returns-in-Ok-clause-later
+returns-in-Ok-clause-later g c = λ _. AllLater-same g.S.Operator _
 
-pub returns-clause-went : goal.returns-clause-went
-returns-clause-went g c = λ _. WentOn-step g.S.Operator _ _ _ _ _ _ _ _ _
-    ((c.in-Ok.ensures).went refl (g.I.PageSource.taken c.args.source.now) (g.T.PageTarget.given c.args.target.now) (g.I.PageSource.is_ended c.args.source.now))
-    ((c.in-Ok-pass.ensures).passed tt)
+pub returns-in-Ok-clause-told : goal.returns-in-Ok-clause-told
+returns-in-Ok-clause-told g c = λ _ was told. was (sym ((c.in-Ok.ensures).told refl) ∙ told)
 
-pub returns-clause-counts : goal.returns-clause-counts
-returns-clause-counts g c = Counted-after g.S.Operator _ _ _ _ _ _ _ _
-    ((c.in-Ok.ensures).counts refl (g.I.PageSource.taken c.args.source.now) (g.T.PageTarget.given c.args.target.now)) ((c.in-Ok-pass.ensures).counts)
-
-pub returns-clause-blocked : goal.returns-clause-blocked
-returns-clause-blocked g c = Blocked-passed g.S.Operator _ _ _ _ _ ((c.in-Ok-pass.ensures).passed tt).same ((c.in-Ok.ensures).blocked)
+pub returns-in-Ok-clause-rang : goal.returns-in-Ok-clause-rang
+returns-in-Ok-clause-rang g c = λ _. RangDues-step (g.B.Bells.rang c.args.bells.now) (g.B.Bells.rang c.args.bells.now) (g.B.Bells.rang c.ready.new.bells)
+    (g.I.PageSource.dues c.args.source.now) (g.I.PageSource.dues c.args.source.now) (g.I.PageSource.dues c.args.source.now)
+    (g.T.PageTarget.dues c.args.target.now) (g.T.PageTarget.dues c.args.target.now) (g.T.PageTarget.dues c.ready.new.self)
+    (λ bell times rang. rang) ((c.in-Ok.ensures).rang refl) (λ bell. refl) (λ bell. refl)

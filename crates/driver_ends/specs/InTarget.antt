@@ -1,0 +1,17 @@
+-- What a `PutTarget` keeps.
+use Rattle.std.specs.Prelude.{◌≡◌, ◌≤◌, [], false, All, length}
+use Rattle.std.specs.Vec.{vec_capacity}
+use Rattle.output_buffer.specs.Edges.{end_count}
+use Rattle.driver_ends.specs.Targets.{FitsKind, TargetState}
+use Rattle.driver_ends.specs.declared.put_target.PutTarget.TheInside.{Inside}
+
+abbrev pub target_view : Inside → TargetState
+target_view t = record { kind = t.kind; outlets = t.outlets.items; is_told = t.is_told }
+
+-- it has the outlets of its kind, and puts no End before it was told to
+pub record IsPutTarget (t : Inside) : Type 0 where
+  pub fits : FitsKind t.kind (length t.outlets.items)
+  pub early : t.is_told ≡ false → All (λ outlet. end_count outlet.seat.put ≡ 0) t.outlets.items
+  -- the room for the seats that a stop hands back
+  pub none : t.seats.items ≡ []
+  pub room : length t.outlets.items ≤ vec_capacity t.seats

@@ -1,0 +1,87 @@
+-- Targets over edges, as they are seen.
+use Rattle.std.specs.Prelude.{◌≡◌, ℕ, ◌<◌, ◌++◌, List, [], ◌∷◌, Bool, true, false, All, get_or, length, map, replicate, slice_index_or, sum_by}
+use Rattle.std.specs.List.{range_with_len}
+use Rattle.sql_values.specs.declared.value.Value.{Value}
+use Rattle.blocked.specs.declared.blocked_on.BlockedOn.{BlockedOn}
+use Rattle.bag_laws.specs.Buckets.{key_bucket, of_bucket}
+use Rattle.output_buffer.specs.Edges.{end_count}
+use Rattle.output_buffer.specs.Seats.{GatherPutState, rows_of_pieces}
+use Rattle.driver_ends.specs.declared.put_target.PutKind.{PutKind}
+use Rattle.driver_ends.specs.declared.put_target.PutKind.TheVariants.{One, Each, Hash}
+use Rattle.driver_ends.specs.Outlets.{IsClear, IsStuck, IsThrough, OutletState, outlet_dues, rows_sent}
+
+-- how it spreads its rows, its outlets, and whether it was told that no page comes any more
+pub record TargetState : Type 0 where
+  pub kind : PutKind
+  pub outlets : List OutletState
+  pub is_told : Bool
+
+-- how many outlets a target of this kind has
+abbrev pub FitsKind : PutKind → ℕ → Type 0
+FitsKind One outlets = outlets ≡ 1
+FitsKind Each outlets = 0 < outlets
+FitsKind (Hash by) outlets = outlets ≡ by.parts
+
+-- what each of so many outlets has of some rows: all of them, or those of its bucket, in their order
+abbrev pub sent_to : PutKind → ℕ → List (List Value) → List (List (List Value))
+sent_to One outlets rows = replicate outlets rows
+sent_to Each outlets rows = replicate outlets rows
+sent_to (Hash by) outlets rows = map (λ k. of_bucket (key_bucket by.parts by.columns) k rows) (range_with_len 0 outlets)
+
+-- each list with what is put behind it
+abbrev pub add_each : {X : Type 0} → List (List X) → List (List X) → List (List X)
+add_each [] more = []
+add_each (xs ∷ lists) [] = xs ∷ lists
+add_each (xs ∷ lists) (ys ∷ more) = (xs ++ ys) ∷ add_each lists more
+
+-- these are the rows that it was given: each outlet sent, or holds, what it has of them
+abbrev pub HasSent : TargetState → List (List Value) → Type 0
+HasSent t given = map rows_sent t.outlets ≡ sent_to t.kind (length t.outlets) given
+
+pub record Wants (t : TargetState) : Type 0 where
+  pub going : t.is_told ≡ false
+  pub clear : All IsClear t.outlets
+
+-- every outlet put all that it may
+abbrev pub AreThrough : TargetState → Type 0
+AreThrough t = All (IsThrough t.is_told) t.outlets
+
+-- it was told that no page comes any more, holds none, and put every End
+pub record IsFinished (t : TargetState) : Type 0 where
+  pub told : t.is_told ≡ true
+  pub through : All (IsThrough true) t.outlets
+
+abbrev pub dues_of : List OutletState → ℕ → ℕ
+dues_of outlets bell = sum_by (λ outlet. outlet_dues outlet bell) outlets
+
+-- how often this bell was to be rung for what it put
+abbrev pub dues : TargetState → ℕ → ℕ
+dues t bell = dues_of t.outlets bell
+
+-- one of its outlets is stuck
+pub record HasStuckOutlet (told : Bool) (old new : List OutletState) (on : BlockedOn) : Type 0 where
+  pub place : ℕ
+  pub before : OutletState
+  pub after : OutletState
+  pub there : place < length new
+  pub was : before ≡ get_or old place before
+  pub is : after ≡ get_or new place after
+  pub stuck : IsStuck told before after on
+
+-- what a seat put is what it has of the first of some rows
+pub record HasPutFirst (kind : PutKind) (outlets place : ℕ) (given : List (List Value)) (seat : GatherPutState) : Type 0 where
+  pub first : List (List Value)
+  pub rest : List (List Value)
+  pub whole : given ≡ first ++ rest
+  pub put : rows_of_pieces seat.put ≡ slice_index_or (sent_to kind outlets first) place []
+
+-- so it is of each of some seats
+abbrev pub HavePutFirst : PutKind → List (List Value) → List GatherPutState → Type 0
+HavePutFirst kind given seats =
+    (place : ℕ) (seat : GatherPutState) → place < length seats → seat ≡ get_or seats place seat →
+    HasPutFirst kind (length seats) place given seat
+
+-- seats that put all that they were given, and their Ends
+pub record HavePutAll (kind : PutKind) (given : List (List Value)) (seats : List GatherPutState) : Type 0 where
+  pub rows : map (λ seat. rows_of_pieces seat.put) seats ≡ sent_to kind (length seats) given
+  pub ends : All (λ seat. 0 < end_count seat.put) seats

@@ -1,0 +1,35 @@
+//! What a driver puts its pages into, and takes them from, where that is an edge.
+//!
+//! A target keeps a page that an edge has no room for, and a source keeps a page that nobody wants yet. Each has a
+//! call `ready`, apart from the calls that move pages: it reads the count of a bell, puts or takes, and rings the bells
+//! that are owed. What is promised:
+//!
+//! - What each edge of a target was given is what it has of the rows that came, in their order: all of them, or those
+//!   of its bucket (`HasSent`). No End goes before the last page of its edge, and none before the target was told
+//! - Where `ready` names a bell, it is that of an edge at which this call found no room, and the count is the one
+//!   that was read before. Nothing is lost then: the edge's page, or its End, is still to be put
+//! - For each piece that was put or taken the bell of its edge was rung once, of the bells that the call was given
+//! - The rows that a source handed on, with those of the page that it has, are what its seat took, in order
+//!   (`HasLocalTaken`, `HasRemoteTaken`). It is ended once every End that is meant for it was taken
+//! - A stop hands the seats back: what each put is what it has of the first of the rows that came, and of a target that
+//!   is finished all of them, and an End
+//!
+//! - `outlet`: one edge of a target (`specs/Outlets.antt`)
+//! - `put_target`: `PutTarget`, over one edge or several of many putters (`specs/Targets.antt`)
+//! - `deal_target`: `DealTarget`, over an edge of many takers, with an End for each of them (`specs/Deals.antt`)
+//! - `local_source`, `remote_source`: `LocalSource`, which ends with the End of the last putter, and `RemoteSource`, which
+//!   ends with its own End (`specs/Sources.antt`)
+//!
+//! That an edge ever has room again is not promised.
+#![tactic(auto)]
+
+mod deal_target;
+mod local_source;
+mod outlet;
+mod put_target;
+mod remote_source;
+
+pub use deal_target::DealTarget;
+pub use local_source::LocalSource;
+pub use put_target::{PutKind, PutTarget};
+pub use remote_source::RemoteSource;

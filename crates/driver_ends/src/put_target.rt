@@ -1,0 +1,262 @@
+//! What a driver puts its pages into where that is one edge or several.
+ghost use Rattle.std.specs.Prelude.{◌≡◌, ℕ, ◌+◌, ◌<◌, ◌≤◌, ◌++◌, ◌↔◌, [], true, false, All, IsTrue, IfOk, OnOk, OnErr, MatchOption, length, map, replicate};
+ghost use Rattle.sql_values.specs.declared.value.Value.{Value};
+ghost use Rattle.std.specs.Prelude.{List};
+ghost use Rattle.std.specs.Vec.{vec_capacity};
+ghost use Rattle.output_buffer.specs.Edges.{end_count};
+ghost use Rattle.driver_ends.specs.Outlets.{IsClear, IsThrough, outlet_kept, new_outlet, rows_sent};
+ghost use Rattle.driver_ends.specs.Targets.{AreThrough, FitsKind, HasSent, HasStuckOutlet, HavePutAll, HavePutFirst, IsFinished, Wants, add_each, dues, dues_of, sent_to};
+
+use crate::outlet::Outlet;
+use blocked::{Bells, BlockedOn};
+use col_pages::Page;
+use output_buffer::{GatherPut, Partitioner};
+use sql_values::Memory;
+use std::alloc::Global;
+use std::marker::Model;
+use std::sync::Wait;
+use std::thread::Threads;
+
+/// Which edges a page goes to.
+#[derive(Drop)]
+pub enum PutKind {
+    /// To the only one.
+    One,
+    /// To each, as a whole.
+    Each,
+    /// Each row to the edge of its bucket.
+    Hash(Partitioner),
+}
+
+/// Puts pages to one or several edges, and then one End to each. A page that an edge has no room for stays here,
+/// and no other page is taken before every edge took its own.
+#[derive(Drop)]
+pub struct PutTarget<'w> {
+    alloc: Global,
+    kind: PutKind,
+    outlets: Vec<Outlet<'w>>,
+    is_told: bool,
+    /// Room for the seats, so that a stop takes no memory.
+    seats: Vec<GatherPut<'w>>,
+}
+
+impl<'w> Model for PutTarget<'w> {
+    ghost use Rattle.driver_ends.specs.Targets.{TargetState};
+
+    ghost Value = { TargetState };
+
+    ghost use Rattle.driver_ends.specs.InTarget.{target_view, IsPutTarget};
+
+    ghost view = { target_view };
+
+    ghost invariant = { IsPutTarget };
+}
+
+impl<'w> PutTarget<'w> {
+    /// One over these seats, of which none has put anything. After `Memory` they are gone.
+    pub fn new(
+        alloc: Global,
+        kind: PutKind,
+        seats: Vec<GatherPut<'w>>,
+    ) -> Result<PutTarget<'w>, Memory>
+        requires fits { FitsKind kind (length seats.items) }
+        requires fresh { All (λ seat. seat.put ≡ []) seats.items }
+        ensures new { IfOk result (λ t. t ≡ record {
+          kind = kind;
+          outlets = map new_outlet seats.entry.items;
+          is_told = false;
+        }) }
+        ensures sent { IfOk result (λ t. HasSent t []) }
+    {
+        let room = Vec::with_capacity(alloc, seats.len())?;
+        let outlets = outlets_of(alloc, seats)?;
+        Ok(PutTarget {
+            alloc,
+            kind,
+            outlets,
+            is_told: false,
+            seats: room,
+        })
+    }
+
+    /// Whether it takes a page now.
+    pub fn wants(&self) -> bool
+        ensures { IsTrue result ↔ Wants self.now }
+    {
+        !self.is_told && are_clear(&self.outlets)
+    }
+
+    /// Takes a page in, for `ready` to put. What each outlet was given is then what it has of all rows that came,
+    /// in their order.
+    pub fn put(&mut self, page: Page) -> Result<(), Memory>
+        requires { Wants self.old }
+        ensures sent { OnOk result ((given : List (List Value)) → HasSent self.old given
+            → HasSent self.new (given ++ page.rows)) }
+        ensures rest { self.new ≡ record self.old { outlets = self.new.outlets } }
+        ensures seats { map (λ l. l.seat) self.new.outlets ≡ map (λ l. l.seat) self.old.outlets }
+        ensures lost { OnErr result (self.new ≡ self.old) }
+    {
+        let pages = pages_for(self.alloc, &self.kind, self.outlets.len(), page)?;
+        hold_all(&mut self.outlets, pages);
+        Ok(())
+    }
+
+    /// Tells it that no page comes any more.
+    pub fn finish(&mut self)
+        ensures { self.new ≡ record self.old { is_told = true } }
+    {
+        self.is_told = true;
+    }
+
+    pub fn is_told(&self) -> bool
+        ensures { result ≡ self.now.is_told }
+    {
+        self.is_told
+    }
+
+    /// Whether it was told to finish, and every edge has its pages and its End.
+    pub fn is_finished(&self) -> bool
+        ensures { IsTrue result ↔ IsFinished self.now }
+    {
+        self.is_told && have_put_ends(&self.outlets)
+    }
+
+    /// Puts what it holds and, once told to finish, an End to each edge behind its pages. Where an edge has no room
+    /// it stops there: the answer names the bell of that edge's free places, with the count that was read before the
+    /// put. Each piece rings the bell of its edge's pieces.
+    pub fn ready<R: Threads + Wait + Sync, B: Bells>(
+        &mut self,
+        rt: &R,
+        bells: &mut B,
+    ) -> Result<Option<BlockedOn>, Memory>
+        ensures sent { (given : List (List Value)) → HasSent self.old given → HasSent self.new given }
+        ensures rest { self.new ≡ record self.old { outlets = self.new.outlets } }
+        ensures kept { map (outlet_kept self.old.is_told) self.new.outlets
+            ≡ map (outlet_kept self.old.is_told) self.old.outlets }
+        ensures answer { IfOk result (λ on. MatchOption on (AreThrough self.new)
+            (λ on. HasStuckOutlet self.new.is_told self.old.outlets self.new.outlets on
+            × B.shown bells.new on.bell on.seen)) }
+        ensures bells { (bell count : ℕ) → B.shown bells.old bell count
+            → B.shown bells.new bell count }
+        ensures rang { OnOk result ((bell times : ℕ)
+            → B.rang bells.old bell (times + dues self.old bell)
+            → B.rang bells.new bell (times + dues self.new bell)) }
+    {
+        advance_all(rt, bells, &mut self.outlets, self.is_told)
+    }
+
+    /// Hands back its seats, wherever it stands, without taking memory.
+    pub fn stop(self) -> Vec<GatherPut<'w>>
+        ensures seats { result.items ≡ map (λ l. l.seat) self.entry.outlets }
+        ensures first { (given : List (List Value)) → HasSent self.entry given
+            → HavePutFirst self.entry.kind given result.items }
+        ensures all { IsFinished self.entry → (given : List (List Value)) → HasSent self.entry given
+            → HavePutAll self.entry.kind given result.items }
+    {
+        let PutTarget {
+            outlets,
+            mut seats,
+            ..
+        } = self;
+        give_back(outlets, &mut seats);
+        seats
+    }
+}
+
+fn outlets_of<'w>(alloc: Global, seats: Vec<GatherPut<'w>>) -> Result<Vec<Outlet<'w>>, Memory>
+    requires { All (λ seat. seat.put ≡ []) seats.items }
+    ensures { IfOk result (λ outlets. outlets.items ≡ map new_outlet seats.entry.items) }
+{
+    let mut outlets = Vec::with_capacity(alloc, seats.len())?;
+    for seat in seats {
+        outlets.push(Outlet::new(seat))?;
+    }
+    Ok(outlets)
+}
+
+fn give_back<'w>(outlets: Vec<Outlet<'w>>, seats: &mut Vec<GatherPut<'w>>)
+    requires none { seats.old.items ≡ [] }
+    requires room { length outlets.items ≤ vec_capacity seats.old }
+    ensures { seats.new.items ≡ map (λ l. l.seat) outlets.entry.items }
+{
+    for outlet in outlets {
+        seats.push_reserved(outlet.into_seat());
+    }
+}
+
+fn are_clear(outlets: &[Outlet<'_>]) -> bool
+    ensures { IsTrue result ↔ All IsClear outlets.now }
+{
+    outlets.iter().all(|outlet| outlet.is_clear())
+}
+
+fn have_put_ends(outlets: &[Outlet<'_>]) -> bool
+    ensures { IsTrue result ↔ All (IsThrough true) outlets.now }
+{
+    outlets.iter().all(|outlet| outlet.has_put_end())
+}
+
+/// What each of so many edges gets of a page.
+fn pages_for(alloc: Global, kind: &PutKind, outlets: usize, page: Page) -> Result<Vec<Page>, Memory>
+    requires { FitsKind kind.now outlets }
+    ensures { IfOk result (λ pages. map (λ p. p.rows) pages.items ≡ sent_to kind.now outlets page.rows) }
+{
+    match kind {
+        PutKind::One | PutKind::Each => copies_of(alloc, page, outlets),
+        PutKind::Hash(partitioner) => partitioner.split(alloc, &page),
+    }
+}
+
+/// The page so many times; the last is the page itself.
+fn copies_of(alloc: Global, page: Page, count: usize) -> Result<Vec<Page>, Memory>
+    requires { 0 < count }
+    ensures { IfOk result (λ pages. pages.items ≡ replicate count page) }
+{
+    let mut pages = Vec::with_capacity(alloc, count)?;
+    for _copy in 1..count {
+        let copy = page.copy(alloc)?;
+        pages.push(copy)?;
+    }
+    pages.push(page)?;
+    Ok(pages)
+}
+
+/// Gives each outlet its page.
+fn hold_all(outlets: &mut [Outlet<'_>], mut pages: Vec<Page>)
+    requires each { length pages.items ≡ length outlets.old }
+    requires clear { All IsClear outlets.old }
+    requires going { All (λ outlet. end_count outlet.seat.put ≡ 0) outlets.old }
+    ensures seats { map (λ l. l.seat) outlets.new ≡ map (λ l. l.seat) outlets.old }
+    ensures sent { map rows_sent outlets.new
+        ≡ add_each (map rows_sent outlets.old) (map (λ p. p.rows) pages.items) }
+{
+    while let Some(page) = pages.pop() {
+        let place = pages.len();
+        outlets[place].hold(page);
+    }
+}
+
+/// Puts what each outlet may, up to one whose edge is full.
+fn advance_all<R: Threads + Wait + Sync, B: Bells>(
+    rt: &R,
+    bells: &mut B,
+    outlets: &mut [Outlet<'_>],
+    is_told: bool,
+) -> Result<Option<BlockedOn>, Memory>
+    ensures kept { map (outlet_kept is_told) outlets.new ≡ map (outlet_kept is_told) outlets.old }
+    ensures answer { IfOk result (λ on. MatchOption on (All (IsThrough is_told) outlets.new)
+        (λ on. HasStuckOutlet is_told outlets.old outlets.new on
+        × B.shown bells.new on.bell on.seen)) }
+    ensures bells { (bell count : ℕ) → B.shown bells.old bell count
+        → B.shown bells.new bell count }
+    ensures rang { OnOk result ((bell times : ℕ)
+        → B.rang bells.old bell (times + dues_of outlets.old bell)
+        → B.rang bells.new bell (times + dues_of outlets.new bell)) }
+{
+    for place in 0..outlets.len() {
+        if let Some(on) = outlets[place].advance(rt, bells, is_told)? {
+            return Ok(Some(on));
+        }
+    }
+    Ok(None)
+}

@@ -1,5 +1,5 @@
 -- What a set answers, and what its note knows then.
-use Rattle.std.specs.Prelude.{◌≡◌, None, Some, Result, Ok, Err, IfSome}
+use Rattle.std.specs.Prelude.{◌≡◌, ℕ, None, Some, Result, Ok, Err, IfSome}
 use Rattle.set_once.specs.Counts.{next_count}
 use Rattle.set_once.specs.Notes.{NoteState}
 use Rattle.set_once.specs.declared.fault.SetFault.{SetFault}
@@ -9,11 +9,11 @@ use Rattle.set_once.specs.declared.fault.SetFault.TheVariants.{Refused, Memory}
 abbrev pub MayLearn : {T : Type 0} → NoteState T → T → Type 0
 MayLearn note x = IfSome note.known (λ y. y ≡ x)
 
--- the cell took the value; it refused, which was counted, and the note knows the value that it has;
--- or memory was wanting, and the note is as it was
-abbrev pub IsSet : {T : Type 0} → NoteState T → NoteState T → T → Result (Unit {0}) (SetFault T)
+-- the cell took the value; it refused, which was counted, and the note knows the value that it has and keeps the
+-- count that it was handed; or memory was wanting, and the note is as it was
+abbrev pub IsSet : {T : Type 0} → NoteState T → NoteState T → T → ℕ → Result (Unit {0}) (SetFault T)
     → Type 0
-IsSet old new value (Ok done) = (old.known ≡ None) × (new ≡ record old { known = Some value })
-IsSet {T} old new value (Err (Refused back)) = (back ≡ value) × ((x : T) × MayLearn old x
-    × (new ≡ record old { known = Some x; refused = next_count old.refused }))
-IsSet old new value (Err (Memory back)) = (back ≡ value) × (new ≡ old)
+IsSet old new value seen (Ok done) = (old.known ≡ None) × (new ≡ record old { known = Some value })
+IsSet {T} old new value seen (Err (Refused back)) = (back ≡ value) × ((x : T) × MayLearn old x
+    × (new ≡ record old { known = Some x; refused = next_count old.refused; looked_at = seen }))
+IsSet old new value seen (Err (Memory back)) = (back ≡ value) × (new ≡ old)

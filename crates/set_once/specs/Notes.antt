@@ -2,7 +2,7 @@
 use Rattle.std.specs.Prelude.{◌≡◌, ℕ, Option, None, IfSome}
 
 -- the cell's name; its value, once the note has seen it; how often, with this note, a set was refused
--- and a look found nothing; and the count that its last empty look was handed
+-- and a look found nothing; and the count that its last refused set or empty look was handed
 pub record NoteState (T : Type 0) : Type 0 where
   pub cell : ℕ
   pub known : Option T

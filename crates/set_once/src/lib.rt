@@ -3,7 +3,7 @@
 //! One driver makes a value, and others wait for it. `SetOnce` holds it: the first set stays, and each
 //! later one is refused and handed back. Who sets or looks passes a note of its own, which keeps what
 //! it learned: the value once it was seen, how often a set was refused, how often a look found nothing,
-//! and the count that the last such look was handed; no clause asks whose count that is. A note that
+//! and the count that the last such set or look was handed; no clause asks whose count that is. A note that
 //! knows the value never learns another, and all notes of one cell that know a value know the same one,
 //! whichever threads made them.
 //!

@@ -3,11 +3,12 @@ ghost use Rattle.std.specs.Prelude.{◌≡◌, ◌<◌, length};
 ghost use Rattle.output_buffer.specs.Edges.{end_count};
 
 use crate::numbered::numbered;
-use crate::pieces::{END, gathered, shared, told};
+use crate::pieces::{END, gathered, seen, shared, told};
 use output_buffer::{Gather, GatherPut, GatherTake, Piece, Spread, SpreadPut, SpreadTake};
 use sql_values::Memory;
 use std::alloc::Global;
 use std::sync::Wait;
+use std::thread::Threads;
 
 /// The bells of the edges here.
 const PIECE: u32 = 7;
@@ -15,7 +16,7 @@ const PIECE: u32 = 7;
 const SPACE: u32 = 8;
 
 /// Puts a page of one number.
-fn put_number<R: Wait>(
+fn put_number<R: Threads + Wait + Sync>(
     rt: &R,
     alloc: Global,
     put: &mut GatherPut<'_>,
@@ -25,12 +26,13 @@ fn put_number<R: Wait>(
     ensures { end_count put.new.put ≡ 0 }
 {
     let page = numbered(alloc, number)?;
-    Ok(told(alloc, put.put(rt, Piece::Rows(page))))
+    let seen = seen(rt, alloc, put.space_bell());
+    Ok(told(alloc, put.put(rt, seen, Piece::Rows(page))))
 }
 
 /// Whether an empty edge with room for one piece answers Empty, takes a piece, hands the next one back, gives the
 /// first, and is empty again.
-fn has_room_for_one<R: Wait>(
+fn has_room_for_one<R: Threads + Wait + Sync>(
     rt: &R,
     alloc: Global,
     put: &mut GatherPut<'_>,
@@ -56,15 +58,16 @@ fn a_gather_with_room_for_one_hands_the_second_piece_back(rt: HostRuntime) -> Re
 }
 
 /// Whether the put of an End rings.
-fn puts_its_end<R: Wait>(rt: &R, alloc: Global, put: &mut GatherPut<'_>) -> bool
+fn puts_its_end<R: Threads + Wait + Sync>(rt: &R, alloc: Global, put: &mut GatherPut<'_>) -> bool
     requires { end_count put.old.put ≡ 0 }
 {
     let end = Piece::End(put.number());
-    told(alloc, put.put(rt, end)) == Ok(PIECE)
+    let seen = seen(rt, alloc, put.space_bell());
+    told(alloc, put.put(rt, seen, end)) == Ok(PIECE)
 }
 
 /// Whether an End was taken, and the edge has ended so.
-fn takes_an_end<R: Wait>(
+fn takes_an_end<R: Threads + Wait + Sync>(
     rt: &R,
     alloc: Global,
     take: &mut GatherTake<'_>,
@@ -86,7 +89,7 @@ fn a_gather_ends_with_the_end_of_its_last_putter(rt: HostRuntime) -> Result<(), 
 }
 
 /// Puts a page of one number.
-fn spread_number<R: Wait>(
+fn spread_number<R: Threads + Wait + Sync>(
     rt: &R,
     alloc: Global,
     put: &mut SpreadPut<'_>,
@@ -96,11 +99,12 @@ fn spread_number<R: Wait>(
     ensures { end_count put.new.put ≡ 0 }
 {
     let page = numbered(alloc, number)?;
-    Ok(told(alloc, put.put(rt, Piece::Rows(page))))
+    let seen = seen(rt, alloc, put.space_bell());
+    Ok(told(alloc, put.put(rt, seen, Piece::Rows(page))))
 }
 
 /// The same of a spread, with an End at last.
-fn shares_room_for_one<R: Wait>(
+fn shares_room_for_one<R: Threads + Wait + Sync>(
     rt: &R,
     alloc: Global,
     put: &mut SpreadPut<'_>,
@@ -127,7 +131,7 @@ fn a_spread_with_room_for_one_hands_the_second_piece_back(rt: HostRuntime) -> Re
 }
 
 /// Whether each of two takers ends with an End of its own.
-fn ends_with_its_own<R: Wait>(
+fn ends_with_its_own<R: Threads + Wait + Sync>(
     rt: &R,
     alloc: Global,
     put: &mut SpreadPut<'_>,
@@ -137,8 +141,9 @@ fn ends_with_its_own<R: Wait>(
     requires takers { put.old.takers ≡ 2 }
     requires seats { length takes.old ≡ 2 }
 {
-    let first = told(alloc, put.put(rt, Piece::End(0))) == Ok(PIECE);
-    let second = told(alloc, put.put(rt, Piece::End(0))) == Ok(PIECE);
+    let seen = seen(rt, alloc, put.space_bell());
+    let first = told(alloc, put.put(rt, seen, Piece::End(0))) == Ok(PIECE);
+    let second = told(alloc, put.put(rt, seen, Piece::End(0))) == Ok(PIECE);
     let given = shared(rt, alloc, &mut takes[1]) == Some((END, SPACE));
     let is_one = takes[1].ended() & !takes[0].ended();
     let rest = shared(rt, alloc, &mut takes[0]) == Some((END, SPACE));

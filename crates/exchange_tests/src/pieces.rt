@@ -1,12 +1,13 @@
 //! Pieces of one row of one number, and what calls of seats answer.
 ghost use Rattle.std.specs.Prelude.{◌≡◌};
 
-use blocked::{Bell, Due};
+use blocked::{Bell, Bells, Due, ReadBell, Seen};
 use col_pages::Page;
 use output_buffer::{GatherTake, Piece, PutFault, SpreadTake, Took};
-use sql_values::ValueRef;
+use sql_values::{Memory, ValueRef};
 use std::alloc::Global;
 use std::sync::Wait;
+use std::thread::Threads;
 
 /// What stands for an End where numbers are told.
 pub(crate) const END: i64 = -1;
@@ -29,6 +30,35 @@ fn number_in(page: &Page) -> i64 {
     }
 }
 
+/// Bells that never rang.
+#[derive(Drop)]
+struct SilentBells {
+    alloc: Global,
+}
+
+impl Bells for SilentBells {
+    ghost shown = { λ _ _ _. Unit {0} };
+
+    ghost rang = { λ _ _ _. Unit {0} };
+
+    fn seen<R: Threads + Wait + Sync>(&mut self, _rt: &R, _bell: u32) -> u64 {
+        0
+    }
+
+    fn ring<R: Threads + Wait + Sync>(&mut self, _rt: &R, due: Due) -> Result<(), Memory> {
+        rung(self.alloc, due);
+        Ok(())
+    }
+}
+
+/// The count of a bell that never rang.
+pub(crate) fn seen<R: Threads + Wait + Sync>(rt: &R, alloc: Global, bell: u32) -> Seen
+    ensures { result.bell ≡ bell }
+{
+    let mut bells = SilentBells { alloc };
+    Seen::read(rt, &mut bells, bell)
+}
+
 /// Rings, and tells the bell.
 pub(crate) fn rung(alloc: Global, due: Due) -> u32 {
     let number = due.bell();
@@ -45,28 +75,30 @@ pub(crate) fn told(alloc: Global, answer: Result<Due, PutFault>) -> Result<u32, 
 }
 
 /// The number that a take gave, and the bell that rang.
-pub(crate) fn gathered<R: Wait>(
+pub(crate) fn gathered<R: Threads + Wait + Sync>(
     rt: &R,
     alloc: Global,
     take: &mut GatherTake<'_>,
 ) -> Option<(i64, u32)>
     ensures { take.new.edge ≡ take.old.edge }
 {
-    let Ok(Took { piece, due }) = take.take(rt) else {
+    let seen = seen(rt, alloc, take.piece_bell());
+    let Ok(Took { piece, due }) = take.take(rt, seen) else {
         return None;
     };
     Some((number_of(&piece), rung(alloc, due)))
 }
 
 /// The same of a spread.
-pub(crate) fn shared<R: Wait>(
+pub(crate) fn shared<R: Threads + Wait + Sync>(
     rt: &R,
     alloc: Global,
     take: &mut SpreadTake<'_>,
 ) -> Option<(i64, u32)>
     ensures { take.new.edge ≡ take.old.edge }
 {
-    let Ok(Took { piece, due }) = take.take(rt) else {
+    let seen = seen(rt, alloc, take.piece_bell());
+    let Ok(Took { piece, due }) = take.take(rt, seen) else {
         return None;
     };
     Some((number_of(&piece), rung(alloc, due)))

@@ -5,7 +5,7 @@ ghost use Rattle.output_buffer.specs.Edges.{end_count};
 ghost use Rattle.output_buffer.specs.Seats.{AreSpreadTakesOf, EdgeId, MaySpread};
 
 use crate::numbered::numbered;
-use crate::pieces::{rung, shared};
+use crate::pieces::{rung, seen, shared};
 use output_buffer::{Piece, PutFault, Spread, SpreadPut, SpreadTake, settle_spread, stop_spread};
 use sql_values::Memory;
 use std::alloc::{AllocError, Global};
@@ -17,7 +17,12 @@ use std::thread::{self, Threads};
 const PAGES: u32 = 1500;
 
 /// Puts a piece, as soon as there is room.
-fn put_surely<R: Wait>(rt: &R, alloc: Global, put: &mut SpreadPut<'_>, piece: Piece)
+fn put_surely<R: Threads + Wait + Sync>(
+    rt: &R,
+    alloc: Global,
+    put: &mut SpreadPut<'_>,
+    piece: Piece,
+)
     requires { MaySpread put.old piece }
     ensures put { put.new.put ≡ put.old.put ++ piece ∷ [] }
     ensures takers { put.new.takers ≡ put.old.takers }
@@ -25,7 +30,8 @@ fn put_surely<R: Wait>(rt: &R, alloc: Global, put: &mut SpreadPut<'_>, piece: Pi
 {
     let mut piece = piece;
     for _ in rt.forever() {
-        match put.put(rt, piece) {
+        let seen = seen(rt, alloc, put.space_bell());
+        match put.put(rt, seen, piece) {
             Ok(due) => {
                 rung(alloc, due);
                 return;
@@ -38,7 +44,11 @@ fn put_surely<R: Wait>(rt: &R, alloc: Global, put: &mut SpreadPut<'_>, piece: Pi
 }
 
 /// Puts a page of each of the numbers from 0.
-fn put_pages<R: Wait>(rt: &R, alloc: Global, put: &mut SpreadPut<'_>) -> Result<(), Memory>
+fn put_pages<R: Threads + Wait + Sync>(
+    rt: &R,
+    alloc: Global,
+    put: &mut SpreadPut<'_>,
+) -> Result<(), Memory>
     requires { end_count put.old.put ≡ 0 }
     ensures going { end_count put.new.put ≡ 0 }
     ensures takers { put.new.takers ≡ put.old.takers }
@@ -53,7 +63,7 @@ fn put_pages<R: Wait>(rt: &R, alloc: Global, put: &mut SpreadPut<'_>) -> Result<
 
 /// Puts an End for each taker.
 #[tactic(auto, using(crate::proofs::Ends::one_end_more))]
-fn put_ends<R: Wait>(rt: &R, alloc: Global, put: &mut SpreadPut<'_>)
+fn put_ends<R: Threads + Wait + Sync>(rt: &R, alloc: Global, put: &mut SpreadPut<'_>)
     requires { end_count put.old.put ≡ 0 }
     ensures edge { put.new.edge ≡ put.old.edge }
 {
@@ -62,7 +72,11 @@ fn put_ends<R: Wait>(rt: &R, alloc: Global, put: &mut SpreadPut<'_>)
     }
 }
 
-fn put_all<'e, R: Wait>(rt: &R, alloc: Global, mut put: SpreadPut<'e>) -> SpreadPut<'e>
+fn put_all<'e, R: Threads + Wait + Sync>(
+    rt: &R,
+    alloc: Global,
+    mut put: SpreadPut<'e>,
+) -> SpreadPut<'e>
     requires { end_count put.put ≡ 0 }
     ensures { result.edge ≡ put.entry.edge }
 {
@@ -80,11 +94,18 @@ fn put_each<'e, R: Threads + Wait + Sync>(
     requires { All (λ s. end_count s.put ≡ 0) puts.items }
     ensures { (edge : EdgeId) → All (λ s. s.edge ≡ edge) puts.entry.items → IfOk result (λ v. All (λ s. s.edge ≡ edge) v.items) }
 {
-    thread::map_vec(rt, puts, &|put| put_all(rt, alloc, put))
+    thread::map_vec(
+        rt,
+        puts,
+        &|put|
+            requires sync { IsSync R.row }
+            requires new { end_count put.put ≡ 0 }
+        { put_all(rt, alloc, put) },
+    )
 }
 
 /// Takes until an End was taken, and adds what it took to the total.
-fn take_all<'e, R: Wait>(
+fn take_all<'e, R: Threads + Wait + Sync>(
     rt: &R,
     alloc: Global,
     mut take: SpreadTake<'e>,

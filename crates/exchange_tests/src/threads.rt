@@ -5,7 +5,7 @@ ghost use Rattle.output_buffer.specs.Edges.{end_count};
 ghost use Rattle.output_buffer.specs.Seats.{AreGatherPutsOf, EdgeId, MayPut};
 
 use crate::numbered::numbered;
-use crate::pieces::{gathered, rung};
+use crate::pieces::{gathered, rung, seen};
 use output_buffer::{Gather, GatherPut, GatherTake, Piece, PutFault, settle_gather, stop_gather};
 use sql_values::Memory;
 use std::alloc::{AllocError, Global};
@@ -16,7 +16,12 @@ use std::thread::{self, Threads};
 const PAGES: u32 = 500;
 
 /// Puts a piece, as soon as there is room.
-fn put_surely<R: Wait>(rt: &R, alloc: Global, put: &mut GatherPut<'_>, piece: Piece)
+fn put_surely<R: Threads + Wait + Sync>(
+    rt: &R,
+    alloc: Global,
+    put: &mut GatherPut<'_>,
+    piece: Piece,
+)
     requires { MayPut put.old piece }
     ensures put { put.new.put ≡ put.old.put ++ piece ∷ [] }
     ensures number { put.new.number ≡ put.old.number }
@@ -24,7 +29,8 @@ fn put_surely<R: Wait>(rt: &R, alloc: Global, put: &mut GatherPut<'_>, piece: Pi
 {
     let mut piece = piece;
     for _ in rt.forever() {
-        match put.put(rt, piece) {
+        let seen = seen(rt, alloc, put.space_bell());
+        match put.put(rt, seen, piece) {
             Ok(due) => {
                 rung(alloc, due);
                 return;
@@ -37,7 +43,7 @@ fn put_surely<R: Wait>(rt: &R, alloc: Global, put: &mut GatherPut<'_>, piece: Pi
 }
 
 /// Puts a page of each of some numbers.
-fn put_pages<R: Wait>(
+fn put_pages<R: Threads + Wait + Sync>(
     rt: &R,
     alloc: Global,
     put: &mut GatherPut<'_>,
@@ -56,7 +62,11 @@ fn put_pages<R: Wait>(
 }
 
 /// Puts the putter's pages, and then its End.
-fn put_all<'e, R: Wait>(rt: &R, alloc: Global, mut put: GatherPut<'e>) -> GatherPut<'e>
+fn put_all<'e, R: Threads + Wait + Sync>(
+    rt: &R,
+    alloc: Global,
+    mut put: GatherPut<'e>,
+) -> GatherPut<'e>
     requires { end_count put.put ≡ 0 }
     ensures { result.edge ≡ put.entry.edge }
 {
@@ -76,7 +86,14 @@ fn put_each<'e, R: Threads + Wait + Sync>(
     requires { All (λ s. end_count s.put ≡ 0) puts.items }
     ensures { (edge : EdgeId) → AreGatherPutsOf edge puts.entry.items → IfOk result (λ v. AreGatherPutsOf edge v.items) }
 {
-    thread::map_vec(rt, puts, &|put| put_all(rt, alloc, put))
+    thread::map_vec(
+        rt,
+        puts,
+        &|put|
+            requires sync { IsSync R.row }
+            requires new { end_count put.put ≡ 0 }
+        { put_all(rt, alloc, put) },
+    )
 }
 
 /// A taker's seat, and the sum of the numbers that it took.
@@ -87,7 +104,11 @@ struct Gathered<'e> {
 }
 
 /// Takes until every End was taken.
-fn take_all<'e, R: Wait>(rt: &R, alloc: Global, mut take: GatherTake<'e>) -> Gathered<'e>
+fn take_all<'e, R: Threads + Wait + Sync>(
+    rt: &R,
+    alloc: Global,
+    mut take: GatherTake<'e>,
+) -> Gathered<'e>
     ensures { result.take.edge ≡ take.entry.edge }
 {
     let mut sum: i64 = 0;

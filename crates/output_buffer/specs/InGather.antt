@@ -24,6 +24,7 @@ gather_put_view s = record {
   number = s.number;
   put = (view s.pass).put;
   fulls = s.fulls;
+  looked_at = s.looked_at;
 }
 
 -- a putter may put pages until it put its End
@@ -40,6 +41,7 @@ gather_take_view s = record {
   putters = s.putters;
   took = (view s.pass).took;
   empties = s.empties;
+  looked_at = s.looked_at;
 }
 
 pub record IsGatherTake (s : taker.Inside) : Type 0 where

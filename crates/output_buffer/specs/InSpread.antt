@@ -24,6 +24,7 @@ spread_put_view s = record {
   takers = s.takers;
   put = (view s.pass).put;
   fulls = s.fulls;
+  looked_at = s.looked_at;
 }
 
 -- the putter may put pages until it put an End
@@ -40,6 +41,7 @@ spread_take_view s = record {
   edge = edge_of s.queue.now s.bells;
   took = (view s.pass).took;
   empties = s.empties;
+  looked_at = s.looked_at;
 }
 
 pub record IsSpreadTake (s : taker.Inside) : Type 0 where

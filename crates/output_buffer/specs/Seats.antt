@@ -25,29 +25,33 @@ pub record GatherState : Type 0 where
   pub putters : ℕ
   pub is_handed_out : Bool
 
--- the edge it is of, its number among the putters, what it put, in order, and how often it found no room
+-- the edge it is of, its number among the putters, what it put, in order, how often it found no room, and the count of
+-- the bell of free places that its last put in vain was handed
 pub record GatherPutState : Type 0 where
   pub edge : EdgeId
   pub number : ℕ
   pub put : List Piece
   pub fulls : ℕ
+  pub looked_at : ℕ
 
--- the edge it is of, how many putters that has, what it took, in order, and how often it found nothing
+-- the edge it is of, how many putters that has, what it took, in order, how often it found nothing, and the count of
+-- the bell of pieces that its last take in vain was handed
 pub record GatherTakeState : Type 0 where
   pub edge : EdgeId
   pub putters : ℕ
   pub took : List Piece
   pub empties : ℕ
+  pub looked_at : ℕ
 
 abbrev pub new_gather_put : EdgeId → ℕ → GatherPutState
-new_gather_put edge number = record { edge = edge; number = number; put = []; fulls = 0 }
+new_gather_put edge number = record { edge = edge; number = number; put = []; fulls = 0; looked_at = 0 }
 
 abbrev pub new_gather_puts : EdgeId → ℕ → List GatherPutState
 new_gather_puts edge zero = []
 new_gather_puts edge (suc putters) = new_gather_puts edge putters ++ new_gather_put edge putters ∷ []
 
 abbrev pub new_gather_take : EdgeId → ℕ → GatherTakeState
-new_gather_take edge putters = record { edge = edge; putters = putters; took = []; empties = 0 }
+new_gather_take edge putters = record { edge = edge; putters = putters; took = []; empties = 0; looked_at = 0 }
 
 -- a putter's own End
 abbrev pub HasOwnNumber : ℕ → Piece → Type 0
@@ -85,24 +89,28 @@ pub record SpreadState : Type 0 where
   pub takers : ℕ
   pub is_handed_out : Bool
 
--- the edge it is of, how many takers that has, what it put, in order, and how often it found no room
+-- the edge it is of, how many takers that has, what it put, in order, how often it found no room, and the count of
+-- the bell of free places that its last put in vain was handed
 pub record SpreadPutState : Type 0 where
   pub edge : EdgeId
   pub takers : ℕ
   pub put : List Piece
   pub fulls : ℕ
+  pub looked_at : ℕ
 
--- the edge it is of, what it took, in order, and how often it found nothing
+-- the edge it is of, what it took, in order, how often it found nothing, and the count of the bell of pieces that
+-- its last take in vain was handed
 pub record SpreadTakeState : Type 0 where
   pub edge : EdgeId
   pub took : List Piece
   pub empties : ℕ
+  pub looked_at : ℕ
 
 abbrev pub new_spread_put : EdgeId → ℕ → SpreadPutState
-new_spread_put edge takers = record { edge = edge; takers = takers; put = []; fulls = 0 }
+new_spread_put edge takers = record { edge = edge; takers = takers; put = []; fulls = 0; looked_at = 0 }
 
 abbrev pub new_spread_take : EdgeId → SpreadTakeState
-new_spread_take edge = record { edge = edge; took = []; empties = 0 }
+new_spread_take edge = record { edge = edge; took = []; empties = 0; looked_at = 0 }
 
 -- the putter puts pages and then one End for each taker
 abbrev pub MaySpread : SpreadPutState → Piece → Type 0

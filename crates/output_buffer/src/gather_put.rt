@@ -8,7 +8,7 @@ ghost use Rattle.output_buffer.specs.Seats.{HasOwnNumber, MayPut, edge_of, new_g
 
 use crate::edge::{EdgeBells, EdgePass, EdgeQueue, Puts};
 use crate::piece::{Piece, PutFault};
-use blocked::Due;
+use blocked::{Due, Seen};
 use std::marker::Model;
 use std::sync::Wait;
 
@@ -20,6 +20,7 @@ pub struct GatherPut<'e> {
     pub(crate) bells: EdgeBells,
     pub(crate) number: u32,
     fulls: u64,
+    looked_at: u64,
 }
 
 impl<'e> Model for GatherPut<'e> {
@@ -50,6 +51,7 @@ impl<'e> GatherPut<'e> {
             bells,
             number,
             fulls: 0,
+            looked_at: 0,
         }
     }
 
@@ -91,19 +93,26 @@ impl<'e> GatherPut<'e> {
     }
 
     /// Puts a piece at the back, in one atomic step, without taking memory. The due is of the bell that rings
-    /// when a piece came. Full comes only where the edge held its room at one moment of the call.
-    pub fn put<R: Wait>(&mut self, rt: &R, piece: Piece) -> Result<Due, PutFault>
-        requires { MayPut self.old piece }
+    /// when a piece came. Full comes only where the edge held its room at one moment of the call; the seat then
+    /// keeps `seen`, the count that the caller had read of the bell of the free places.
+    pub fn put<R: Wait>(&mut self, rt: &R, seen: Seen, piece: Piece) -> Result<Due, PutFault>
+        requires may { MayPut self.old piece }
+        requires bell { seen.bell ≡ self.old.edge.bells.space }
         ensures due { IfOk result (λ due. due.number ≡ self.old.edge.bells.piece) }
         ensures put { OnOk result (self.new ≡ record self.old { put = self.old.put ++ piece ∷ [] }) }
         ensures full { IfErr result (λ fault. fault ≡ PutFault.Full piece) }
         ensures room { OnErr result (Held self.old.edge.room (StoodBeside (view_of_gather_put self.old))) }
-        ensures counted { OnErr result (self.new ≡ record self.old { fulls = next_count self.old.fulls }) }
+        ensures counted { OnErr result (self.new ≡ record self.old {
+          fulls = next_count self.old.fulls;
+          looked_at = seen.count;
+        }) }
+        ensures fulls { self.old.fulls ≤ self.new.fulls }
     {
         match self.queue.push_as::<Puts, R>(rt, &mut self.pass, piece) {
             Ok(()) => Ok(Due::of(self.bells.piece)),
             Err(piece) => {
                 self.fulls = self.fulls.saturating_add(1);
+                self.looked_at = seen.count();
                 Err(PutFault::Full(piece))
             }
         }

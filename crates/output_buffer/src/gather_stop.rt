@@ -40,6 +40,7 @@ pub fn stop_gather(puts: Vec<GatherPut<'_>>, take: GatherTake<'_>)
         putters: _,
         left: _,
         empties: _,
+        looked_at: _,
     } = take;
     join_puts(queue, &mut pass, puts);
     look_at_rest(queue, &mut pass);

@@ -40,6 +40,7 @@ pub fn stop_spread(put: SpreadPut<'_>, takes: Vec<SpreadTake<'_>>)
         bells: _,
         takers: _,
         fulls: _,
+        looked_at: _,
     } = put;
     join_takes(queue, &mut pass, takes);
     look_at_rest(queue, &mut pass);

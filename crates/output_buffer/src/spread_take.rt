@@ -1,5 +1,5 @@
 //! The seat of one of the takers of a `Spread`.
-ghost use Rattle.std.specs.Prelude.{◌≡◌, ◌∷◌, ◌++◌, ◌↔◌, [], IsTrue, IfOk, OnErr};
+ghost use Rattle.std.specs.Prelude.{◌≡◌, ◌≤◌, ◌∷◌, ◌++◌, ◌↔◌, [], IsTrue, IfOk, OnErr};
 ghost use Rattle.crossbeam_queue.specs.Fifo.{Held};
 ghost use Rattle.crossbeam_queue.specs.Passes.{view, IsPassOf};
 ghost use Rattle.blocked.specs.Counts.{next_count};
@@ -8,7 +8,7 @@ ghost use Rattle.output_buffer.specs.Seats.{HasTakenEnd, edge_of, new_spread_tak
 
 use crate::edge::{EdgeBells, EdgePass, EdgeQueue, Takes};
 use crate::piece::{Empty, Piece, Took};
-use blocked::Due;
+use blocked::{Due, Seen};
 use std::marker::Model;
 use std::sync::Wait;
 
@@ -20,6 +20,7 @@ pub struct SpreadTake<'e> {
     pub(crate) bells: EdgeBells,
     pub(crate) is_ended: bool,
     pub(crate) empties: u64,
+    pub(crate) looked_at: u64,
 }
 
 impl<'e> Model for SpreadTake<'e> {
@@ -45,6 +46,7 @@ impl<'e> SpreadTake<'e> {
             bells,
             is_ended: false,
             empties: 0,
+            looked_at: 0,
         }
     }
 
@@ -77,15 +79,22 @@ impl<'e> SpreadTake<'e> {
     }
 
     /// Takes the piece at the front, in one atomic step, without taking memory. The due is of the bell that
-    /// rings when a place became free. Empty comes only where the edge held nothing at one moment of the call.
-    pub fn take<R: Wait>(&mut self, rt: &R) -> Result<Took, Empty>
+    /// rings when a place became free. Empty comes only where the edge held nothing at one moment of the call;
+    /// the seat then keeps `seen`, the count that the caller had read of the bell of the pieces.
+    pub fn take<R: Wait>(&mut self, rt: &R, seen: Seen) -> Result<Took, Empty>
+        requires { seen.bell ≡ self.old.edge.bells.piece }
         ensures due { IfOk result (λ took. took.due.number ≡ self.old.edge.bells.space) }
         ensures took { IfOk result (λ took. self.new ≡ record self.old { took = self.old.took ++ took.piece ∷ [] }) }
         ensures empty { OnErr result (Held 0 (StoodBeside (view_of_spread_take self.old))) }
-        ensures counted { OnErr result (self.new ≡ record self.old { empties = next_count self.old.empties }) }
+        ensures counted { OnErr result (self.new ≡ record self.old {
+          empties = next_count self.old.empties;
+          looked_at = seen.count;
+        }) }
+        ensures empties { self.old.empties ≤ self.new.empties }
     {
         let Some(piece) = self.queue.pop_as::<Takes, R>(rt, &mut self.pass) else {
             self.empties = self.empties.saturating_add(1);
+            self.looked_at = seen.count();
             return Err(Empty);
         };
         self.is_ended = self.is_ended || matches!(piece, Piece::End(_));

@@ -11,7 +11,7 @@ use Rattle.output_buffer.proofs.gather_put.GatherPut.put.Goals as goal
 pub push_as-requires-clause-rule : goal.push_as-requires-clause-rule
 push_as-requires-clause-rule g c =
     let one : (view c.self.inside.pass).parts ≡ 1 = ap (λ (v : EdgeView). v.parts) c.self.invariant.one in
-    let going : end_count (view c.self.inside.pass).put ≡ 0 = ap (λ (s : GatherPutState). end_count s.put) c.self.view_is ∙ c.requires.going in
+    let going : end_count (view c.self.inside.pass).put ≡ 0 = ap (λ (s : GatherPutState). end_count s.put) c.self.view_is ∙ c.requires.may.going in
     (puts _ _ _ _ (omega (arith, one)) (omega (arith, page_is_one c.args.piece, going, ap (λ (v : EdgeView). v.putting) c.self.invariant.one)), stands _ _)
 
 pub invariant_of-self : goal.invariant_of-self
@@ -19,8 +19,8 @@ invariant_of-self g c =
     let i = c.self.invariant in
     let old = view c.self.inside.pass in
     let is : view c.push_as.new.pass ≡ with_put old c.args.piece = c.in-Ok.ensures.rule in
-    let going : end_count old.put ≡ 0 = ap (λ (s : GatherPutState). end_count s.put) c.self.view_is ∙ c.requires.going in
-    let own : HasOwnNumber c.self.inside.number c.args.piece = subst (λ (s : GatherPutState). HasOwnNumber s.number c.args.piece) (sym c.self.view_is) c.requires.own in
+    let going : end_count old.put ≡ 0 = ap (λ (s : GatherPutState). end_count s.put) c.self.view_is ∙ c.requires.may.going in
+    let own : HasOwnNumber c.self.inside.number c.args.piece = subst (λ (s : GatherPutState). HasOwnNumber s.number c.args.piece) (sym c.self.view_is) c.requires.may.own in
     record {
       of = search rules;
       one = subst (λ (v : EdgeView). v ≡ edge_view 1 (1 - end_count v.put) v.put []) (sym is) (view_with_put old c.args.piece 1 i.one);

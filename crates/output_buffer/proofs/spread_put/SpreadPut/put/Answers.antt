@@ -14,14 +14,14 @@ push_as-requires-clause-rule g c =
     let parts : (view c.self.inside.pass).parts ≡ all_parts - c.self.inside.takers = ap (λ (v : EdgeView). v.parts) i.rest in
     let putting = ap (λ (v : EdgeView). v.putting) i.rest in
     let same : end_count (view c.self.inside.pass).put ≡ end_count c.args.self.now.put = ap (λ (s : SpreadPutState). end_count s.put) c.self.view_is in
-    (puts _ _ _ _ (omega (arith, parts, i.few)) (omega (arith, may_spread_pages c.args.self.now c.args.piece c.requires, same, putting)), stands _ _)
+    (puts _ _ _ _ (omega (arith, parts, i.few)) (omega (arith, may_spread_pages c.args.self.now c.args.piece c.requires.may, same, putting)), stands _ _)
 
 pub invariant_of-self : goal.invariant_of-self
 invariant_of-self g c =
     let i = c.self.invariant in
     let old = view c.self.inside.pass in
     let is : view c.push_as.new.pass ≡ with_put old c.args.piece = c.in-Ok.ensures.rule in
-    let may : MaySpread (spread_put_view c.self.inside) c.args.piece = subst (λ (s : SpreadPutState). MaySpread s c.args.piece) (sym c.self.view_is) c.requires in
+    let may : MaySpread (spread_put_view c.self.inside) c.args.piece = subst (λ (s : SpreadPutState). MaySpread s c.args.piece) (sym c.self.view_is) c.requires.may in
     record {
       of = search rules;
       some = search rules;

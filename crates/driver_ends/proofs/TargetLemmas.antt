@@ -5,7 +5,7 @@ use Rattle.std.specs.List.{range_with_len}
 use Rattle.std.proofs.Math.ListN.{get_or-map}
 use Rattle.std.proofs.lemmas.List.{get_or-map as get_or-map-within}
 use Rattle.std.proofs.lemmas.List.{append-nil, get_or-replicate, get_or-set_other, length-map, length-replicate, map-append, map-set, replicate_more}
-use Rattle.std.proofs.lemmas.List.Elements.{All-map, All-tail, filter-append}
+use Rattle.std.proofs.lemmas.List.Elements.{All-map, All-nil, All-tail, filter-append}
 use Rattle.std.proofs.lemmas.List.FromFn.{get_or-map-range_with_len, length-map-range_with_len, length-range_with_len}
 use Rattle.std.proofs.lemmas.Bool.{true≢false}
 use Rattle.std.proofs.lemmas.List.Sums.{sum_by-set, get_or-le-sum_by}
@@ -17,8 +17,8 @@ use Rattle.output_buffer.specs.Partitions.{Partition, part_of, parts_of}
 use Rattle.output_buffer.specs.Seats.{GatherPutState, rows_of_pieces}
 use Rattle.driver_ends.specs.declared.put_target.PutKind.{PutKind}
 use Rattle.driver_ends.specs.declared.put_target.PutKind.TheVariants.{One, Each, Hash}
-use Rattle.driver_ends.specs.Outlets.{IsClear, IsThrough, OutletKept, OutletState, outlet_dues, outlet_kept, new_outlet, rows_of_held, rows_sent}
-use Rattle.driver_ends.specs.Targets.{HasPutFirst, HavePutAll, HavePutFirst, add_each, dues_of, sent_to}
+use Rattle.driver_ends.specs.Outlets.{HasRows, IsClear, IsThrough, OutletInOrder, OutletKept, OutletState, outlet_dues, outlet_kept, new_outlet, rows_of_held, rows_sent}
+use Rattle.driver_ends.specs.Targets.{HasPutFirst, HavePutAll, HavePutFirst, add_each, dues_of, fulls_of, sent_to}
 
 -- what a function cannot tell apart in two lists
 pub each_same : {X Y : Type 0} (f : X → Y) (xs ys : List X) → map f xs ≡ map f ys → (k : ℕ) (d : X) → f (get_or xs k d) ≡ f (get_or ys k d)
@@ -117,6 +117,18 @@ pub new_early : (seats : List GatherPutState) (outlets : List OutletState) → o
 new_early seats outlets is none =
     subst (All (λ (l : OutletState). end_count l.seat.put ≡ 0)) (sym is) (All-map (λ (l : OutletState). end_count l.seat.put ≡ 0) new_outlet seats (λ k d less. ap end_count (none k d less)))
 
+-- an outlet of a seat that put nothing is in order
+fresh_in_order : (s : GatherPutState) → s.put ≡ [] → OutletInOrder (new_outlet s)
+fresh_in_order s none = record {
+  full = subst (All HasRows) (sym none) (All-nil HasRows);
+  rows = tt;
+  first = tt;
+}
+
+pub new_in_order : (seats : List GatherPutState) (outlets : List OutletState) → outlets ≡ map new_outlet seats → All (λ s. s.put ≡ []) seats → All OutletInOrder outlets
+new_in_order seats outlets is none =
+    subst (All OutletInOrder) (sym is) (All-map OutletInOrder new_outlet seats (λ k d less. fresh_in_order (get_or seats k d) (none k d less)))
+
 pub parts_sent : (by : Partition) (n : ℕ) (page : TypedPage) (pages : List TypedPage) → n ≡ by.parts → pages ≡ parts_of by page →
     map (λ (p : TypedPage). p.rows) pages ≡ sent_to (Hash by) n page.rows
 parts_sent by n page pages fits is =
@@ -167,6 +179,12 @@ rang_more old new outlets outlet d k bell within step times rang =
     let before : times + dues_of outlets bell ≡ (times + (dues_of outlets bell - outlet_dues (get_or outlets k d) bell)) + outlet_dues (get_or outlets k d) bell = omega (arith, part) in
     let after : (times + (dues_of outlets bell - outlet_dues (get_or outlets k d) bell)) + outlet_dues outlet bell ≡ times + dues_of (set outlets k outlet) bell = omega (arith, part, sum) in
     subst new after (step (times + (dues_of outlets bell - outlet_dues (get_or outlets k d) bell)) (subst old before rang))
+
+-- fulls never fall where those of one outlet do not
+pub fulls_more : (first : ℕ) (outlets : List OutletState) (k : ℕ) (outlet d : OutletState) → k < length outlets → first ≤ fulls_of outlets →
+    (get_or outlets k d).seat.fulls ≤ outlet.seat.fulls → first ≤ fulls_of (set outlets k outlet)
+fulls_more first outlets k outlet d within before more =
+    omega (arith, sum_by-set (λ (l : OutletState). l.seat.fulls) outlets k outlet d within, before, more)
 
 -- outlets that are clear put all that they were given
 clear_rows : (outlets : List OutletState) → All (IsThrough true) outlets → map (λ (s : GatherPutState). rows_of_pieces s.put) (map (λ (l : OutletState). l.seat) outlets) ≡ map rows_sent outlets

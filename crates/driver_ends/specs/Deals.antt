@@ -5,27 +5,42 @@ use Rattle.col_pages.specs.Pages.{TypedPage}
 use Rattle.blocked.specs.Counts.{Rose, next_count}
 use Rattle.blocked.specs.declared.blocked_on.BlockedOn.{BlockedOn}
 use Rattle.output_buffer.specs.declared.piece.Piece.{Piece}
-use Rattle.output_buffer.specs.Edges.{end_count}
-use Rattle.output_buffer.specs.Seats.{EdgeId, SpreadPutState, rows_of_pieces}
-use Rattle.driver_ends.specs.Outlets.{page_back, rows_of_held}
+use Rattle.output_buffer.specs.Edges.{end_count, ends_in}
+use Rattle.output_buffer.specs.Seats.{EdgeId, MaySpread, SpreadPutState, rows_of_pieces}
+use Rattle.driver_ends.specs.Outlets.{HasRows, IsInOrder, page_back, rows_of_held}
 
--- the putter's seat, the page that the edge did not take yet, whether it was told that no page comes any more, and the
--- count of the edge's space bell that was read before the last put
+-- the putter's seat, the page that the edge did not take yet, and whether it was told that no page comes any more
 pub record DealState : Type 0 where
   pub seat : SpreadPutState
   pub held : Option TypedPage
   pub is_told : Bool
-  pub looked_at : ℕ
 
 abbrev pub new_deal : SpreadPutState → DealState
-new_deal seat = record { seat = seat; held = None; is_told = false; looked_at = 0 }
+new_deal seat = record { seat = seat; held = None; is_told = false }
 
 -- the rows that it was given: those that went to its seat, and those that it still holds
 abbrev pub rows_dealt : DealState → List (List Value)
 rows_dealt deal = rows_of_pieces deal.seat.put ++ rows_of_held deal.held
 
+-- what it keeps in every state: no End is put before it was told to finish, none before a page that is held, and no
+-- page without rows
+pub record KeepsDeal (deal : DealState) : Type 0 where
+  pub early : deal.is_told ≡ false → end_count deal.seat.put ≡ 0
+  pub order : IsInOrder deal.seat.put deal.held
+
 pub record DealWants (deal : DealState) : Type 0 where
   pub going : deal.is_told ≡ false
+  pub clear : deal.held ≡ None
+
+-- a seat may put the piece, which is not without rows and no End before it was told, and no page is held
+pub record MayDeal (deal : DealState) (piece : Piece) : Type 0 where
+  pub may : MaySpread deal.seat piece
+  pub full : HasRows piece
+  pub told : deal.is_told ≡ false → ends_in piece ≡ 0
+  pub clear : deal.held ≡ None
+
+pub record MayDealEnds (deal : DealState) : Type 0 where
+  pub told : deal.is_told ≡ true
   pub clear : deal.held ≡ None
 
 -- it put an End for each taker
@@ -66,23 +81,19 @@ deal_kept told deal = record {
 pub record IsDealStuck (told : Bool) (old new : DealState) (on : BlockedOn) : Type 0 where
   pub full : Rose old.seat.fulls new.seat.fulls
   pub bell : on.bell ≡ new.seat.edge.bells.space
-  pub seen : on.seen ≡ new.looked_at
+  pub seen : on.seen ≡ new.seat.looked_at
   pub waits : on.rung ≡ false
   pub left : IsSome new.held ⊎ ((told ≡ true) × (end_count new.seat.put < new.seat.takers))
 
 -- a piece was put
-abbrev pub deal_put : DealState → Piece → ℕ → DealState
-deal_put deal piece looked_at = record deal {
-  seat = record deal.seat { put = deal.seat.put ++ piece ∷ [] };
-  looked_at = looked_at;
-}
+abbrev pub deal_put : DealState → Piece → DealState
+deal_put deal piece = record deal { seat = record deal.seat { put = deal.seat.put ++ piece ∷ [] } }
 
--- a piece found no room
+-- a piece found no room, after this count was read
 abbrev pub deal_full : DealState → Piece → ℕ → DealState
-deal_full deal piece looked_at = record deal {
-  seat = record deal.seat { fulls = next_count deal.seat.fulls };
+deal_full deal piece count = record deal {
+  seat = record deal.seat { fulls = next_count deal.seat.fulls; looked_at = count };
   held = page_back piece;
-  looked_at = looked_at;
 }
 
 -- what a seat put is the first of some rows

@@ -2,6 +2,7 @@
 use Rattle.std.specs.Prelude.{◌≡◌, ◌≤◌, [], false, All, length}
 use Rattle.std.specs.Vec.{vec_capacity}
 use Rattle.output_buffer.specs.Edges.{end_count}
+use Rattle.driver_ends.specs.Outlets.{OutletInOrder}
 use Rattle.driver_ends.specs.Targets.{FitsKind, TargetState}
 use Rattle.driver_ends.specs.declared.put_target.PutTarget.TheInside.{Inside}
 
@@ -12,6 +13,7 @@ target_view t = record { kind = t.kind; outlets = t.outlets.items; is_told = t.i
 pub record IsPutTarget (t : Inside) : Type 0 where
   pub fits : FitsKind t.kind (length t.outlets.items)
   pub early : t.is_told ≡ false → All (λ outlet. end_count outlet.seat.put ≡ 0) t.outlets.items
+  pub order : All OutletInOrder t.outlets.items
   -- the room for the seats that a stop hands back
   pub none : t.seats.items ≡ []
   pub room : length t.outlets.items ≤ vec_capacity t.seats

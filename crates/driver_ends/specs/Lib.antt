@@ -5,3 +5,5 @@ pub mod InTarget
 pub mod Deals
 pub mod InDeal
 pub mod Sources
+pub mod InSources
+pub mod Ends

@@ -1,5 +1,5 @@
 -- Sources over an edge, as they are seen.
-use Rattle.std.specs.Prelude.{◌≡◌, ℕ, ◌+◌, ◌⊎◌, List, [], ◌∷◌, ◌++◌, false, Option, None, IsSome, length, cond, nat_eq}
+use Rattle.std.specs.Prelude.{◌≡◌, ℕ, ◌+◌, ◌-◌, ◌⊎◌, List, [], ◌∷◌, ◌++◌, false, Option, None, IsSome, length, cond, nat_eq, take}
 use Rattle.sql_values.specs.declared.value.Value.{Value}
 use Rattle.col_pages.specs.Pages.{TypedPage}
 use Rattle.blocked.specs.Counts.{Rose, next_count}
@@ -8,15 +8,22 @@ use Rattle.output_buffer.specs.declared.piece.Piece.{Piece}
 use Rattle.output_buffer.specs.Seats.{GatherTakeState, HasEnded, HasTakenEnd, SpreadTakeState, rows_of_pieces}
 use Rattle.driver_ends.specs.Outlets.{page_back, rows_of_held}
 
--- the seat of a taker alone, the page that was taken and not handed on yet, and the count of the edge's piece bell that was read before
--- the last take
+-- the seat of a taker alone, and the page that was taken and not handed on yet
 pub record LocalState : Type 0 where
   pub seat : GatherTakeState
   pub inbox : Option TypedPage
-  pub looked_at : ℕ
 
 abbrev pub new_local : GatherTakeState → LocalState
-new_local seat = record { seat = seat; inbox = None; looked_at = 0 }
+new_local seat = record { seat = seat; inbox = None }
+
+-- the rows of these pieces, but for the last, which are those of the inbox
+abbrev pub handed_on : List Piece → Option TypedPage → List (List Value)
+handed_on took inbox = take (length (rows_of_pieces took) - length (rows_of_held inbox)) (rows_of_pieces took)
+
+-- the rows of the inbox are the last of those of the pieces
+pub record HoldsLast (took : List Piece) (inbox : Option TypedPage) : Type 0 where
+  pub before : List (List Value)
+  pub whole : rows_of_pieces took ≡ before ++ rows_of_held inbox
 
 -- these rows were handed on: with those of the inbox they are what the seat took, in order
 abbrev pub HasLocalTaken : LocalState → List (List Value) → Type 0
@@ -32,20 +39,15 @@ abbrev pub local_dues : LocalState → ℕ → ℕ
 local_dues s bell = cond (nat_eq bell s.seat.edge.bells.space) (length s.seat.took) 0
 
 -- a piece was taken
-abbrev pub local_took : LocalState → Piece → ℕ → LocalState
-local_took s piece looked_at = record {
+abbrev pub local_took : LocalState → Piece → LocalState
+local_took s piece = record {
   seat = record s.seat { took = s.seat.took ++ piece ∷ [] };
   inbox = page_back piece;
-  looked_at = looked_at;
 }
 
--- nothing was there
+-- nothing was there, after this count was read
 abbrev pub local_starved : LocalState → ℕ → LocalState
-local_starved s looked_at = record {
-  seat = record s.seat { empties = next_count s.seat.empties };
-  inbox = s.inbox;
-  looked_at = looked_at;
-}
+local_starved s count = record s { seat = record s.seat { empties = next_count s.seat.empties; looked_at = count } }
 
 -- it has a page, or is ended, or took one piece more
 abbrev pub IsLocalServed : LocalState → LocalState → Type 0
@@ -55,20 +57,18 @@ IsLocalServed old new = (IsSome new.inbox) ⊎ ((HasEnded new.seat) ⊎ (length 
 pub record IsLocalStarved (old new : LocalState) (on : BlockedOn) : Type 0 where
   pub empty : Rose old.seat.empties new.seat.empties
   pub bell : on.bell ≡ new.seat.edge.bells.piece
-  pub seen : on.seen ≡ new.looked_at
+  pub seen : on.seen ≡ new.seat.looked_at
   pub waits : on.rung ≡ false
   pub clear : new.inbox ≡ None
   pub going : ¬ HasEnded new.seat
 
--- the seat of one of many takers, the page that was taken and not handed on yet, and the count of the edge's piece bell that was read before
--- the last take
+-- the seat of one of many takers, and the page that was taken and not handed on yet
 pub record RemoteState : Type 0 where
   pub seat : SpreadTakeState
   pub inbox : Option TypedPage
-  pub looked_at : ℕ
 
 abbrev pub new_remote : SpreadTakeState → RemoteState
-new_remote seat = record { seat = seat; inbox = None; looked_at = 0 }
+new_remote seat = record { seat = seat; inbox = None }
 
 -- these rows were handed on: with those of the inbox they are what the seat took, in order
 abbrev pub HasRemoteTaken : RemoteState → List (List Value) → Type 0
@@ -84,20 +84,15 @@ abbrev pub remote_dues : RemoteState → ℕ → ℕ
 remote_dues s bell = cond (nat_eq bell s.seat.edge.bells.space) (length s.seat.took) 0
 
 -- a piece was taken
-abbrev pub remote_took : RemoteState → Piece → ℕ → RemoteState
-remote_took s piece looked_at = record {
+abbrev pub remote_took : RemoteState → Piece → RemoteState
+remote_took s piece = record {
   seat = record s.seat { took = s.seat.took ++ piece ∷ [] };
   inbox = page_back piece;
-  looked_at = looked_at;
 }
 
--- nothing was there
+-- nothing was there, after this count was read
 abbrev pub remote_starved : RemoteState → ℕ → RemoteState
-remote_starved s looked_at = record {
-  seat = record s.seat { empties = next_count s.seat.empties };
-  inbox = s.inbox;
-  looked_at = looked_at;
-}
+remote_starved s count = record s { seat = record s.seat { empties = next_count s.seat.empties; looked_at = count } }
 
 -- it has a page, or is ended, or took one piece more
 abbrev pub IsRemoteServed : RemoteState → RemoteState → Type 0
@@ -107,7 +102,7 @@ IsRemoteServed old new = (IsSome new.inbox) ⊎ ((HasTakenEnd new.seat) ⊎ (len
 pub record IsRemoteStarved (old new : RemoteState) (on : BlockedOn) : Type 0 where
   pub empty : Rose old.seat.empties new.seat.empties
   pub bell : on.bell ≡ new.seat.edge.bells.piece
-  pub seen : on.seen ≡ new.looked_at
+  pub seen : on.seen ≡ new.seat.looked_at
   pub waits : on.rung ≡ false
   pub clear : new.inbox ≡ None
   pub going : ¬ HasTakenEnd new.seat

@@ -1,14 +1,15 @@
 -- Targets over edges, as they are seen.
-use Rattle.std.specs.Prelude.{◌≡◌, ℕ, ◌<◌, ◌++◌, List, [], ◌∷◌, Bool, true, false, All, get_or, length, map, replicate, slice_index_or, sum_by}
+use Rattle.std.specs.Prelude.{◌≡◌, ℕ, ◌<◌, ◌++◌, List, [], ◌∷◌, Bool, true, false, All, get_or, length, map, replicate, slice_index_or, sum_by, take}
 use Rattle.std.specs.List.{range_with_len}
 use Rattle.sql_values.specs.declared.value.Value.{Value}
+use Rattle.blocked.specs.Counts.{Rose}
 use Rattle.blocked.specs.declared.blocked_on.BlockedOn.{BlockedOn}
 use Rattle.bag_laws.specs.Buckets.{key_bucket, of_bucket}
 use Rattle.output_buffer.specs.Edges.{end_count}
 use Rattle.output_buffer.specs.Seats.{GatherPutState, rows_of_pieces}
 use Rattle.driver_ends.specs.declared.put_target.PutKind.{PutKind}
 use Rattle.driver_ends.specs.declared.put_target.PutKind.TheVariants.{One, Each, Hash}
-use Rattle.driver_ends.specs.Outlets.{IsClear, IsStuck, IsThrough, OutletState, outlet_dues, rows_sent}
+use Rattle.driver_ends.specs.Outlets.{IsClear, IsStuck, IsThrough, OutletInOrder, OutletState, outlet_dues, rows_sent}
 
 -- how it spreads its rows, its outlets, and whether it was told that no page comes any more
 pub record TargetState : Type 0 where
@@ -38,6 +39,13 @@ add_each (xs ∷ lists) (ys ∷ more) = (xs ++ ys) ∷ add_each lists more
 abbrev pub HasSent : TargetState → List (List Value) → Type 0
 HasSent t given = map rows_sent t.outlets ≡ sent_to t.kind (length t.outlets) given
 
+-- what a target keeps in every state: it has the outlets of its kind, no End is put before it was told to finish, none
+-- before a page that is held, and no page without rows
+pub record KeepsTarget (t : TargetState) : Type 0 where
+  pub fits : FitsKind t.kind (length t.outlets)
+  pub early : t.is_told ≡ false → All (λ outlet. end_count outlet.seat.put ≡ 0) t.outlets
+  pub order : All OutletInOrder t.outlets
+
 pub record Wants (t : TargetState) : Type 0 where
   pub going : t.is_told ≡ false
   pub clear : All IsClear t.outlets
@@ -58,7 +66,11 @@ dues_of outlets bell = sum_by (λ outlet. outlet_dues outlet bell) outlets
 abbrev pub dues : TargetState → ℕ → ℕ
 dues t bell = dues_of t.outlets bell
 
--- one of its outlets is stuck
+-- how often its puts found an edge full
+abbrev pub fulls_of : List OutletState → ℕ
+fulls_of outlets = sum_by (λ outlet. outlet.seat.fulls) outlets
+
+-- one of its outlets is stuck, and those before it put all that they may
 pub record HasStuckOutlet (told : Bool) (old new : List OutletState) (on : BlockedOn) : Type 0 where
   pub place : ℕ
   pub before : OutletState
@@ -66,7 +78,9 @@ pub record HasStuckOutlet (told : Bool) (old new : List OutletState) (on : Block
   pub there : place < length new
   pub was : before ≡ get_or old place before
   pub is : after ≡ get_or new place after
+  pub first : All (IsThrough told) (take place new)
   pub stuck : IsStuck told before after on
+  pub full : Rose (fulls_of old) (fulls_of new)
 
 -- what a seat put is what it has of the first of some rows
 pub record HasPutFirst (kind : PutKind) (outlets place : ℕ) (given : List (List Value)) (seat : GatherPutState) : Type 0 where

@@ -4,14 +4,17 @@ ghost use Rattle.sql_values.specs.declared.value.Value.{Value};
 ghost use Rattle.std.specs.Prelude.{List};
 ghost use Rattle.std.specs.Vec.{vec_capacity};
 ghost use Rattle.output_buffer.specs.Edges.{end_count};
-ghost use Rattle.driver_ends.specs.Outlets.{IsClear, IsThrough, outlet_kept, new_outlet, rows_sent};
-ghost use Rattle.driver_ends.specs.Targets.{AreThrough, FitsKind, HasSent, HasStuckOutlet, HavePutAll, HavePutFirst, IsFinished, Wants, add_each, dues, dues_of, sent_to};
+ghost use Rattle.driver_ends.specs.Ends.{target_finished, target_wants};
+ghost use Rattle.driver_ends.specs.Outlets.{IsClear, IsThrough, OutletInOrder, outlet_kept, new_outlet, rows_sent};
+ghost use Rattle.driver_ends.specs.Targets.{AreThrough, FitsKind, HasSent, HasStuckOutlet, HavePutAll, HavePutFirst, IsFinished, KeepsTarget, Wants, add_each, dues, dues_of, fulls_of, sent_to};
 
-use crate::outlet::Outlet;
+use crate::at_edges::EdgeEnd;
+use crate::outlet::{AdvanceAsTold, Outlet};
 use blocked::{Bells, BlockedOn};
 use col_pages::Page;
 use output_buffer::{GatherPut, Partitioner};
 use sql_values::Memory;
+use stage_moves::PageTarget;
 use std::alloc::Global;
 use std::marker::Model;
 use std::sync::Wait;
@@ -79,9 +82,18 @@ impl<'w> PutTarget<'w> {
         })
     }
 
+    /// It has the outlets of its kind. No End is put before it was told to finish, none before a page that is held
+    /// for its edge, and no page without rows.
+    pub fn keeps(&self)
+        ensures { KeepsTarget self.now }
+    {
+        let _is_told = self.is_told;
+    }
+
     /// Whether it takes a page now.
     pub fn wants(&self) -> bool
-        ensures { IsTrue result ↔ Wants self.now }
+        ensures wants { IsTrue result ↔ Wants self.now }
+        ensures is { result ≡ target_wants self.now }
     {
         !self.is_told && are_clear(&self.outlets)
     }
@@ -116,33 +128,10 @@ impl<'w> PutTarget<'w> {
 
     /// Whether it was told to finish, and every edge has its pages and its End.
     pub fn is_finished(&self) -> bool
-        ensures { IsTrue result ↔ IsFinished self.now }
+        ensures finished { IsTrue result ↔ IsFinished self.now }
+        ensures is { result ≡ target_finished self.now }
     {
         self.is_told && have_put_ends(&self.outlets)
-    }
-
-    /// Puts what it holds and, once told to finish, an End to each edge behind its pages. Where an edge has no room
-    /// it stops there: the answer names the bell of that edge's free places, with the count that was read before the
-    /// put. Each piece rings the bell of its edge's pieces.
-    pub fn ready<R: Threads + Wait + Sync, B: Bells>(
-        &mut self,
-        rt: &R,
-        bells: &mut B,
-    ) -> Result<Option<BlockedOn>, Memory>
-        ensures sent { (given : List (List Value)) → HasSent self.old given → HasSent self.new given }
-        ensures rest { self.new ≡ record self.old { outlets = self.new.outlets } }
-        ensures kept { map (outlet_kept self.old.is_told) self.new.outlets
-            ≡ map (outlet_kept self.old.is_told) self.old.outlets }
-        ensures answer { IfOk result (λ on. MatchOption on (AreThrough self.new)
-            (λ on. HasStuckOutlet self.new.is_told self.old.outlets self.new.outlets on
-            × B.shown bells.new on.bell on.seen)) }
-        ensures bells { (bell count : ℕ) → B.shown bells.old bell count
-            → B.shown bells.new bell count }
-        ensures rang { OnOk result ((bell times : ℕ)
-            → B.rang bells.old bell (times + dues self.old bell)
-            → B.rang bells.new bell (times + dues self.new bell)) }
-    {
-        advance_all(rt, bells, &mut self.outlets, self.is_told)
     }
 
     /// Hands back its seats, wherever it stands, without taking memory.
@@ -160,6 +149,80 @@ impl<'w> PutTarget<'w> {
         } = self;
         give_back(outlets, &mut seats);
         seats
+    }
+}
+
+impl<'w> EdgeEnd for PutTarget<'w> {
+    /// Puts what it holds and, once told to finish, an End to each edge behind its pages. Where an edge has no room
+    /// it stops there: the answer names the bell of that edge's free places, with the count that was read before the
+    /// put. Each piece rings the bell of its edge's pieces.
+    fn advance<R: Threads + Wait + Sync, B: Bells>(
+        &mut self,
+        rt: &R,
+        bells: &mut B,
+    ) -> Result<Option<BlockedOn>, Memory>
+        ensures sent { (given : List (List Value)) → HasSent self.old given → HasSent self.new given }
+        ensures rest { self.new ≡ record self.old { outlets = self.new.outlets } }
+        ensures kept { map (outlet_kept self.old.is_told) self.new.outlets
+            ≡ map (outlet_kept self.old.is_told) self.old.outlets }
+        ensures fulls { fulls_of self.old.outlets ≤ fulls_of self.new.outlets }
+        ensures answer { IfOk result (λ on. MatchOption on (AreThrough self.new)
+            (λ on. HasStuckOutlet self.new.is_told self.old.outlets self.new.outlets on
+            × B.shown bells.new on.bell on.seen)) }
+        ensures bells { (bell count : ℕ) → B.shown bells.old bell count
+            → B.shown bells.new bell count }
+        ensures rang { OnOk result ((bell times : ℕ)
+            → B.rang bells.old bell (times + dues self.old bell)
+            → B.rang bells.new bell (times + dues self.new bell)) }
+    {
+        Self::advance_all(rt, bells, &mut self.outlets, self.is_told)
+    }
+}
+
+impl<'w> PageTarget for PutTarget<'w> {
+    ghost use Rattle.driver_ends.specs.Ends.{target_as_made, target_finished, target_looks, target_wants};
+    ghost use Rattle.driver_ends.specs.Targets.{HasSent, dues};
+
+    ghost was_given = { HasSent };
+
+    ghost wants = { target_wants };
+
+    ghost is_told = { λ t. t.is_told };
+
+    ghost is_finished = { target_finished };
+
+    ghost as_made = { target_as_made };
+
+    ghost looks = { target_looks };
+
+    ghost dues = { dues };
+
+    fn wants(&self) -> bool {
+        self.wants()
+    }
+
+    fn is_told(&self) -> bool {
+        self.is_told()
+    }
+
+    fn is_finished(&self) -> bool {
+        self.is_finished()
+    }
+
+    fn put(&mut self, page: Page) -> Result<(), Memory> {
+        self.put(page)
+    }
+
+    fn finish(&mut self) {
+        self.finish();
+    }
+
+    fn ready<R: Threads + Wait + Sync, B: Bells>(
+        &mut self,
+        rt: &R,
+        bells: &mut B,
+    ) -> Result<Option<BlockedOn>, Memory> {
+        self.advance(rt, bells)
     }
 }
 
@@ -226,9 +289,11 @@ fn hold_all(outlets: &mut [Outlet<'_>], mut pages: Vec<Page>)
     requires each { length pages.items ≡ length outlets.old }
     requires clear { All IsClear outlets.old }
     requires going { All (λ outlet. end_count outlet.seat.put ≡ 0) outlets.old }
+    requires order { All OutletInOrder outlets.old }
     ensures seats { map (λ l. l.seat) outlets.new ≡ map (λ l. l.seat) outlets.old }
     ensures sent { map rows_sent outlets.new
         ≡ add_each (map rows_sent outlets.old) (map (λ p. p.rows) pages.items) }
+    ensures order { All OutletInOrder outlets.new }
 {
     while let Some(page) = pages.pop() {
         let place = pages.len();
@@ -236,27 +301,43 @@ fn hold_all(outlets: &mut [Outlet<'_>], mut pages: Vec<Page>)
     }
 }
 
-/// Puts what each outlet may, up to one whose edge is full.
-fn advance_all<R: Threads + Wait + Sync, B: Bells>(
-    rt: &R,
-    bells: &mut B,
-    outlets: &mut [Outlet<'_>],
-    is_told: bool,
-) -> Result<Option<BlockedOn>, Memory>
-    ensures kept { map (outlet_kept is_told) outlets.new ≡ map (outlet_kept is_told) outlets.old }
-    ensures answer { IfOk result (λ on. MatchOption on (All (IsThrough is_told) outlets.new)
-        (λ on. HasStuckOutlet is_told outlets.old outlets.new on
-        × B.shown bells.new on.bell on.seen)) }
-    ensures bells { (bell count : ℕ) → B.shown bells.old bell count
-        → B.shown bells.new bell count }
-    ensures rang { OnOk result ((bell times : ℕ)
-        → B.rang bells.old bell (times + dues_of outlets.old bell)
-        → B.rang bells.new bell (times + dues_of outlets.new bell)) }
-{
-    for place in 0..outlets.len() {
-        if let Some(on) = outlets[place].advance(rt, bells, is_told)? {
-            return Ok(Some(on));
+/// How the outlets of a target go on.
+trait AdvanceAll {
+    /// Puts what each outlet may, up to one whose edge is full.
+    fn advance_all<R: Threads + Wait + Sync, B: Bells>(
+        rt: &R,
+        bells: &mut B,
+        outlets: &mut [Outlet<'_>],
+        is_told: bool,
+    ) -> Result<Option<BlockedOn>, Memory>
+        requires order { All OutletInOrder outlets.old };
+}
+
+impl<'w> AdvanceAll for PutTarget<'w> {
+    fn advance_all<R: Threads + Wait + Sync, B: Bells>(
+        rt: &R,
+        bells: &mut B,
+        outlets: &mut [Outlet<'_>],
+        is_told: bool,
+    ) -> Result<Option<BlockedOn>, Memory>
+        requires order { All OutletInOrder outlets.old }
+        ensures kept { map (outlet_kept is_told) outlets.new ≡ map (outlet_kept is_told) outlets.old }
+        ensures order { All OutletInOrder outlets.new }
+        ensures fulls { fulls_of outlets.old ≤ fulls_of outlets.new }
+        ensures answer { IfOk result (λ on. MatchOption on (All (IsThrough is_told) outlets.new)
+            (λ on. HasStuckOutlet is_told outlets.old outlets.new on
+            × B.shown bells.new on.bell on.seen)) }
+        ensures bells { (bell count : ℕ) → B.shown bells.old bell count
+            → B.shown bells.new bell count }
+        ensures rang { OnOk result ((bell times : ℕ)
+            → B.rang bells.old bell (times + dues_of outlets.old bell)
+            → B.rang bells.new bell (times + dues_of outlets.new bell)) }
+    {
+        for place in 0..outlets.len() {
+            if let Some(on) = outlets[place].advance_as_told(rt, bells, is_told)? {
+                return Ok(Some(on));
+            }
         }
+        Ok(None)
     }
-    Ok(None)
 }

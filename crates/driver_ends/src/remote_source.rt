@@ -1,15 +1,18 @@
 //! What a driver takes its pages from where that is an edge of many takers.
-ghost use Rattle.std.specs.Prelude.{◌≡◌, ℕ, ◌+◌, ◌++◌, ◌↔◌, List, [], false, IsTrue, IfOk, OnOk, OnErr, IfErr, IfNone, IfSome, MatchOption, None};
+ghost use Rattle.std.specs.Prelude.{◌≡◌, ℕ, ◌+◌, ◌≤◌, ◌++◌, ◌↔◌, List, [], false, IsTrue, IfOk, OnOk, OnErr, IfErr, IfNone, IfSome, IsSome, MatchOption, None};
 ghost use Rattle.sql_values.specs.declared.value.Value.{Value};
 ghost use Rattle.output_buffer.specs.Seats.{HasTakenEnd};
 ghost use Rattle.output_buffer.specs.declared.piece.Piece.{Piece};
+ghost use Rattle.driver_ends.specs.Ends.{remote_ended, remote_taken};
 ghost use Rattle.driver_ends.specs.Sources.{HasRemoteTaken, IsRemoteEnded, IsRemoteServed, IsRemoteStarved, remote_dues, remote_starved, remote_took, new_remote};
 
+use crate::at_edges::{EdgeEnd, TakesPieces};
 use crate::outlet::page_of;
 use blocked::{Bells, BlockedOn, Due, ReadBell, Seen};
 use col_pages::Page;
 use output_buffer::{SpreadTake, Took};
 use sql_values::Memory;
+use stage_moves::{PageSource, Ready};
 use std::marker::Model;
 use std::sync::Wait;
 use std::thread::Threads;
@@ -19,7 +22,6 @@ use std::thread::Threads;
 pub struct RemoteSource<'w> {
     seat: SpreadTake<'w>,
     inbox: Option<Page>,
-    looked_at: u64,
 }
 
 impl<'w> Model for RemoteSource<'w> {
@@ -27,7 +29,11 @@ impl<'w> Model for RemoteSource<'w> {
 
     ghost Value = { RemoteState };
 
-    ghost view = { λ s. record { seat = s.seat; inbox = s.inbox; looked_at = s.looked_at } };
+    ghost use Rattle.driver_ends.specs.InSources.{IsRemoteSource, remote_view};
+
+    ghost view = { remote_view };
+
+    ghost invariant = { IsRemoteSource };
 }
 
 impl<'w> RemoteSource<'w> {
@@ -36,53 +42,81 @@ impl<'w> RemoteSource<'w> {
         requires { seat.took ≡ [] }
         ensures new { result ≡ new_remote seat.entry }
         ensures none { HasRemoteTaken result [] }
+        ensures fresh { remote_taken result ≡ [] }
     {
-        RemoteSource {
-            seat,
-            inbox: None,
-            looked_at: 0,
+        RemoteSource { seat, inbox: None }
+    }
+
+    /// Takes a piece, after this count of the bell was read.
+    fn take_behind<R: Wait>(&mut self, rt: &R, seen: Seen) -> Result<Due, BlockedOn>
+        requires clear { self.old.inbox ≡ None }
+        requires bell { seen.bell ≡ self.old.seat.edge.bells.piece }
+        ensures due { IfOk result (λ due. due.number ≡ self.old.seat.edge.bells.space) }
+        ensures took { OnOk result ((piece : Piece) × (self.new ≡ remote_took self.old piece)) }
+        ensures starved { OnErr result (self.new ≡ remote_starved self.old seen.count) }
+        ensures on { IfErr result (λ on. (on.bell ≡ seen.bell) × (on.seen ≡ seen.count)
+            × (on.rung ≡ false)) }
+        ensures empties { self.old.seat.empties ≤ self.new.seat.empties }
+    {
+        match self.seat.take(rt, seen) {
+            Ok(Took { piece, due }) => {
+                self.inbox = page_of(piece);
+                Ok(due)
+            }
+            Err(_) => Err(BlockedOn::new(seen.bell(), seen.count())),
         }
     }
 
-    /// Takes a piece where it has no page, as long as it took no End. Where there is none, the answer names the bell of
-    /// the edge's pieces, with the count that was read before the take. Each piece rings the bell of the edge's
-    /// places.
-    pub fn ready<R: Threads + Wait + Sync, B: Bells>(
-        &mut self,
-        rt: &R,
-        bells: &mut B,
-    ) -> Result<Option<BlockedOn>, Memory>
-        ensures taken { (taken : List (List Value)) → HasRemoteTaken self.old taken
-            → HasRemoteTaken self.new taken }
-        ensures edge { self.new.seat.edge ≡ self.old.seat.edge }
-        ensures answer { IfOk result (λ on. MatchOption on (IsRemoteServed self.old self.new)
-            (λ on. IsRemoteStarved self.old self.new on × B.shown bells.new on.bell on.seen)) }
-        ensures bells { (bell count : ℕ) → B.shown bells.old bell count
-            → B.shown bells.new bell count }
-        ensures rang { OnOk result ((bell times : ℕ)
-            → B.rang bells.old bell (times + remote_dues self.old bell)
-            → B.rang bells.new bell (times + remote_dues self.new bell)) }
+    /// The rows that it handed on, with those of the page that it has, are what its seat took, in order.
+    pub fn keeps(&self)
+        ensures { HasRemoteTaken self.now (remote_taken self.now) }
     {
-        if self.inbox.is_some() || self.seat.ended() {
-            return Ok(None);
-        }
-        self.take_piece(rt, bells)
+        let _inbox = &self.inbox;
     }
 
-    /// Reads the count of the bell, takes, and rings.
+    /// Hands on the page that it has.
+    pub fn take(&mut self) -> Option<Page>
+        ensures taken { IfSome result (λ page. (taken : List (List Value)) → HasRemoteTaken self.old taken
+            → HasRemoteTaken self.new (taken ++ page.rows)) }
+        ensures handed { IfSome result (λ page. remote_taken self.new ≡ remote_taken self.old ++ page.rows) }
+        ensures none { IfNone result (self.old.inbox ≡ None) }
+        ensures rest { self.new ≡ record self.old { inbox = None } }
+    {
+        self.inbox.take()
+    }
+
+    /// Whether it took an End, and every page was handed on.
+    pub fn is_ended(&self) -> bool
+        ensures ended { IsTrue result ↔ IsRemoteEnded self.now }
+        ensures is { result ≡ remote_ended self.now }
+    {
+        self.inbox.is_none() && self.seat.ended()
+    }
+
+    /// Hands back its seat, wherever it stands. A page that was not handed on is gone.
+    pub fn stop(self) -> SpreadTake<'w>
+        ensures { result ≡ self.entry.seat }
+    {
+        self.seat
+    }
+}
+
+impl<'w> TakesPieces for RemoteSource<'w> {
+    ghost may_take = { λ s. s.inbox ≡ None };
+
     fn take_piece<R: Threads + Wait + Sync, B: Bells>(
         &mut self,
         rt: &R,
         bells: &mut B,
     ) -> Result<Option<BlockedOn>, Memory>
-        requires clear { self.old.inbox ≡ None }
+        requires { self.old.inbox ≡ None }
         ensures took { IfOk result (λ on. IfNone on ((piece : Piece)
-            × (self.new ≡ remote_took self.old piece self.new.looked_at))) }
-        ensures lost { OnErr result ((piece : Piece)
-            × (self.new ≡ remote_took self.old piece self.new.looked_at)) }
+            × (self.new ≡ remote_took self.old piece))) }
+        ensures lost { OnErr result ((piece : Piece) × (self.new ≡ remote_took self.old piece)) }
         ensures starved { IfOk result (λ on. IfSome on (λ on. (self.new ≡ remote_starved self.old on.seen)
             × (on.bell ≡ self.old.seat.edge.bells.piece) × (on.rung ≡ false)
             × B.shown bells.new on.bell on.seen)) }
+        ensures empties { self.old.seat.empties ≤ self.new.seat.empties }
         ensures bells { (bell count : ℕ) → B.shown bells.old bell count
             → B.shown bells.new bell count }
         ensures rang { OnOk result ((bell times : ℕ)
@@ -98,47 +132,69 @@ impl<'w> RemoteSource<'w> {
             Err(on) => Ok(Some(on)),
         }
     }
+}
 
-    /// Takes a piece, after this count of the bell was read.
-    fn take_behind<R: Wait>(&mut self, rt: &R, seen: Seen) -> Result<Due, BlockedOn>
-        requires clear { self.old.inbox ≡ None }
-        ensures due { IfOk result (λ due. due.number ≡ self.old.seat.edge.bells.space) }
-        ensures took { OnOk result ((piece : Piece) × (self.new ≡ remote_took self.old piece seen.count)) }
-        ensures starved { OnErr result (self.new ≡ remote_starved self.old seen.count) }
-        ensures on { IfErr result (λ on. (on.bell ≡ seen.bell) × (on.seen ≡ seen.count)
-            × (on.rung ≡ false)) }
+impl<'w> EdgeEnd for RemoteSource<'w> {
+    /// Takes a piece where it has no page, as long as it took no End. Where there is none, the answer names the bell of
+    /// the edge's pieces, with the count that was read before the take. Each piece rings the bell of the edge's
+    /// places.
+    fn advance<R: Threads + Wait + Sync, B: Bells>(
+        &mut self,
+        rt: &R,
+        bells: &mut B,
+    ) -> Result<Option<BlockedOn>, Memory>
+        ensures taken { (taken : List (List Value)) → HasRemoteTaken self.old taken
+            → HasRemoteTaken self.new taken }
+        ensures handed { remote_taken self.new ≡ remote_taken self.old }
+        ensures edge { self.new.seat.edge ≡ self.old.seat.edge }
+        ensures full { IsSome self.old.inbox → self.new ≡ self.old }
+        ensures ended { HasTakenEnd self.old.seat → self.new ≡ self.old }
+        ensures empties { self.old.seat.empties ≤ self.new.seat.empties }
+        ensures answer { IfOk result (λ on. MatchOption on (IsRemoteServed self.old self.new)
+            (λ on. IsRemoteStarved self.old self.new on × B.shown bells.new on.bell on.seen)) }
+        ensures bells { (bell count : ℕ) → B.shown bells.old bell count
+            → B.shown bells.new bell count }
+        ensures rang { OnOk result ((bell times : ℕ)
+            → B.rang bells.old bell (times + remote_dues self.old bell)
+            → B.rang bells.new bell (times + remote_dues self.new bell)) }
     {
-        self.looked_at = seen.count();
-        match self.seat.take(rt) {
-            Ok(Took { piece, due }) => {
-                self.inbox = page_of(piece);
-                Ok(due)
-            }
-            Err(_) => Err(BlockedOn::new(seen.bell(), seen.count())),
+        if self.inbox.is_some() || self.seat.ended() {
+            return Ok(None);
+        }
+        self.take_piece(rt, bells)
+    }
+}
+
+impl<'w> PageSource for RemoteSource<'w> {
+    ghost use Rattle.driver_ends.specs.Ends.{remote_as_made, remote_ended, remote_looks, remote_taken};
+    ghost use Rattle.driver_ends.specs.Sources.{remote_dues};
+
+    ghost taken = { remote_taken };
+
+    ghost is_ended = { remote_ended };
+
+    ghost as_made = { remote_as_made };
+
+    ghost looks = { remote_looks };
+
+    ghost dues = { remote_dues };
+
+    fn is_ended(&self) -> bool {
+        self.is_ended()
+    }
+
+    fn ready<R: Threads + Wait + Sync, B: Bells>(
+        &mut self,
+        rt: &R,
+        bells: &mut B,
+    ) -> Result<Ready, Memory> {
+        match self.advance(rt, bells)? {
+            None => Ok(Ready::Now),
+            Some(on) => Ok(Ready::Blocked(on)),
         }
     }
 
-    /// Hands on the page that it has.
-    pub fn take(&mut self) -> Option<Page>
-        ensures taken { IfSome result (λ page. (taken : List (List Value)) → HasRemoteTaken self.old taken
-            → HasRemoteTaken self.new (taken ++ page.rows)) }
-        ensures none { IfNone result (self.old.inbox ≡ None) }
-        ensures rest { self.new ≡ record self.old { inbox = None } }
-    {
-        self.inbox.take()
-    }
-
-    /// Whether it took an End, and every page was handed on.
-    pub fn is_ended(&self) -> bool
-        ensures { IsTrue result ↔ IsRemoteEnded self.now }
-    {
-        self.inbox.is_none() && self.seat.ended()
-    }
-
-    /// Hands back its seat, wherever it stands. A page that was not handed on is gone.
-    pub fn stop(self) -> SpreadTake<'w>
-        ensures { result ≡ self.entry.seat }
-    {
-        self.seat
+    fn take(&mut self) -> Result<Option<Page>, Memory> {
+        Ok(self.take())
     }
 }

@@ -11,15 +11,15 @@ use std::thread::Threads;
 
 /// Bells, each with how often it rang; the numbers of the others are not counted.
 #[derive(Drop)]
-pub(crate) struct Counted {
+pub(crate) struct CountingBells {
     pub(crate) alloc: Global,
     pub(crate) rings: Vec<u64>,
 }
 
-impl Counted {
-    pub(crate) fn new(alloc: Global, bells: usize) -> Result<Counted, Memory> {
+impl CountingBells {
+    pub(crate) fn new(alloc: Global, bells: usize) -> Result<CountingBells, Memory> {
         let rings = Vec::from_elem(alloc, 0u64, bells)?;
-        Ok(Counted { alloc, rings })
+        Ok(CountingBells { alloc, rings })
     }
 
     fn count(&self, bell: u32) -> u64 {
@@ -31,7 +31,7 @@ impl Counted {
     }
 }
 
-impl Bells for Counted {
+impl Bells for CountingBells {
     ghost shown = { λ _ _ _. Unit {0} };
 
     ghost rang = { λ _ _ _. Unit {0} };
@@ -52,7 +52,7 @@ impl Bells for Counted {
 }
 
 /// Writes how often each bell rang.
-pub(crate) fn write_rings(text: &mut String, bells: &Counted) -> Result<(), Memory> {
+pub(crate) fn write_rings(text: &mut String, bells: &CountingBells) -> Result<(), Memory> {
     for count in &bells.rings {
         write!(text, "{count} ")?;
     }

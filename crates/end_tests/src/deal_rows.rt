@@ -1,8 +1,8 @@
 //! Targets and sources of one edge, call by call.
 ghost use Rattle.std.specs.Prelude.{◌≡◌, ◌<◌, [], All};
 
-use crate::counted::{Counted, page_of, write_page, write_rings, write_wait};
-use driver_ends::{DealTarget, RemoteSource};
+use crate::counted::{CountingBells, page_of, write_page, write_rings, write_wait};
+use driver_ends::{DealTarget, EdgeEnd, RemoteSource};
 use output_buffer::{Spread, SpreadTake};
 use sql_values::Memory;
 use std::alloc::Global;
@@ -22,7 +22,7 @@ finish ready look:1 ready look:1 over:1 over:0 look:0 over:0 done|bell1at0 ready
 struct Dealt<'e> {
     target: DealTarget<'e>,
     sources: Vec<RemoteSource<'e>>,
-    bells: Counted,
+    bells: CountingBells,
     text: String,
 }
 
@@ -42,7 +42,7 @@ impl<'e> Dealt<'e> {
     }
 
     fn ready<R: Threads + Wait + Sync>(&mut self, rt: &R) -> Result<(), Memory> {
-        let on = self.target.ready(rt, &mut self.bells)?;
+        let on = self.target.advance(rt, &mut self.bells)?;
         write_wait(&mut self.text, on)
     }
 
@@ -50,7 +50,7 @@ impl<'e> Dealt<'e> {
         if by >= self.sources.len() {
             return Ok(());
         }
-        let on = self.sources[by].ready(rt, &mut self.bells)?;
+        let on = self.sources[by].advance(rt, &mut self.bells)?;
         write_wait(&mut self.text, on)
     }
 
@@ -146,7 +146,7 @@ fn line_holds<R: Threads + Wait + Sync>(rt: &R, alloc: Global, line: &str) -> Re
     let mut dealt = Dealt {
         target: DealTarget::new(seat),
         sources: sources_of(alloc, seats)?,
-        bells: Counted::new(alloc, 2)?,
+        bells: CountingBells::new(alloc, 2)?,
         text: String::new(alloc),
     };
     dealt.call_all(rt, alloc, words)?;

@@ -1,9 +1,9 @@
 //! Targets of one edge and of three, call by call.
 ghost use Rattle.std.specs.Prelude.{◌≡◌, ◌<◌, [], All, IfOk, false, length};
 
-use crate::counted::{Counted, page_of, write_piece, write_rings, write_wait};
-use blocked::Bells;
-use driver_ends::{PutKind, PutTarget};
+use crate::counted::{CountingBells, page_of, write_piece, write_rings, write_wait};
+use blocked::{Bells, ReadBell, Seen};
+use driver_ends::{EdgeEnd, PutKind, PutTarget};
 use output_buffer::{Gather, GatherPut, GatherTake, Partitioner, Took};
 use sql_values::Memory;
 use std::alloc::Global;
@@ -31,7 +31,7 @@ hash 3 1|put:1,2 ready put:2,12345 ready take:0 ready take:1 finish ready take:2
 struct Ends<'e> {
     target: PutTarget<'e>,
     takes: Vec<GatherTake<'e>>,
-    bells: Counted,
+    bells: CountingBells,
     text: String,
 }
 
@@ -50,7 +50,7 @@ impl<'e> Ends<'e> {
     }
 
     fn ready<R: Threads + Wait + Sync>(&mut self, rt: &R) -> Result<(), Memory> {
-        let on = self.target.ready(rt, &mut self.bells)?;
+        let on = self.target.advance(rt, &mut self.bells)?;
         write_wait(&mut self.text, on)
     }
 
@@ -58,7 +58,9 @@ impl<'e> Ends<'e> {
         if edge >= self.takes.len() {
             return Ok(());
         }
-        let Ok(Took { piece, due }) = self.takes[edge].take(rt) else {
+        let bell = self.takes[edge].piece_bell();
+        let seen = Seen::read(rt, &mut self.bells, bell);
+        let Ok(Took { piece, due }) = self.takes[edge].take(rt, seen) else {
             self.text.push_str("- ")?;
             return Ok(());
         };
@@ -201,7 +203,7 @@ fn said<R: Threads + Wait + Sync>(
     edges: &mut [Gather],
     words: &str,
 ) -> Result<String, Memory> {
-    let bells = Counted::new(alloc, edges.len().saturating_mul(2))?;
+    let bells = CountingBells::new(alloc, edges.len().saturating_mul(2))?;
     let mut puts = Vec::new(alloc);
     let mut takes = Vec::new(alloc);
     seat_all(edges, &mut puts, &mut takes)?;

@@ -1,10 +1,11 @@
 use Rattle.std.proofs.Common.{◌≡◌, ◌+◌, ◌<◌, [], length, map, rules, arith, sym, ap, ◌∙◌}
 use Rattle.std.proofs.Math.Seq.{map-set_same}
 use Rattle.std.proofs.lemmas.List.{length-set, length_push}
+use Rattle.std.proofs.lemmas.List.Elements.{All-set}
 use Rattle.output_buffer.specs.Edges.{end_count}
 use Rattle.output_buffer.specs.Seats.{GatherPutState}
 use Rattle.col_pages.specs.Pages.{TypedPage}
-use Rattle.driver_ends.specs.Outlets.{OutletState, rows_sent}
+use Rattle.driver_ends.specs.Outlets.{OutletInOrder, OutletState, rows_sent}
 use Rattle.driver_ends.specs.Targets.{add_each}
 use Rattle.driver_ends.proofs.TargetLemmas.{add_none, clear_before, each_same, held_more, length_same}
 use Rattle.driver_ends.proofs.put_target.hold_all.Goals as goal
@@ -28,6 +29,7 @@ loop-page-preserved c =
     record {
       few = omega (arith, fewer, i.few, is, length-set c.loop-page.outlets n c.hold.new.self);
       clear = λ k e less. clear_before c.loop-page.outlets c.hold.new.self n (length c.loop-page.pages.items) fewer i.clear k e (omega (arith, less, is));
+      order = All-set OutletInOrder c.loop-page.outlets n c.hold.new.self c.hold.ensures.order i.order;
       seats = map-set_same (λ (l : OutletState). l.seat) c.loop-page.outlets n c.hold.new.self d c.hold.ensures.seat ∙ i.seats;
       sent = held_more c.loop-page.outlets c.pop.new.self.items c.in-Some.page c.hold.new.self d n is (omega (arith, fewer, i.few)) c.hold.ensures.sent
           ∙ ap (λ pages. add_each (map rows_sent c.loop-page.outlets) (map (λ (p : TypedPage). p.rows) pages)) (sym c.in-Some.ensures.items)

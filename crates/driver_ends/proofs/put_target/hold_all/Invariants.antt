@@ -1,5 +1,6 @@
 use Rattle.std.proofs.Common.{◌≡◌, ℕ, ◌<◌, ◌≤◌, length, get_or, map}
-use Rattle.driver_ends.specs.Outlets.{IsClear, OutletState, rows_sent}
+use Rattle.std.specs.Prelude.{All}
+use Rattle.driver_ends.specs.Outlets.{IsClear, OutletInOrder, OutletState, rows_sent}
 use Rattle.driver_ends.specs.Targets.{add_each}
 use Rattle.driver_ends.proofs.put_target.hold_all.Given as goal
 
@@ -8,6 +9,7 @@ abbrev pub invariant-loop-page : goal.invariant-loop-page
 invariant-loop-page l = record {
   few : length l.pages.items ≤ length l.outlets;
   clear : (k : ℕ) (d : OutletState) → k < length l.pages.items → IsClear (get_or l.outlets k d);
+  order : All OutletInOrder l.outlets;
   seats : map (λ outlet. outlet.seat) l.outlets ≡ map (λ outlet. outlet.seat) l.initial.outlets;
   sent : add_each (map rows_sent l.outlets) (map (λ p. p.rows) l.pages.items) ≡ add_each (map rows_sent l.initial.outlets) (map (λ p. p.rows) l.initial.pages.items);
 }

@@ -2,7 +2,7 @@ use Rattle.std.proofs.Common.{◌≡◌, length, rules, arith, sym, ap, subst, �
 use Rattle.std.proofs.lemmas.List.{length-map}
 use Rattle.driver_ends.specs.Outlets.{new_outlet}
 use Rattle.driver_ends.specs.Targets.{FitsKind}
-use Rattle.driver_ends.proofs.TargetLemmas.{new_early, new_sent}
+use Rattle.driver_ends.proofs.TargetLemmas.{new_early, new_in_order, new_sent}
 use Rattle.driver_ends.proofs.put_target.PutTarget.new.Goals as goal
 
 pub invariant_of-result : goal.invariant_of-result
@@ -11,6 +11,7 @@ invariant_of-result c =
     record {
       fits = subst (FitsKind c.args.kind) (sym long) c.requires.fits;
       early = λ is. new_early c.args.seats.items c.in_ok-outlets.outlets.items c.in_ok-outlets.ensures c.requires.fresh;
+      order = new_in_order c.args.seats.items c.in_ok-outlets.outlets.items c.in_ok-outlets.ensures c.requires.fresh;
       none = search rules;
       room = omega (arith, long, c.in_ok-room.ensures.capacity, c.len.ensures, c.args.seats.ok.0);
     }

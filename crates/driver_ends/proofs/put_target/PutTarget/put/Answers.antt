@@ -5,7 +5,7 @@ use Rattle.std.proofs.lemmas.List.{length-map, with_items_is}
 use Rattle.col_pages.specs.Pages.{TypedPage}
 use Rattle.output_buffer.specs.Edges.{end_count}
 use Rattle.output_buffer.specs.Seats.{GatherPutState}
-use Rattle.driver_ends.specs.Outlets.{OutletState, rows_sent}
+use Rattle.driver_ends.specs.Outlets.{OutletInOrder, OutletState, rows_sent}
 use Rattle.driver_ends.specs.Targets.{FitsKind, HasSent, TargetState, add_each, sent_to}
 use Rattle.driver_ends.proofs.TargetLemmas.{each_same, length_same, length_sent, put_sent}
 use Rattle.driver_ends.proofs.put_target.PutTarget.put.Goals as goal
@@ -27,6 +27,7 @@ invariant_of-self c =
       fits = subst (λ outlets. FitsKind t.kind (length outlets)) (sym is) (subst (FitsKind t.kind) (sym long) c.self.invariant.fits);
       early = λ told. subst (All (λ (l : OutletState). end_count l.seat.put ≡ 0)) (sym is) (λ k d less.
           ap (λ (s : GatherPutState). end_count s.put) (each_same (λ (l : OutletState). l.seat) new t.outlets.items seats k d) ∙ c.self.invariant.early told k d (omega (arith, less, long)));
+      order = subst (All OutletInOrder) (sym is) c.hold_all.ensures.order;
       none = c.self.invariant.none;
       room = omega (arith, ap length is, long, c.self.invariant.room);
     }

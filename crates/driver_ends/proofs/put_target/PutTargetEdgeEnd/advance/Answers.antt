@@ -3,10 +3,10 @@ use Rattle.std.specs.Prelude.{All}
 use Rattle.std.specs.Vec.{with_items}
 use Rattle.std.proofs.lemmas.List.{with_items_is}
 use Rattle.output_buffer.specs.Edges.{end_count}
-use Rattle.driver_ends.specs.Outlets.{OutletState, outlet_kept, rows_sent}
+use Rattle.driver_ends.specs.Outlets.{OutletInOrder, OutletState, outlet_kept, rows_sent}
 use Rattle.driver_ends.specs.Targets.{FitsKind, HasSent, TargetState, sent_to}
 use Rattle.driver_ends.proofs.TargetLemmas.{kept_early, kept_sent, length_same}
-use Rattle.driver_ends.proofs.put_target.PutTarget.ready.Goals as goal
+use Rattle.driver_ends.proofs.put_target.PutTargetEdgeEnd.advance.Goals as goal
 
 pub invariant_of-self : goal.invariant_of-self
 invariant_of-self g c =
@@ -18,6 +18,7 @@ invariant_of-self g c =
     record {
       fits = subst (λ outlets. FitsKind t.kind (length outlets)) (sym is) (subst (FitsKind t.kind) (sym long) c.self.invariant.fits);
       early = λ told. subst (All (λ (l : OutletState). end_count l.seat.put ≡ 0)) (sym is) (kept_early t.is_told t.outlets.items new kept c.self.invariant.early told);
+      order = subst (All OutletInOrder) (sym is) c.advance_all.ensures.order;
       none = c.self.invariant.none;
       room = omega (arith, ap length is, long, c.self.invariant.room);
     }

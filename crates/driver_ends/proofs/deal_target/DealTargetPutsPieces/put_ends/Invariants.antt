@@ -1,7 +1,7 @@
 use Rattle.std.proofs.Common.{◌≡◌, ℕ, ◌+◌, true, None}
 use Rattle.output_buffer.specs.Edges.{end_count}
 use Rattle.driver_ends.specs.Deals.{deal_dues, deal_kept}
-use Rattle.driver_ends.proofs.deal_target.DealTarget.put_ends.Given as goal
+use Rattle.driver_ends.proofs.deal_target.DealTargetPutsPieces.put_ends.Given as goal
 
 -- so many Ends were put
 abbrev pub invariant-loop-number : goal.invariant-loop-number

@@ -1,0 +1,144 @@
+-- What targets and sources tell a driver: their Bools, their looks, and the rows that a source handed on.
+use Rattle.std.proofs.Common.{◌≡◌, ℕ, zero, suc, ◌+◌, ◌<◌, List, [], ◌∷◌, Bool, true, false, Option, Some, None, Result, Ok, Err, cond, length, get_or, take, map, refl, sym, ap, ◌∙◌, arith, append-nil, ◌⊎◌, inl, inr}
+use Rattle.std.specs.Prelude.{All, IfOk, IfNone, IfSome, IsSome, MatchOption, not, ◌&&◌, ◌||◌, find, is_none, nat_eq, nat_lt, sum_by}
+use Rattle.std.specs.Bool.{Decides}
+use Rattle.std.specs.List.{list_all}
+use Rattle.std.proofs.lemmas.Bool.{lt-ltb, true≢false}
+use Rattle.std.proofs.lemmas.List.Elements.{All-head, All-tail}
+use Rattle.std.proofs.lemmas.List.Folds.{fold-map}
+use Rattle.std.proofs.lemmas.List.Sums.{AllPass-from_list_all, list_all-from_AllPass}
+use Rattle.col_pages.specs.Pages.{TypedPage}
+use Rattle.sql_values.specs.declared.memory.Memory.{Memory}
+use Rattle.blocked.specs.declared.blocked_on.BlockedOn.{BlockedOn}
+use Rattle.output_buffer.specs.Edges.{end_count}
+use Rattle.output_buffer.specs.declared.piece.Piece.{Piece}
+use Rattle.output_buffer.specs.Seats.{GatherPutState, new_gather_put, rows_of_pieces}
+use Rattle.stage_moves.specs.Looks.{HasWaited}
+use Rattle.driver_ends.specs.Ends.{count_of, first_waiting, is_clear, is_through, outlet_as_made, space_of, target_as_made, target_finished, target_looks, target_wants}
+use Rattle.driver_ends.specs.Outlets.{IsClear, IsStuck, IsThrough, OutletKept, OutletState, new_outlet, outlet_kept}
+use Rattle.driver_ends.specs.Sources.{HoldsLast}
+use Rattle.driver_ends.specs.Targets.{HasStuckOutlet, IsFinished, TargetState, Wants, dues_of, fulls_of}
+use Rattle.driver_ends.proofs.TargetLemmas.{same_by}
+
+-- ---- Bools
+
+not_decides : (b : Bool) → Decides (not b) (b ≡ false)
+not_decides true = (λ e. absurd (true≢false (sym e)), λ e. absurd (true≢false e))
+not_decides false = (λ e. refl, λ e. refl)
+
+none_decides : {X : Type 0} (o : Option X) → Decides (is_none o) (o ≡ None)
+none_decides None = (λ e. refl, λ e. refl)
+none_decides (Some x) = (λ e. absurd (true≢false (sym e)), λ e. cc)
+
+and_decides : {P Q : Type 0} (a b : Bool) → Decides a P → Decides b Q → Decides (a && b) (P × Q)
+and_decides true b p q = (λ e. (p.0 refl, q.0 e), λ h. q.1 h.1)
+and_decides false b p q = (λ e. absurd (true≢false (sym e)), λ h. p.1 h.0)
+
+each_decides : {X : Type 0} (p : X → Bool) (P : X → Type 0) → ((x : X) → Decides (p x) (P x)) → (xs : List X) → Decides (list_all p xs) (All P xs)
+each_decides p P each xs =
+    (λ e k d less. (each (get_or xs k d)).0 (AllPass-from_list_all p xs e k d less), λ all. list_all-from_AllPass p xs (λ k d less. (each (get_or xs k d)).1 (all k d less)))
+
+through_from : (told : Bool) (held : Option TypedPage) (ends : ℕ) → (is_none held && (not told || nat_lt 0 ends)) ≡ true → (held ≡ None) × (told ≡ true → 0 < ends)
+through_from told (Some page) ends e = absurd (true≢false (sym e))
+through_from true None zero e = absurd (true≢false (sym e))
+through_from true None (suc n) e = (refl, λ is. omega arith)
+through_from false None ends e = (refl, λ is. absurd (true≢false (sym is)))
+
+through_to : (told : Bool) (held : Option TypedPage) (ends : ℕ) → held ≡ None → (told ≡ true → 0 < ends) → (is_none held && (not told || nat_lt 0 ends)) ≡ true
+through_to told (Some page) ends clear ended = cc
+through_to false None ends clear ended = refl
+through_to true None ends clear ended = lt-ltb 0 ends (ended refl)
+
+pub through_decides : (told : Bool) (outlet : OutletState) → Decides (is_through told outlet) (IsThrough told outlet)
+through_decides told outlet =
+    let ends = end_count outlet.seat.put in
+    (λ e. let t = through_from told outlet.held ends e in record { clear = t.0; ended = t.1 }, λ t. through_to told outlet.held ends t.clear t.ended)
+
+pub wants_decides : (t : TargetState) → Decides (target_wants t) (Wants t)
+wants_decides t =
+    let d = and_decides (not t.is_told) (list_all is_clear t.outlets) (not_decides t.is_told) (each_decides is_clear IsClear (λ o. none_decides o.held) t.outlets) in
+    (λ e. let w = d.0 e in record { going = w.0; clear = w.1 }, λ w. d.1 (w.going, w.clear))
+
+pub finished_decides : (t : TargetState) → Decides (target_finished t) (IsFinished t)
+finished_decides t =
+    let d = and_decides t.is_told (list_all (is_through true) t.outlets) (λ e. e, λ e. e) (each_decides (is_through true) (IsThrough true) (through_decides true) t.outlets) in
+    (λ e. let f = d.0 e in record { told = f.0; through = f.1 }, λ f. d.1 (f.told, f.through))
+
+-- ---- what a target tells
+
+-- a target is as it was made where its outlets are
+made_with : (old new : TargetState) → new ≡ record old { outlets = new.outlets } → map outlet_as_made new.outlets ≡ map outlet_as_made old.outlets → target_as_made new ≡ target_as_made old
+made_with old new rest each =
+    ap target_as_made rest ∙ ap (λ (outlets : List OutletState). record { kind = old.kind; outlets = outlets; is_told = false }) each
+
+pub kept_made : (told : Bool) (old new : TargetState) → new ≡ record old { outlets = new.outlets } → map (outlet_kept told) new.outlets ≡ map (outlet_kept told) old.outlets →
+    target_as_made new ≡ target_as_made old
+kept_made told old new rest kept =
+    made_with old new rest (same_by (λ (k : OutletKept). new_outlet (new_gather_put k.edge k.number)) (outlet_kept told) new.outlets old.outlets kept)
+
+pub seats_made : (old new : TargetState) → new ≡ record old { outlets = new.outlets } → map (λ (l : OutletState). l.seat) new.outlets ≡ map (λ (l : OutletState). l.seat) old.outlets →
+    target_as_made new ≡ target_as_made old
+seats_made old new rest seats =
+    made_with old new rest (same_by (λ (s : GatherPutState). new_outlet (new_gather_put s.edge s.number)) (λ (l : OutletState). l.seat) new.outlets old.outlets seats)
+
+-- what a sum over the seats tells is the same where the seats are
+sum_of_seats : (f : GatherPutState → ℕ) (old new : List OutletState) → map (λ (l : OutletState). l.seat) new ≡ map (λ (l : OutletState). l.seat) old →
+    sum_by (λ (l : OutletState). f l.seat) new ≡ sum_by (λ (l : OutletState). f l.seat) old
+sum_of_seats f old new seats =
+    let over : (xs : List OutletState) → sum_by f (map (λ (l : OutletState). l.seat) xs) ≡ sum_by (λ (l : OutletState). f l.seat) xs = λ xs. fold-map (λ n s. n + f s) (λ (l : OutletState). l.seat) 0 xs in
+    sym (over new) ∙ ap (sum_by f) seats ∙ over old
+
+pub same_fulls : (old new : List OutletState) → map (λ (l : OutletState). l.seat) new ≡ map (λ (l : OutletState). l.seat) old → fulls_of new ≡ fulls_of old
+same_fulls old new seats = sum_of_seats (λ (s : GatherPutState). s.fulls) old new seats
+
+pub same_dues : (old new : List OutletState) (bell : ℕ) → map (λ (l : OutletState). l.seat) new ≡ map (λ (l : OutletState). l.seat) old → dues_of new bell ≡ dues_of old bell
+same_dues old new bell seats = sum_of_seats (λ (s : GatherPutState). cond (nat_eq bell s.edge.bells.piece) (length s.put) 0) old new seats
+
+-- the first outlet that is not through
+found_first : (told : Bool) (outlets : List OutletState) (place : ℕ) (d : OutletState) → place < length outlets → All (IsThrough told) (take place outlets) →
+    is_through told (get_or outlets place d) ≡ false → find (λ outlet. not (is_through told outlet)) outlets ≡ Some (get_or outlets place d)
+found_first told [] place d less before going = absurd (omega (arith, less))
+found_first told (x ∷ xs) zero d less before going = ap (λ b. cond (not b) (Some x) (find (λ outlet. not (is_through told outlet)) xs)) going
+found_first told (x ∷ xs) (suc place) d less before going =
+    ap (λ b. cond (not b) (Some x) (find (λ outlet. not (is_through told outlet)) xs)) ((through_decides told x).1 (All-head (IsThrough told) x (take place xs) before))
+    ∙ found_first told xs place d (omega (arith, less)) (All-tail (IsThrough told) x (take place xs) before) going
+
+going_at : (told : Bool) (held : Option TypedPage) (ends : ℕ) → IsSome held ⊎ ((told ≡ true) × (ends ≡ 0)) → (is_none held && (not told || nat_lt 0 ends)) ≡ false
+going_at told (Some page) ends left = refl
+going_at told None ends (inl some) = absurd (true≢false (sym some))
+going_at told None ends (inr h) = (λ i. not (h.0 i) || nat_lt 0 (h.1 i))
+
+-- a stuck outlet is not through
+pub stuck_going : (told : Bool) (old new : OutletState) (on : BlockedOn) → IsStuck told old new on → is_through told new ≡ false
+stuck_going told old new on stuck = going_at told new.held (end_count new.seat.put) stuck.left
+
+-- a target that is stuck looked in vain, with the count that it names
+pub stuck_waited : (old new : TargetState) (shown : ℕ → ℕ → Type 0) (on : BlockedOn) → HasStuckOutlet new.is_told old.outlets new.outlets on → shown on.bell on.seen →
+    HasWaited (target_looks old) (target_looks new) shown on
+stuck_waited old new shown on s seen =
+    let told = new.is_told in
+    let going : is_through told (get_or new.outlets s.place s.after) ≡ false = ap (is_through told) (sym s.is) ∙ stuck_going told s.before s.after on s.stuck in
+    let first : first_waiting new ≡ Some s.after = found_first told new.outlets s.place s.after s.there s.first going ∙ ap Some (sym s.is) in
+    record {
+      looked = s.full;
+      bell = s.stuck.bell ∙ sym (ap space_of first);
+      seen = seen;
+      handed = ap count_of first ∙ sym s.stuck.seen;
+      unrung = s.stuck.waits;
+    }
+
+-- ---- answers of a look
+
+pub some_after : (P : Type 0) (Q W : BlockedOn → Type 0) (r : Result (Option BlockedOn) Memory) → IfOk r (λ o. MatchOption o P Q) → ((on : BlockedOn) → Q on → W on) → IfOk r (λ o. IfSome o W)
+some_after P Q W (Ok None) answer f = tt
+some_after P Q W (Ok (Some on)) answer f = f on answer
+some_after P Q W (Err e) answer f = tt
+
+pub none_after : (P W : Type 0) (Q : BlockedOn → Type 0) (r : Result (Option BlockedOn) Memory) → IfOk r (λ o. MatchOption o P Q) → (P → W) → IfOk r (λ o. IfNone o W)
+none_after P W Q (Ok None) answer f = f answer
+none_after P W Q (Ok (Some on)) answer f = tt
+none_after P W Q (Err e) answer f = tt
+
+-- with no page in the inbox all rows were handed on
+pub none_left : (took : List Piece) → HoldsLast took None
+none_left took = record { before = rows_of_pieces took; whole = sym (append-nil (rows_of_pieces took)) }

@@ -1,5 +1,6 @@
 -- What a driver keeps over its turns, and what follows from it.
-use Rattle.std.proofs.Common.{◌≡◌, ◌<◌, ℕ, List, [], ◌∷◌, Bool, true, false, Option, Some, None, Err, length, map, refl, sym, subst, ◌∙◌, arith}
+use Rattle.std.proofs.Common.{◌≡◌, ◌+◌, ◌<◌, ℕ, min, List, [], ◌∷◌, Bool, true, false, Option, Some, None, Result, Ok, Err, length, map, refl, sym, subst, ◌∙◌, arith}
+use Rattle.std.specs.Prelude.{IfOk}
 use Rattle.sql_values.specs.declared.fail.Fail.{Fail}
 use Rattle.operator_core.specs.Answers.{NotMemory}
 use Rattle.operator_core.specs.Calls.{IsLawful}
@@ -11,18 +12,20 @@ use Rattle.operator_core.proofs.ChainLemmas.{finished, could_go_on, failure}
 use Rattle.operator_core.proofs.LinkLemmas.{Linked-made}
 use Rattle.operator_core.proofs.StageLemmas.{Steps-made}
 use Rattle.operator_core.proofs.TurnLemmas.{Turns-made}
-use Rattle.stage_moves.specs.Counts.{LinkedBy}
+use Rattle.blocked.specs.Counts.{most_count}
+use Rattle.stage_moves.specs.Counts.{Counted, LinkedBy}
+use Rattle.stage_moves.specs.Moves.{SomeFails}
 use Rattle.stage_moves.specs.Places.{AllLater, IsLater}
 use Rattle.stage_moves.proofs.PlaceLemmas.{each-length}
 use Rattle.driver_loop.specs.declared.run_fault.RunFault.{RunFault}
 use Rattle.driver_loop.specs.declared.run_fault.RunFault.TheVariants.{ExprFailed}
-use Rattle.driver_loop.specs.declared.source.Source.{Source}
+use Rattle.driver_loop.specs.declared.run_fault.RunFault.TheVariants as run
+use Rattle.driver_turns.specs.declared.turns.Turned.{Turned}
 use Rattle.driver_loop.specs.declared.stage.Stage.{Stage}
-use Rattle.driver_loop.specs.declared.target.Target.{Target}
 use Rattle.driver_loop.specs.contracts.stage.StageOperator.TheImpl.{ghosts}
 use Rattle.driver_loop.specs.Faults.{run_fault}
 use Rattle.driver_loop.specs.Ends.{rows_taken, has_ended, is_told, rows_given}
-use Rattle.driver_loop.specs.Drivers.{DriverState, IsWhole, IsDriver, IsOver, HasFailed, CanGoOn, Went}
+use Rattle.driver_loop.specs.Drivers.{DriverState, IsWhole, IsDriver, IsOver, HasFailed, HasWorked, CanGoOn, Went}
 
 pub whole : (fault : Option RunFault) → fault ≡ None → IsWhole fault
 whole fault e = subst IsWhole (sym e) tt
@@ -41,25 +44,54 @@ driver_new laws d taken made given untold none going unfailed = record {
   links = λ w. rw (taken, given) (Linked-made ghosts laws d.stages made);
   turns = λ w. Turns-made ghosts laws (has_ended d.source) d.stages made;
   told = λ w told. absurd (let clash : false ≡ true = sym untold ∙ told in cc);
-  counts = λ e. record { rows = 0; entered = rw (taken, given) (entered_none laws d.stages made); work = omega (arith, none) };
+  counts = λ w. record { rows = 0; entered = rw (taken, given) (entered_none laws d.stages made); work = omega (arith, none) };
   over = λ f. cc;
   failed = λ node kind f. cc;
 }
 
--- its target is finished behind the last stage
-pub driver_finished : (number : ℕ) (source : Source) (stages : List Stage) (target : Target) (work : ℕ) (fault : Option RunFault) (over : Bool) → fault ≡ None
-    → last_finished ghosts (has_ended source) stages ≡ true
-    → IsDriver (record { number = number; source = source; stages = stages; target = target; work = work; is_finished = over; fault = fault })
-    → IsDriver (record { number = number; source = source; stages = stages; target = target; work = work; is_finished = true; fault = fault })
-driver_finished number source stages target work fault over unfailed last kept =
-    record {
-      links = kept.links;
-      turns = kept.turns;
-      told = kept.told;
-      counts = λ e. let c = kept.counts e in record { rows = c.rows; entered = c.entered; work = c.work };
-      over = λ _. (unfailed, last);
-      failed = kept.failed;
-    }
+-- what holds of how a turn ended holds of this end
+pub in_ok : (r : Result Turned OpFault) (turned end : Turned) (P : Turned → Type 0) → r ≡ Ok turned → turned ≡ end → IfOk r P → P end
+in_ok r turned end P is same h =
+    let this : P turned = subst (λ (r : Result Turned OpFault). IfOk r P) is h in
+    subst P same this
+
+pub not_none : (fault : Option RunFault) (fails : ℕ → Fail → Type 0) → fault ≡ None → (node : ℕ) (kind : Fail) → fault ≡ Some (ExprFailed node kind) → fails node kind
+not_none fault fails none node kind some = absurd (let clash : None ≡ Some (ExprFailed node kind) = sym none ∙ some in cc)
+
+pub going_on : (is_finished : Bool) (over : Type 0) → is_finished ≡ false → is_finished ≡ true → over
+going_on is_finished over going ended = absurd (let clash : false ≡ true = sym going ∙ ended in cc)
+
+-- a fault that is told as one of an expression is that
+pub expr_fault : (fault : OpFault) (told : RunFault) (node : ℕ) (kind : Fail) → told ≡ run_fault fault → Some told ≡ Some (ExprFailed node kind)
+    → ◌≡◌ {A = Result Turned OpFault} (Err fault) (Err (Expr node kind))
+expr_fault (Expr at why) told node kind is same =
+    let e : ExprFailed at why ≡ ExprFailed node kind = sym is ∙ (let t : told ≡ ExprFailed node kind = cc in t) in cc
+expr_fault op.Memory told node kind is same = absurd (let e : run.Memory ≡ ExprFailed node kind = sym is ∙ (let t : told ≡ ExprFailed node kind = cc in t) in cc)
+
+-- the count after a turn
+counted : (old units work rows : ℕ) → old ≡ min rows most_count → work ≡ min (old + units) most_count → work ≡ min (rows + units) most_count
+counted old units work rows before now = omega (arith, before, now)
+
+pub worked : (d now e : DriverState) (units : ℕ) → d ≡ now → Counted ghosts d.stages e.stages (rows_taken d.source) (rows_taken e.source) (rows_given d.target) (rows_given e.target) units
+    → e.work ≡ min (d.work + units) most_count → HasWorked now e
+worked d now e units same entered work = subst (λ (d : DriverState). HasWorked d e) same (record { units = units; entered = entered; work = work })
+
+-- a driver after a turn, whichever way that ended
+pub driver_turned : (d e : DriverState) (units : ℕ) → IsDriver d → IsWhole d.fault → (IsWhole e.fault → Went d e)
+    → (IsWhole e.fault → (is_told d.target ≡ true → last_finished ghosts (has_ended d.source) d.stages ≡ true) → is_told e.target ≡ true → last_finished ghosts (has_ended e.source) e.stages ≡ true)
+    → (IsWhole e.fault → Counted ghosts d.stages e.stages (rows_taken d.source) (rows_taken e.source) (rows_given d.target) (rows_given e.target) units) → e.work ≡ min (d.work + units) most_count
+    → (e.is_finished ≡ true → (e.fault ≡ None) × (last_finished ghosts (has_ended e.source) e.stages ≡ true))
+    → ((node : ℕ) (kind : Fail) → e.fault ≡ Some (ExprFailed node kind) → SomeFails ghosts e.stages node kind) → IsDriver e
+driver_turned d e units kept whole went told counts work over failed = record {
+  links = λ w. (went w).links (kept.links whole);
+  turns = λ w. (went w).turns (kept.turns whole);
+  told = λ w. told w (kept.told whole);
+  counts = λ w.
+      let c = kept.counts whole in
+      record { rows = c.rows + units; entered = (counts w).entered c.rows c.entered; work = counted d.work units e.work c.rows c.work work };
+  over = over;
+  failed = failed;
+}
 
 -- there is room for as many stages
 pub room_stays : (old new : List Stage) (room : ℕ) → AllLater ghosts old new → length old < room → length new < room

@@ -1,10 +1,10 @@
 -- A driver as it is seen, and what it keeps over its turns.
-use Rattle.std.specs.Prelude.{◌≡◌, ℕ, List, Bool, true, false, Option, Some, None, map, min}
+use Rattle.std.specs.Prelude.{◌≡◌, ◌+◌, ℕ, List, Bool, true, false, Option, Some, None, map, min}
 use Rattle.sql_values.specs.declared.fail.Fail.{Fail}
 use Rattle.blocked.specs.Counts.{most_count}
 use Rattle.operator_core.specs.Rows.{Row, Coming}
 use Rattle.operator_core.specs.Stages.{Linked, ToldInTurn, Chain, AreMadeOf, GoesOn, last_finished}
-use Rattle.stage_moves.specs.Counts.{LinkedBy}
+use Rattle.stage_moves.specs.Counts.{Counted, LinkedBy}
 use Rattle.stage_moves.specs.Moves.{SomeFails}
 use Rattle.driver_turns.specs.Turns.{StageFailed, WentOn}
 use Rattle.key_index.specs.Keys.{IndexedRows}
@@ -45,7 +45,7 @@ pub record IsDriver (d : DriverState) : Type 0 where
   pub links : IsWhole d.fault → Linked ghosts d.stages (rows_taken d.source) (rows_given d.target)
   pub turns : IsWhole d.fault → ToldInTurn ghosts (has_ended d.source) d.stages
   pub told : IsWhole d.fault → is_told d.target ≡ true → last_finished ghosts (has_ended d.source) d.stages ≡ true
-  pub counts : d.fault ≡ None → HasCounted d
+  pub counts : IsWhole d.fault → HasCounted d
   pub over : d.is_finished ≡ true → (d.fault ≡ None) × (last_finished ghosts (has_ended d.source) d.stages ≡ true)
   pub failed : (node : ℕ) (kind : Fail) → d.fault ≡ Some (ExprFailed node kind) → SomeFails ghosts d.stages node kind
 
@@ -55,13 +55,14 @@ pub record IsOver (d : DriverState) : Type 0 where
   pub ended : has_ended d.source ≡ true
   pub chain : Chain ghosts true (map ghosts.as_made d.stages) (rows_taken d.source) (rows_given d.target)
 
--- a build has its rows: once they were published its note knows them, and before that nothing
+-- a build has its rows: once they were published its note knows them, and before that nothing, unless its cell held
+-- another source
 abbrev pub IsBuiltAs : Bool → Target → Type 0
 IsBuiltAs is_finished (Result result) = Unit {0}
 IsBuiltAs is_finished (Build build) =
     (build.is_lost ≡ false)
     × (build.is_published ≡ is_finished)
-    × ((x : IndexedRows) → build.note.known ≡ Some x → (is_finished ≡ true) × (x ≡ build.source))
+    × ((x : IndexedRows) → build.note.known ≡ Some x → build.note.refused ≡ 0 → (is_finished ≡ true) × (x ≡ build.source))
     × (is_finished ≡ true → build.note.known ≡ Some build.source)
 
 -- where its target is a build, it was published where it is finished, and only there
@@ -81,3 +82,10 @@ CanGoOn d =
 -- what its stages took and gave goes on from the one state to the other, and they came from what they came from
 abbrev pub Went : DriverState → DriverState → Type 0
 Went d e = WentOn ghosts d.stages e.stages (rows_taken d.source) (rows_taken e.source) (rows_given d.target) (rows_given e.target) (has_ended d.source) (has_ended e.source)
+
+-- its work is so much more as rows entered its stages and its target from the one state to the other, up to the most
+-- that the count holds
+pub record HasWorked (d e : DriverState) : Type 0 where
+  pub units : ℕ
+  pub entered : Counted ghosts d.stages e.stages (rows_taken d.source) (rows_taken e.source) (rows_given d.target) (rows_given e.target) units
+  pub work : e.work ≡ min (d.work + units) most_count

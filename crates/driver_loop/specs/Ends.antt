@@ -2,13 +2,14 @@
 use Rattle.std.specs.Prelude.{◌≡◌, ℕ, List, [], Bool, true, false, Option, Some, None}
 use Rattle.relations.specs.Sorts.{IsBeginning}
 use Rattle.operator_core.specs.Rows.{Row}
+use Rattle.stage_moves.specs.Looks.{Looks, no_looks}
 use Rattle.split_source.specs.Scans.{given}
 use Rattle.split_source.specs.Seats.{SeatState, new_seat}
 use Rattle.driver_loop.specs.declared.source.Source.{Source}
 use Rattle.driver_loop.specs.declared.source.Source.TheVariants.{Scan, Rows}
 use Rattle.driver_loop.specs.declared.target.Target.{Target}
 use Rattle.driver_loop.specs.declared.target.Target.TheVariants.{Result, Build}
-use Rattle.driver_loop.specs.Builds.{IsKept, build_dues, build_kept, build_made}
+use Rattle.driver_loop.specs.Builds.{KnowsOwnSource, build_dues, build_looks, build_made, build_made_or_lost}
 
 -- the rows that a source gave
 abbrev pub rows_taken : Source → List Row
@@ -51,9 +52,9 @@ is_told (Result result) = result.is_told
 is_told (Build build) = build.is_told
 
 -- nothing is left to do: a build is published
-abbrev pub is_done : Target → Bool
-is_done (Result result) = result.is_told
-is_done (Build build) = build.is_published
+abbrev pub target_finished : Target → Bool
+target_finished (Result result) = result.is_told
+target_finished (Build build) = build.is_published
 
 -- it as it was made
 abbrev pub target_made : Target → Target
@@ -61,14 +62,19 @@ target_made (Result result) = Result (record result { rows = []; is_told = false
 target_made (Build build) = Build (build_made build)
 
 -- it as it was made, but that its rows are lost where they are
-abbrev pub target_kept : Target → Target
-target_kept (Result result) = Result (record result { rows = []; is_told = false })
-target_kept (Build build) = Build (build_kept build)
+abbrev pub target_made_or_lost : Target → Target
+target_made_or_lost (Result result) = Result (record result { rows = []; is_told = false })
+target_made_or_lost (Build build) = Build (build_made_or_lost build)
 
--- what a target keeps of its cell
-abbrev pub KeepsCell : Target → Type 0
-KeepsCell (Result result) = Unit {0}
-KeepsCell (Build build) = IsKept build
+-- what a target knows of its cell
+abbrev pub KnowsCell : Target → Type 0
+KnowsCell (Result result) = Unit {0}
+KnowsCell (Build build) = KnowsOwnSource build
+
+-- what it tells of its looks: a result never waits
+abbrev pub target_looks : Target → Looks
+target_looks (Result result) = no_looks
+target_looks (Build build) = build_looks build
 
 -- how often this bell was to be rung for what it did
 abbrev pub target_dues : Target → ℕ → ℕ
@@ -80,6 +86,6 @@ is_build (Result result) = false
 is_build (Build build) = true
 
 -- the rows that a target hands over: a build leaves its own in the cell
-abbrev pub rows_kept : Target → List Row
-rows_kept (Result result) = result.rows
-rows_kept (Build build) = []
+abbrev pub rows_handed : Target → List Row
+rows_handed (Result result) = result.rows
+rows_handed (Build build) = []

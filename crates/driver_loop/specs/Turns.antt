@@ -1,6 +1,8 @@
 -- What a turn of a driver answers, and what a driver hands back.
-use Rattle.std.specs.Prelude.{◌≡◌, List, [], ◌∷◌, ◌++◌, true, false, Some, None, flat_map}
+use Rattle.std.specs.Prelude.{◌≡◌, ◌⊎◌, ℕ, List, [], ◌∷◌, ◌++◌, true, false, Some, None, flat_map}
 use Rattle.blocked.specs.declared.blocked_on.BlockedOn.{BlockedOn}
+use Rattle.stage_moves.specs.Looks.{HasWaited}
+use Rattle.driver_turns.specs.Turns.{StageBlocked}
 use Rattle.driver_loop.specs.declared.turn.Turn.{Turn}
 use Rattle.driver_loop.specs.declared.turn.Turn.TheVariants.{Yield, Blocked, Finished, Failed}
 use Rattle.driver_loop.specs.declared.pieces.CellNote.{CellNote}
@@ -9,7 +11,8 @@ use Rattle.driver_loop.specs.declared.stage.Stage.{Stage}
 use Rattle.driver_loop.specs.declared.stage.Stage.TheVariants.{Filter, Limit, Sort, TopN, Single, Probe}
 use Rattle.driver_loop.specs.declared.target.Target.{Target}
 use Rattle.driver_loop.specs.declared.target.Target.TheVariants.{Result, Build}
-use Rattle.driver_loop.specs.Ends.{claim_of, rows_kept}
+use Rattle.driver_loop.specs.contracts.stage.StageOperator.TheImpl.{ghosts}
+use Rattle.driver_loop.specs.Ends.{claim_of, is_told, rows_handed, target_looks}
 use Rattle.driver_loop.specs.Drivers.{DriverState}
 
 -- a driver that goes on, is finished, or keeps its fault, as the turn answered
@@ -18,6 +21,10 @@ IsLeftBy Yield d = (d.is_finished ≡ false) × (d.fault ≡ None)
 IsLeftBy (Blocked on) d = (d.is_finished ≡ false) × (d.fault ≡ None)
 IsLeftBy Finished d = (d.is_finished ≡ true) × (d.fault ≡ None)
 IsLeftBy (Failed fault) d = (d.is_finished ≡ false) × (d.fault ≡ Some fault)
+
+-- a stage waits, and the target was not told that no page comes any more; or the target waits
+abbrev pub IsWaiting : List Stage → List Stage → Target → Target → (ℕ → ℕ → Type 0) → BlockedOn → Type 0
+IsWaiting old new was is shown on = (StageBlocked ghosts old new shown on × (is_told is ≡ false)) ⊎ HasWaited (target_looks was) (target_looks is) shown on
 
 -- a fact of what it waits for
 abbrev pub IfBlocked : Turn → (BlockedOn → Type 0) → Type 0
@@ -48,4 +55,4 @@ notes_of d = flat_map note_of_stage d.stages ++ note_of_target d.target
 pub record ArePiecesOf (d : DriverState) (p : Pieces) : Type 0 where
   pub number : p.number ≡ d.number
   pub claim : p.claim ≡ claim_of d.source
-  pub rows : p.rows ≡ rows_kept d.target
+  pub rows : p.rows ≡ rows_handed d.target

@@ -4,10 +4,10 @@ ghost use Rattle.sql_values.specs.declared.fail.Fail.{Fail as Kind};
 ghost use Rattle.blocked.specs.Counts.{most_count};
 ghost use Rattle.col_pages.specs.Pages.{most_rows};
 ghost use Rattle.futures.specs.Task.{Covers, Keeps};
-ghost use Rattle.driver_turns.specs.Turns.{StageBlocked};
-ghost use Rattle.driver_loop.specs.Ends.{is_build, rows_taken, has_ended, source_made, target_dues, target_made, IsBegun, IsDrained};
-ghost use Rattle.driver_loop.specs.Drivers.{IsDriver, IsOver, HasFailed, CanGoOn, IsBuilt, IsWhole, Went};
-ghost use Rattle.driver_loop.specs.Turns.{IsLeftBy, IfBlocked, ArePiecesOf, notes_of};
+ghost use Rattle.operator_core.specs.Stages.{last_finished};
+ghost use Rattle.driver_loop.specs.Ends.{is_build, is_told, rows_taken, has_ended, source_made, target_dues, target_made, IsBegun, IsDrained};
+ghost use Rattle.driver_loop.specs.Drivers.{IsDriver, IsOver, HasFailed, HasWorked, CanGoOn, IsBuilt, IsWhole, Went};
+ghost use Rattle.driver_loop.specs.Turns.{IsLeftBy, IsWaiting, IfBlocked, ArePiecesOf, notes_of};
 
 use crate::notes::put_notes;
 use crate::pieces::{CellNote, Pieces};
@@ -18,7 +18,7 @@ use crate::step::take_turn;
 use crate::target::Target;
 use crate::turn::{Turn, hear};
 use blocked::{Bells, BlockedOn};
-use driver_turns::Turned;
+use driver_turns::{Turned, Turning};
 use futures::Future;
 use futures::task::Context;
 use operator_core::{Operator, laws};
@@ -102,7 +102,8 @@ impl<'w> Driver<'w> {
         self.number
     }
 
-    /// How many rows entered its stages and its target, up to the most that the count holds.
+    /// How many rows entered its stages and its target, up to the most that the count holds, with those on which
+    /// it failed.
     pub fn work(&self) -> u64
         ensures { result ≡ self.now.work }
     {
@@ -146,8 +147,9 @@ impl<'w> Driver<'w> {
     }
 
     /// Moves rows until its target is finished, `quantum` of them entered a stage or the target, or nothing
-    /// moves and a stage waits. The future of one who waits has then registered with the context. Where the last
-    /// stage is finished, the target is told, and ends: a build is published, and the bell of its cell is rung.
+    /// moves and a stage or the target waits. The future of one who waits has then registered with the context.
+    /// Where the last stage is finished, the target is told, and ends: a build is published, and the bell of its
+    /// cell is rung.
     pub fn turn<R: Threads + Wait + Sync, B: Bells>(
         &mut self,
         rt: &R,
@@ -164,10 +166,15 @@ impl<'w> Driver<'w> {
         ensures went { IsWhole self.new.fault → Went self.old self.new }
         ensures work { (self.old.work ≤ self.new.work)
             × (self.new.work < self.old.work + (quantum + most_rows)) }
+        ensures counts { IsWhole self.new.fault → HasWorked self.old self.new }
         ensures yields { result ≡ Turn.Yield
             → min (self.old.work + quantum) most_count ≤ self.new.work }
-        ensures blocked { IfBlocked result (λ on. StageBlocked ⟦<Stage<'w> as Operator>⟧
-            self.old.stages self.new.stages (B.shown bells.new) on) }
+        ensures untold { result ≡ Turn.Yield → is_told self.new.target ≡ false }
+        ensures tells { self.new.fault ≡ None
+            → last_finished ⟦<Stage<'w> as Operator>⟧ (has_ended self.new.source) self.new.stages ≡ true
+            → is_told self.new.target ≡ true }
+        ensures blocked { IfBlocked result (λ on. IsWaiting self.old.stages self.new.stages
+            self.old.target self.new.target (B.shown bells.new) on) }
         ensures heard { IfBlocked result (λ on. Covers cx.new (⟦<BlockedOn as Future>⟧.needs on)) }
         ensures over { result ≡ Turn.Finished → IsOver self.new }
         ensures failed { (node : ℕ) (kind : Kind)
@@ -180,28 +187,26 @@ impl<'w> Driver<'w> {
             → B.rang bells.new bell (times + target_dues self.new.target bell) }
     {
         laws::laws::<Stage<'w>>(PhantomData);
-        let (units, turned) = match take_turn(
+        let Turning { units, outcome } = take_turn(
             rt,
             &mut self.source,
             &mut self.stages,
             &mut self.target,
             quantum,
             bells,
-        ) {
-            Ok(turned) => turned,
+        );
+        self.work = self.work.saturating_add(units);
+        match outcome {
+            Ok(Turned::Yield) => Turn::Yield,
+            Ok(Turned::Blocked(on)) => Turn::Blocked(hear(on, cx)),
+            Ok(Turned::Finished) => {
+                self.is_finished = true;
+                Turn::Finished
+            }
             Err(fault) => {
                 let fault = RunFault::of(fault);
                 self.fault = Some(fault);
-                return Turn::Failed(fault);
-            }
-        };
-        self.work = self.work.saturating_add(units);
-        match turned {
-            Turned::Yield => Turn::Yield,
-            Turned::Blocked(on) => Turn::Blocked(hear(on, cx)),
-            Turned::Finished => {
-                self.is_finished = true;
-                Turn::Finished
+                Turn::Failed(fault)
             }
         }
     }

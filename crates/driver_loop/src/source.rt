@@ -1,6 +1,6 @@
 //! Where the pages of a driver come from, one variant each.
-ghost use Rattle.std.specs.Prelude.{◌≡◌, true};
-ghost use Rattle.driver_loop.specs.Ends.{has_ended, claim_of, IsBegun, IsDrained};
+ghost use Rattle.std.specs.Prelude.{◌≡◌, ◌++◌, true, IfOk, MatchOption};
+ghost use Rattle.driver_loop.specs.Ends.{has_ended, claim_of, rows_taken, source_made, IsBegun, IsDrained};
 
 use crate::rows_source::RowsSource;
 use blocked::Bells;
@@ -45,14 +45,25 @@ impl<'w> PageSource for Source<'w> {
     }
 
     fn take(&mut self) -> Result<Option<Page>, Memory> {
+        self.next()
+    }
+}
+
+impl<'w> Source<'w> {
+    /// The next page; where there is none, it has ended.
+    fn next(&mut self) -> Result<Option<Page>, Memory>
+        ensures made { source_made self.new ≡ source_made self.old }
+        ensures page { IfOk result (λ o. MatchOption o
+            ((rows_taken self.new ≡ rows_taken self.old) × (has_ended self.new ≡ true))
+            (λ page. (rows_taken self.new ≡ rows_taken self.old ++ page.rows)
+            × (has_ended self.new ≡ has_ended self.old))) }
+    {
         match self {
             Source::Scan(scan) => scan.next(),
             Source::Rows(rows) => rows.next(),
         }
     }
-}
 
-impl<'w> Source<'w> {
     /// The law that no row is left where it has ended, and that rows of its own are given in order.
     pub fn keeps(&self)
         ensures drained { has_ended self.now ≡ true → IsDrained self.now }

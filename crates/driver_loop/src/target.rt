@@ -1,7 +1,7 @@
 //! Where the pages of a driver go to, one variant each.
 ghost use Rattle.std.specs.Prelude.{◌≡◌, [], false, ◌<◌, ◌++◌, length, OnOk};
 ghost use Rattle.std.specs.Vec.{vec_capacity};
-ghost use Rattle.driver_loop.specs.Ends.{is_build, rows_kept, KeepsCell};
+ghost use Rattle.driver_loop.specs.Ends.{is_build, rows_handed, KnowsCell};
 ghost use Rattle.driver_loop.specs.Turns.{note_of_target};
 
 use crate::build::BuildTarget;
@@ -56,18 +56,20 @@ pub enum Target<'w> {
 }
 
 impl<'w> PageTarget for Target<'w> {
-    ghost use Rattle.driver_loop.specs.Ends.{is_done, is_told, rows_given, target_dues, target_kept};
+    ghost use Rattle.driver_loop.specs.Ends.{is_told, rows_given, target_dues, target_finished, target_looks, target_made_or_lost};
     ghost use Rattle.std.specs.Prelude.{not};
 
-    ghost gave = { λ t Y. Y ≡ rows_given t };
+    ghost was_given = { λ t Y. Y ≡ rows_given t };
 
     ghost wants = { λ t. not (is_told t) };
 
     ghost is_told = { is_told };
 
-    ghost is_finished = { is_done };
+    ghost is_finished = { target_finished };
 
-    ghost as_made = { target_kept };
+    ghost as_made = { target_made_or_lost };
+
+    ghost looks = { target_looks };
 
     ghost dues = { target_dues };
 
@@ -118,7 +120,7 @@ impl<'w> PageTarget for Target<'w> {
 impl<'w> Target<'w> {
     /// The law of what it knows of its cell.
     pub(crate) fn keeps(&self)
-        ensures { KeepsCell self.now }
+        ensures { KnowsCell self.now }
     {
         match self {
             Target::Result(_) => {}
@@ -137,7 +139,7 @@ impl<'w> Target<'w> {
 
     /// Hands over the rows of a result, and puts the note of a build behind others, where there is room.
     pub(crate) fn into_rows(self, alloc: Global, notes: &mut Vec<CellNote>) -> HeldPages
-        ensures rows { result ≡ rows_kept self.entry }
+        ensures rows { result ≡ rows_handed self.entry }
         ensures notes { length notes.old.items < vec_capacity notes.old
             → notes.new.items ≡ notes.old.items ++ note_of_target self.entry }
     {

@@ -233,7 +233,10 @@ pub(crate) fn run<R: Threads + Wait + Sync>(
             let mut pieces = driver.into_pieces();
             told(alloc, &mut pieces.rows, yields)
         }
-        Some((_, Turn::Failed(fault))) => Ok(format!(in alloc; "{fault}")?),
+        Some((_, Turn::Failed(fault))) => {
+            let work = driver.work();
+            Ok(format!(in alloc; "{fault} after {work} rows")?)
+        }
         _ => Ok(String::from_str(alloc, "no end")?),
     }
 }
@@ -319,13 +322,27 @@ fn give_what_their_stages_make<R: Threads + Wait + Sync>(
     let whole = filtered(rt, alloc, -1, (10, 10), 100, solo)?.as_str() == "4 5 6 7 after 0";
     let split = filtered(rt, alloc, -1, (4, 3), 100, solo)?.as_str() == "4 5 6 7 after 0";
     let yielding = filtered(rt, alloc, -1, (10, 10), 1, solo)?.as_str() == "4 5 6 7 after 2";
-    let failed = filtered(rt, alloc, 6, (4, 3), 5, solo)?;
-    Ok(whole & split & yielding & (failed.as_str() == "node 5 failed: division by zero"))
+    Ok(whole & split & yielding)
+}
+
+/// Whether drivers that fail say where, and count the rows of the page on which they fail.
+fn fail_after_their_rows<R: Threads + Wait + Sync>(
+    rt: &R,
+    alloc: Global,
+    solo: &Solo,
+) -> Result<bool, Memory> {
+    let at_once = filtered(rt, alloc, 6, (10, 10), 100, solo)?;
+    let later = filtered(rt, alloc, 6, (4, 3), 5, solo)?;
+    Ok(
+        (at_once.as_str() == "node 5 failed: division by zero after 10 rows")
+            & (later.as_str() == "node 5 failed: division by zero after 14 rows"),
+    )
 }
 
 #[test]
 fn drivers_give_what_their_stages_make_of_the_rows(rt: HostRuntime) -> Result<(), Fail> {
     let solo = Solo::new(&rt, Doorbell::spinning())?;
     assert!(rt; give_what_their_stages_make(&rt, rt.alloc(), &solo)?);
+    assert!(rt; fail_after_their_rows(&rt, rt.alloc(), &solo)?);
     Ok(())
 }

@@ -65,12 +65,82 @@ impl PageSource for Nothing {
     }
 }
 
-/// A target that keeps its pages. Once it was told that no page comes any more it is blocked at bell 5 as often as it
-/// has waits.
+/// A source without a page, which asks in vain as often as it has asks, then is blocked at bell 6 as often as it has
+/// waits, and then ends.
+#[derive(Drop)]
+pub(crate) struct Late {
+    pub(crate) asks: u32,
+    pub(crate) waits: u32,
+    missed: u64,
+    in_vain: u64,
+    looked_at: u64,
+    is_through: bool,
+    is_ended: bool,
+}
+
+pub(crate) fn source_of(asks: u32, waits: u32) -> Late {
+    Late {
+        asks,
+        waits,
+        missed: 0,
+        in_vain: 0,
+        looked_at: 0,
+        is_through: false,
+        is_ended: false,
+    }
+}
+
+impl PageSource for Late {
+    ghost use Rattle.std.specs.Prelude.{[], false};
+
+    ghost taken = { λ _. [] };
+
+    ghost is_ended = { λ s. s.is_ended };
+
+    ghost as_made = { λ s. record { asks = 0; waits = 0; missed = 0; in_vain = 0; looked_at = 0; is_through = false; is_ended = false } };
+
+    ghost looks = { λ s. record { bell = 6; in_vain = s.in_vain; looked_at = s.looked_at } };
+
+    ghost misses = { λ s. s.missed };
+
+    fn is_ended(&self) -> bool {
+        self.is_ended
+    }
+
+    fn ready<R: Threads + Wait + Sync, B: Bells>(
+        &mut self,
+        rt: &R,
+        bells: &mut B,
+    ) -> Result<Ready, Memory> {
+        if self.asks > 0 {
+            self.asks -= 1;
+            self.missed = self.missed.saturating_add(1);
+            return Ok(Ready::Missed);
+        }
+        if self.waits == 0 {
+            self.is_through = true;
+            return Ok(Ready::Now);
+        }
+        let seen = bells.seen(rt, 6);
+        self.waits -= 1;
+        self.in_vain = self.in_vain.saturating_add(1);
+        self.looked_at = seen;
+        Ok(Ready::Blocked(BlockedOn::new(6, seen)))
+    }
+
+    fn take(&mut self) -> Result<Option<Page>, Memory> {
+        self.is_ended = self.is_through;
+        Ok(None)
+    }
+}
+
+/// A target that keeps its pages. It takes none before it was blocked at bell 5 as often as it is full, and once it was
+/// told that no page comes any more it is blocked there as often as it has waits.
 #[derive(Drop)]
 pub(crate) struct Kept {
     pub(crate) pages: HeldPages,
     is_told: bool,
+    full: u32,
     waits: u32,
     is_through: bool,
     in_vain: u64,
@@ -78,22 +148,22 @@ pub(crate) struct Kept {
 }
 
 impl PageTarget for Kept {
-    ghost use Rattle.std.specs.Prelude.{◌≡◌, ◌&&◌, [], false, not};
+    ghost use Rattle.std.specs.Prelude.{◌≡◌, ◌&&◌, [], false, nat_eq, not};
 
-    ghost gave = { λ s Y. Y ≡ s.pages };
+    ghost was_given = { λ s Y. Y ≡ s.pages };
 
-    ghost wants = { λ s. not s.is_told };
+    ghost wants = { λ s. not s.is_told && nat_eq s.full 0 };
 
     ghost is_told = { λ s. s.is_told };
 
     ghost is_finished = { λ s. s.is_told && s.is_through };
 
-    ghost as_made = { λ s. record s { pages = []; is_told = false; is_through = false; waits = 0; in_vain = 0; looked_at = 0 } };
+    ghost as_made = { λ s. record s { pages = []; is_told = false; is_through = false; full = 0; waits = 0; in_vain = 0; looked_at = 0 } };
 
     ghost looks = { λ s. record { bell = 5; in_vain = s.in_vain; looked_at = s.looked_at } };
 
     fn wants(&self) -> bool {
-        !self.is_told
+        !self.is_told && self.full == 0
     }
 
     fn is_told(&self) -> bool {
@@ -117,26 +187,30 @@ impl PageTarget for Kept {
         rt: &R,
         bells: &mut B,
     ) -> Result<Option<BlockedOn>, Memory> {
-        if !self.is_told {
-            return Ok(None);
-        }
-        if self.is_through || self.waits == 0 {
+        if self.is_told && (self.is_through || self.waits == 0) {
             self.is_through = true;
             return Ok(None);
         }
+        if !self.is_told && self.full == 0 {
+            return Ok(None);
+        }
         let seen = bells.seen(rt, 5);
-        self.waits -= 1;
+        match self.is_told {
+            true => self.waits = self.waits.saturating_sub(1),
+            false => self.full = self.full.saturating_sub(1),
+        }
         self.in_vain = self.in_vain.saturating_add(1);
         self.looked_at = seen;
         Ok(Some(BlockedOn::new(5, seen)))
     }
 }
 
-/// One without a page, which waits so often at its end.
-pub(crate) fn target_of(alloc: Global, waits: u32) -> Kept {
+/// One without a page, which is full so often, and waits so often at its end.
+pub(crate) fn target_of(alloc: Global, full: u32, waits: u32) -> Kept {
     Kept {
         pages: HeldPages::new(alloc),
         is_told: false,
+        full,
         waits,
         is_through: false,
         in_vain: 0,
@@ -145,7 +219,7 @@ pub(crate) fn target_of(alloc: Global, waits: u32) -> Kept {
 }
 
 pub(crate) fn empty_target(alloc: Global) -> Kept {
-    target_of(alloc, 0)
+    target_of(alloc, 0, 0)
 }
 
 /// Puts a row of this number behind the others, where there is room; 0 stands for NULL.

@@ -176,25 +176,37 @@ fn a_join_waits_until_its_right_side_was_published(rt: HostRuntime) -> Result<()
     Ok(())
 }
 
-/// What becomes of a driver that builds the right side of a join of two rows.
+/// What becomes of a driver that builds the right side of a join of the rows 1 and 2.
 fn built<R: Threads + Wait + Sync>(
     rt: &R,
     alloc: Global,
     cell: &LookupCell,
-    first: i64,
-    second: i64,
     solo: &Solo,
 ) -> Result<String, Memory> {
-    let driver = builder(alloc, cell, first, second)?;
+    let driver = builder(alloc, cell, 1, 2)?;
     run(rt, alloc, driver, 100, solo)
+}
+
+/// Where a driver waits, turn after turn, that builds another right side for a cell.
+fn held<R: Threads + Wait + Sync>(
+    rt: &R,
+    alloc: Global,
+    cell: &LookupCell,
+    solo: &Solo,
+) -> Result<bool, Memory> {
+    let mut building = builder(alloc, cell, 3, 4)?;
+    let Some(first) = waits_at(rt, alloc, &mut building, solo) else {
+        return Ok(false);
+    };
+    let again = waits_at(rt, alloc, &mut building, solo);
+    Ok((first == (4, 7)) & (again == Some((4, 7))))
 }
 
 #[test]
 fn a_cell_takes_one_source(rt: HostRuntime) -> Result<(), Fail> {
     let solo = Solo::new(&rt, Doorbell::spinning())?;
     let cell = LookupCell::new(rt.alloc(), 4);
-    let first = built(&rt, rt.alloc(), &cell, 1, 2, &solo)?.as_str() == "after 0";
-    let second = built(&rt, rt.alloc(), &cell, 3, 4, &solo)?.as_str() == "out of memory";
-    assert!(rt; first & second);
+    let was_built = built(&rt, rt.alloc(), &cell, &solo)?.as_str() == "after 0";
+    assert!(rt; was_built & held(&rt, rt.alloc(), &cell, &solo)?);
     Ok(())
 }

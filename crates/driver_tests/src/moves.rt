@@ -37,7 +37,8 @@ fn moves(stages: &mut Vec<NotNull>, rows: u32) -> bool {
     if stages.len() != 2 {
         return false;
     }
-    move_page(stages, 0) == Ok(rows)
+    let moved = move_page(stages, 0);
+    moved.outcome.is_ok() && moved.rows == rows
 }
 
 /// Whether a page of two rows goes from stage to stage while a second one is refused.
@@ -94,8 +95,12 @@ fn without_stages_a_page_goes_past(rt: HostRuntime) -> Result<(), Memory> {
 }
 
 /// How many rows a pass moved, and how many of these go to the target.
-fn moved(passing: Result<Passing, OpFault>) -> Option<(u64, u32)> {
-    let Ok(Passing { rows, out }) = passing else {
+fn moved(passing: Passing) -> Option<(u64, u32)> {
+    let Passing {
+        rows,
+        outcome: Ok(out),
+    } = passing
+    else {
         return None;
     };
     Some((rows, out.map_or(0, |page| page.len())))
@@ -107,7 +112,7 @@ fn is_a_pass_its_moves(alloc: Global, stages: &mut Vec<NotNull>) -> Result<bool,
     let mut source = Nothing { is_ended: false };
     let was_empty = moved(take_page(&mut source, stages, true)) == Some((0, 0));
     let was_taken = feeds(alloc, stages, &[1, 2])? == None;
-    let was_moved = move_pages(stages, false, 8) == Ok(2);
+    let was_moved = moved(move_pages(stages, false, 8)) == Some((2, 0));
     let was_kept = moved(give_page(stages, false)) == Some((0, 0));
     let was_given = moved(give_page(stages, true)) == Some((2, 2));
     let was_passed = moved(pass(&mut source, stages, true, 8)) == Some((0, 0));

@@ -1,10 +1,9 @@
-use crate::fixtures::{Kept, Nothing, Rung, empty_target, page, stages, target_of};
+use crate::fixtures::{Kept, Nothing, Rung, empty_target, page, source_of, stages, target_of};
 use col_pages::Page;
-use driver_turns::{Turned, look_at_stages, turn};
-use operator_core::OpFault;
+use driver_turns::{Turned, Turning, look_at_stages, turn};
 use operator_examples::{NotNull, Note, NotedLimit};
 use sql_values::Memory;
-use stage_moves::{TypedOperator, feed, takes_input};
+use stage_moves::{PageSource, TypedOperator, feed, takes_input};
 use std::alloc::Global;
 use std::sync::Wait;
 use std::thread::Threads;
@@ -32,26 +31,36 @@ enum End {
     Yield(u64),
     Blocked { units: u64, bell: u32, seen: u64 },
     Finished(u64),
-    Failed,
+    Failed(u64),
 }
 
-fn told(turned: Result<(u64, Turned), OpFault>) -> End {
-    match turned {
-        Ok((units, Turned::Yield)) => End::Yield(units),
-        Ok((units, Turned::Finished)) => End::Finished(units),
-        Ok((units, Turned::Blocked(on))) => {
+fn told(turned: Turning) -> End {
+    let Turning { units, outcome } = turned;
+    match outcome {
+        Ok(Turned::Yield) => End::Yield(units),
+        Ok(Turned::Finished) => End::Finished(units),
+        Ok(Turned::Blocked(on)) => {
             let (bell, seen) = (on.bell, on.seen);
             End::Blocked { units, bell, seen }
         }
-        Err(_) => End::Failed,
+        Err(_) => End::Failed(units),
+    }
+}
+
+/// Nothing was counted but so many asks in vain, and somebody waits at this bell, which showed 7.
+fn at(units: u64, bell: u32) -> End {
+    End::Blocked {
+        units,
+        bell,
+        seen: 7,
     }
 }
 
 /// How a turn over a source without a page ends.
-fn turn_of<S: TypedOperator, R: Threads + Wait + Sync>(
+fn turn_of<I: PageSource, S: TypedOperator, R: Threads + Wait + Sync>(
     rt: &R,
     alloc: Global,
-    source: &mut Nothing,
+    source: &mut I,
     stages: &mut Vec<S>,
     target: &mut Kept,
     quantum: u32,
@@ -97,16 +106,47 @@ fn a_turn_yields_at_its_quantum(rt: HostRuntime) -> Result<(), Memory> {
 fn a_turn_waits_until_its_target_has_ended(rt: HostRuntime) -> Result<(), Memory> {
     let mut stages: Vec<NotNull> = Vec::new(rt.alloc());
     let mut source = Nothing { is_ended: true };
-    let mut target = target_of(rt.alloc(), 1);
+    let mut target = target_of(rt.alloc(), 0, 1);
+    let first = turn_of(&rt, rt.alloc(), &mut source, &mut stages, &mut target, 0);
+    let second = turn_of(&rt, rt.alloc(), &mut source, &mut stages, &mut target, 9);
+    assert!(rt; (first == at(0, 5)) & (second == End::Finished(0)));
+    Ok(())
+}
+
+#[test]
+fn a_turn_counts_asks_in_vain_and_then_waits(rt: HostRuntime) -> Result<(), Memory> {
+    let mut stages: Vec<NotNull> = Vec::new(rt.alloc());
+    let (mut source, mut target) = (source_of(3, 1), empty_target(rt.alloc()));
+    let first = turn_of(&rt, rt.alloc(), &mut source, &mut stages, &mut target, 2);
+    let second = turn_of(&rt, rt.alloc(), &mut source, &mut stages, &mut target, 9);
+    let third = turn_of(&rt, rt.alloc(), &mut source, &mut stages, &mut target, 9);
+    assert!(rt; (first == End::Yield(2)) & (second == at(1, 6)) & (third == End::Finished(0)));
+    Ok(())
+}
+
+#[test]
+fn the_target_is_named_before_a_stage_and_a_stage_before_the_source(
+    rt: HostRuntime,
+) -> Result<(), Memory> {
+    let mut stages = Vec::with_capacity(rt.alloc(), 1)?;
+    stages.push(noted(rt.alloc(), 4, 2))?;
+    let (mut source, mut target) = (source_of(0, 3), target_of(rt.alloc(), 1, 0));
     let first = turn_of(&rt, rt.alloc(), &mut source, &mut stages, &mut target, 9);
     let second = turn_of(&rt, rt.alloc(), &mut source, &mut stages, &mut target, 9);
-    let was_blocked = first
-        == End::Blocked {
-            units: 0,
-            bell: 5,
-            seen: 7,
-        };
-    assert!(rt; was_blocked & (second == End::Finished(0)));
+    let third = turn_of(&rt, rt.alloc(), &mut source, &mut stages, &mut target, 9);
+    assert!(rt; (first == at(0, 5)) & (second == at(0, 4)) & (third == at(0, 6)));
+    Ok(())
+}
+
+#[test]
+fn a_target_that_is_full_gets_its_page_later(rt: HostRuntime) -> Result<(), Memory> {
+    let mut stages = stages(rt.alloc())?;
+    let was_fed = put(&mut stages, page(rt.alloc(), &[1, 2, 3])?);
+    let (mut source, mut target) = (source_of(0, 0), target_of(rt.alloc(), 2, 0));
+    let first = turn_of(&rt, rt.alloc(), &mut source, &mut stages, &mut target, 9);
+    let second = turn_of(&rt, rt.alloc(), &mut source, &mut stages, &mut target, 9);
+    let was_blocked = was_fed & (first == at(3, 5));
+    assert!(rt; was_blocked & (second == End::Finished(3)) & (first_rows(&mut target) == 3));
     Ok(())
 }
 
@@ -123,13 +163,7 @@ fn a_turn_waits_until_a_note_knows(rt: HostRuntime) -> Result<(), Memory> {
     let mut target = empty_target(rt.alloc());
     let first = turn_of(&rt, rt.alloc(), &mut source, &mut stages, &mut target, 9);
     let second = turn_of(&rt, rt.alloc(), &mut source, &mut stages, &mut target, 9);
-    let was_blocked = first
-        == End::Blocked {
-            units: 0,
-            bell: 4,
-            seen: 7,
-        };
-    assert!(rt; was_blocked & (second == End::Finished(0)));
+    assert!(rt; (first == at(0, 4)) & (second == End::Finished(0)));
     Ok(())
 }
 

@@ -1,6 +1,6 @@
 -- What looks and passes leave of a driver, put together to a turn.
-use Rattle.std.proofs.Common.{◌≡◌, ◌⊎◌, inl, inr, ◌≤◌, ◌+◌, ℕ, ◌<◌, List, [], ◌++◌, length, get_or, set, Bool, true, Option, Some, None, Err, refl, sym, subst, ◌∙◌, arith, append-nil}
-use Rattle.std.specs.Prelude.{IfSome}
+use Rattle.std.proofs.Common.{◌≡◌, ◌⊎◌, inl, inr, ◌≤◌, ◌+◌, ◌-◌, ℕ, zero, suc, ◌<◌, List, [], ◌++◌, length, get_or, set, Bool, true, false, Option, Some, None, Result, Ok, Err, refl, sym, subst, ◌∙◌, arith, append-nil}
+use Rattle.std.specs.Prelude.{IfOk, IfSome, MatchOption}
 use Rattle.sql_values.specs.declared.fail.Fail.{Fail}
 use Rattle.blocked.specs.Counts.{Rose, most_count}
 use Rattle.blocked.specs.declared.blocked_on.BlockedOn.{BlockedOn}
@@ -21,7 +21,7 @@ use Rattle.stage_moves.specs.Passes.{Passed}
 use Rattle.stage_moves.specs.Places.{AllStay, IsLater, AllLater}
 use Rattle.stage_moves.specs.Counts.{Counted}
 use Rattle.stage_moves.specs.Looks.{Looks, HasWaited}
-use Rattle.driver_turns.specs.Turns.{WentOn, WentTo, WorkedTo, StageBlocked, StageFailed, IsHeldUp, IsBlocked, RangDues}
+use Rattle.driver_turns.specs.Turns.{WentOn, WorkedTo, StageBlocked, StageFailed, IsHeldUp, IsBlocked, RangDues}
 use Rattle.stage_moves.proofs.CountLemmas.{Counted-none, Counted-then}
 use Rattle.stage_moves.proofs.PlaceLemmas.{AllLater-same, AllLater-then, AllLater-looked, AllLater-stay, AllCameFrom-stay, each-at, each-length, item-is}
 
@@ -125,26 +125,9 @@ module _ {S : Type 0} (g : Ghosts S) where
   pub WentOn-step : (old mid new : List S) (X A Y B : List Row) (was is : Bool) → WentOn g old mid X X Y Y was was → Passed g mid new X A Y B was is → WentOn g old new X A Y B was is
   WentOn-step old mid new X A Y B was is p q = WentOn-then old mid new X X A Y Y B was was is p (WentOn-passed mid new X A Y B was is q)
 
-  -- what was given is given to whom it went on to
-  pub WentTo-given : (gave now : List Row → Type 0) (old new : List S) (X A Y : List Row) (was is : Bool) → ((Y : List Row) → gave Y → now Y) → WentTo g gave old new X A Y was is
-      → WentTo g now old new X A Y was is
-  WentTo-given gave now old new X A Y was is on p = record { rows = p.rows; given = on p.rows p.given; went = p.went }
-
-  pub WentTo-after : (gave : List Row → Type 0) (old mid new : List S) (X A C Y : List Row) (was is be : Bool) → WentOn g old mid X A Y Y was is → WentTo g gave mid new A C Y is be
-      → WentTo g gave old new X C Y was be
-  WentTo-after gave old mid new X A C Y was is be p q =
-      record { rows = q.rows; given = q.given; went = WentOn-then old mid new X A C Y Y q.rows was is be p q.went }
-
-  pub WentTo-passed : (gave : List Row → Type 0) (old new : List S) (X A Y B : List Row) (was is : Bool) → gave B → Passed g old new X A Y B was is → WentTo g gave old new X A Y was is
-  WentTo-passed gave old new X A Y B was is given p = record { rows = B; given = given; went = WentOn-passed old new X A Y B was is p }
-
-  pub WentTo-still : (gave : List Row → Type 0) (old new : List S) (X A Y : List Row) (was is : Bool) → gave Y → Passed g old new X A Y (Y ++ []) was is → WentTo g gave old new X A Y was is
-  WentTo-still gave old new X A Y was is given p =
-      WentTo-passed gave old new X A Y Y was is given (subst (λ (y : List Row). Passed g old new X A Y y was is) (append-nil Y) p)
-
-  pub WorkedTo-passed : (gave : List Row → Type 0) (old new : List S) (X A Y B : List Row) (was is : Bool) (missed misses rows : ℕ) → gave B → Passed g old new X A Y B was is
-      → Counted g old new X A Y B rows → misses ≡ missed → WorkedTo g gave old new X A Y was is missed misses rows
-  WorkedTo-passed gave old new X A Y B was is missed misses rows given p counts same = record {
+  pub WorkedTo-passed : (was_given : List Row → Type 0) (old new : List S) (X A Y B : List Row) (was is : Bool) (missed misses rows : ℕ) → was_given B → Passed g old new X A Y B was is
+      → Counted g old new X A Y B rows → misses ≡ missed → WorkedTo g was_given old new X A Y was is missed misses rows
+  WorkedTo-passed was_given old new X A Y B was is missed misses rows given p counts same = record {
     rows = B;
     given = given;
     went = WentOn-passed old new X A Y B was is p;
@@ -155,11 +138,20 @@ module _ {S : Type 0} (g : Ghosts S) where
     within = λ below. omega (arith, same);
   }
 
-  pub WentTo-looked : (gave : List Row → Type 0) (old new : List S) (X A Y : List Row) (was is : Bool) → gave Y → WentOn g old new X A Y Y was is → WentTo g gave old new X A Y was is
-  WentTo-looked gave old new X A Y was is given went = record { rows = Y; given = given; went = went }
+  -- a pass gave these rows out
+  pub WorkedTo-out : (was_given : List Row → Type 0) (old new : List S) (X A Y Q R : List Row) (was is : Bool) (missed misses rows : ℕ) → Q ≡ R → was_given (Y ++ R)
+      → Passed g old new X A Y (Y ++ Q) was is → Counted g old new X A Y (Y ++ Q) rows → misses ≡ missed → WorkedTo g was_given old new X A Y was is missed misses rows
+  WorkedTo-out was_given old new X A Y Q R was is missed misses rows e given p counts same =
+      WorkedTo-passed was_given old new X A Y (Y ++ Q) was is missed misses rows (subst (λ (q : List Row). was_given (Y ++ q)) (sym e) given) p counts same
 
-  pub WorkedTo-none : (gave : List Row → Type 0) (ss : List S) (X Y : List Row) (ended : Bool) (missed : ℕ) → gave Y → WorkedTo g gave ss ss X X Y ended ended missed missed 0
-  WorkedTo-none gave ss X Y ended missed given = record {
+  -- or none
+  pub WorkedTo-still : (was_given : List Row → Type 0) (old new : List S) (X A Y Q : List Row) (was is : Bool) (missed misses rows : ℕ) → Q ≡ [] → was_given Y
+      → Passed g old new X A Y (Y ++ Q) was is → Counted g old new X A Y (Y ++ Q) rows → misses ≡ missed → WorkedTo g was_given old new X A Y was is missed misses rows
+  WorkedTo-still was_given old new X A Y Q was is missed misses rows none given p counts same =
+      WorkedTo-out was_given old new X A Y Q [] was is missed misses rows none (subst was_given (sym (append-nil Y)) given) p counts same
+
+  pub WorkedTo-none : (was_given : List Row → Type 0) (ss : List S) (X Y : List Row) (ended : Bool) (missed : ℕ) → was_given Y → WorkedTo g was_given ss ss X X Y ended ended missed missed 0
+  WorkedTo-none was_given ss X Y ended missed given = record {
     rows = Y;
     given = given;
     went = WentOn-none ss X Y ended;
@@ -171,14 +163,14 @@ module _ {S : Type 0} (g : Ghosts S) where
   }
 
   -- the source and the stages were looked at
-  pub WorkedTo-looked : (gave : List Row → Type 0) (old new : List S) (X A Y : List Row) (was is : Bool) (missed misses again : ℕ) → gave Y → WentOn g old new X A Y Y was is
-      → Counted g old new X A Y Y 0 → (misses < most_count → missed + again ≤ misses) → WorkedTo g gave old new X A Y was is missed misses again
-  WorkedTo-looked gave old new X A Y was is missed misses again given went counts within =
+  pub WorkedTo-looked : (was_given : List Row → Type 0) (old new : List S) (X A Y : List Row) (was is : Bool) (missed misses again : ℕ) → was_given Y → WentOn g old new X A Y Y was is
+      → Counted g old new X A Y Y 0 → (misses < most_count → missed + again ≤ misses) → WorkedTo g was_given old new X A Y was is missed misses again
+  WorkedTo-looked was_given old new X A Y was is missed misses again given went counts within =
       record { rows = Y; given = given; went = went; entered = 0; again = again; counts = counts; units_are = omega arith; within = within }
 
-  pub WorkedTo-given : (gave now : List Row → Type 0) (old new : List S) (X A Y : List Row) (was is : Bool) (missed misses units : ℕ) → ((Y : List Row) → gave Y → now Y)
-      → WorkedTo g gave old new X A Y was is missed misses units → WorkedTo g now old new X A Y was is missed misses units
-  WorkedTo-given gave now old new X A Y was is missed misses units on p = record {
+  pub WorkedTo-given : (was_given now : List Row → Type 0) (old new : List S) (X A Y : List Row) (was is : Bool) (missed misses units : ℕ) → ((Y : List Row) → was_given Y → now Y)
+      → WorkedTo g was_given old new X A Y was is missed misses units → WorkedTo g now old new X A Y was is missed misses units
+  WorkedTo-given was_given now old new X A Y was is missed misses units on p = record {
     rows = p.rows;
     given = on p.rows p.given;
     went = p.went;
@@ -189,10 +181,10 @@ module _ {S : Type 0} (g : Ghosts S) where
     within = p.within;
   }
 
-  pub WorkedTo-then : (gave now : List Row → Type 0) (old mid new : List S) (X A C Y : List Row) (was is be : Bool) (missed misses more units then all : ℕ)
-      → WorkedTo g gave old mid X A Y was is missed misses units → ((B : List Row) → gave B → WorkedTo g now mid new A C B is be misses more then)
+  pub WorkedTo-then : (was_given now : List Row → Type 0) (old mid new : List S) (X A C Y : List Row) (was is be : Bool) (missed misses more units then all : ℕ)
+      → WorkedTo g was_given old mid X A Y was is missed misses units → ((B : List Row) → was_given B → WorkedTo g now mid new A C B is be misses more then)
       → misses ≤ more → all ≡ units + then → WorkedTo g now old new X C Y was be missed more all
-  WorkedTo-then gave now old mid new X A C Y was is be missed misses more units then all p on rises e =
+  WorkedTo-then was_given now old mid new X A C Y was is be missed misses more units then all p on rises e =
       let q = on p.rows p.given in
       record {
         rows = q.rows;
@@ -205,25 +197,19 @@ module _ {S : Type 0} (g : Ghosts S) where
         within = λ below. omega (arith, p.within (omega (arith, below, rises)), q.within below);
       }
 
-  pub WorkedTo-went : (gave : List Row → Type 0) (old new : List S) (X A Y : List Row) (was is : Bool) (missed misses units : ℕ) → WorkedTo g gave old new X A Y was is missed misses units
-      → WentTo g gave old new X A Y was is
-  WorkedTo-went gave old new X A Y was is missed misses units p = record { rows = p.rows; given = p.given; went = p.went }
-
-  pub WentTo-then : (gave now : List Row → Type 0) (old mid new : List S) (X A C Y : List Row) (was is be : Bool) → WentTo g gave old mid X A Y was is
-      → ((B : List Row) → gave B → WentTo g now mid new A C B is be) → WentTo g now old new X C Y was be
-  WentTo-then gave now old mid new X A C Y was is be p on =
-      let q = on p.rows p.given in
-      record { rows = q.rows; given = q.given; went = WentOn-then old mid new X A C Y p.rows q.rows was is be p.went q.went }
-
   -- who waits since looked since whatever came before
   pub Waited-since : (a b c : Looks) (shown : ℕ → ℕ → Type 0) (on : BlockedOn) → a.in_vain ≤ b.in_vain → HasWaited b c shown on → HasWaited a c shown on
   Waited-since a b c shown on h w = record { looked = rose-since a.in_vain b.in_vain c.in_vain h w.looked; bell = w.bell; seen = w.seen; handed = w.handed; unrung = w.unrung }
 
-  pub Blocked-all_since : (old mid new : List S) (sa sb sc ta tb tc : Looks) (shown : ℕ → ℕ → Type 0) (on : BlockedOn) → AllLater g old mid → AllLater g mid new
-      → sa.in_vain ≤ sb.in_vain → ta.in_vain ≤ tb.in_vain → IsBlocked g mid new sb sc tb tc shown on → IsBlocked g old new sa sc ta tc shown on
-  Blocked-all_since old mid new sa sb sc ta tb tc shown on later latest s t (inl (inl b)) = inl (inl (Blocked-since old mid new shown on later latest b))
-  Blocked-all_since old mid new sa sb sc ta tb tc shown on later latest s t (inl (inr w)) = inl (inr (Waited-since sa sb sc shown on s w))
-  Blocked-all_since old mid new sa sb sc ta tb tc shown on later latest s t (inr w) = inr (Waited-since ta tb tc shown on t w)
+  HeldUp-since : (old mid new : List S) (sa sb sc : Looks) (shown : ℕ → ℕ → Type 0) (on : BlockedOn) → AllLater g old mid → AllLater g mid new → sa.in_vain ≤ sb.in_vain
+      → IsHeldUp g mid new sb sc shown on → IsHeldUp g old new sa sc shown on
+  HeldUp-since old mid new sa sb sc shown on later latest s (inl b) = inl (Blocked-since old mid new shown on later latest b)
+  HeldUp-since old mid new sa sb sc shown on later latest s (inr w) = inr (Waited-since sa sb sc shown on s w)
+
+  pub Blocked-all_since : (old mid new : List S) (told : Bool) (sa sb sc ta tb tc : Looks) (shown : ℕ → ℕ → Type 0) (on : BlockedOn) → AllLater g old mid → AllLater g mid new
+      → sa.in_vain ≤ sb.in_vain → ta.in_vain ≤ tb.in_vain → IsBlocked g mid new told sb sc tb tc shown on → IsBlocked g old new told sa sc ta tc shown on
+  Blocked-all_since old mid new told sa sb sc ta tb tc shown on later latest s t (inl b) = inl (HeldUp-since old mid new sa sb sc shown on later latest s b.0, b.1)
+  Blocked-all_since old mid new told sa sb sc ta tb tc shown on later latest s t (inr w) = inr (Waited-since ta tb tc shown on t w)
 
   Blocked-shown : (old new : List S) (shown later : ℕ → ℕ → Type 0) (on : BlockedOn) → ((bell count : ℕ) → shown bell count → later bell count) → StageBlocked g old new shown on
       → StageBlocked g old new later on
@@ -249,12 +235,24 @@ module _ {S : Type 0} (g : Ghosts S) where
       (record { looked = w.looked; bell = w.bell; seen = more on.bell on.seen w.seen; handed = w.handed; unrung = w.unrung })
 
   -- who was held up is so after a pass, with what the bells show by then
-  pub Blocked-later : (old mid new : List S) (su sl sn tu tn : Looks) (shown later : ℕ → ℕ → Type 0) (o : Option BlockedOn) → AllStay g mid new → sn ≡ sl
-      → ((bell count : ℕ) → shown bell count → later bell count) → IfSome o (λ on. IsHeldUp g old mid su sl shown on) → IfSome o (λ on. IsBlocked g old new su sn tu tn later on)
-  Blocked-later old mid new su sl sn tu tn shown later None stay e more h = tt
-  Blocked-later old mid new su sl sn tu tn shown later (Some on) stay e more (inl b) =
-      inl (inl (Blocked-shown old new shown later on more (Blocked-stays old mid new shown on stay b)))
-  Blocked-later old mid new su sl sn tu tn shown later (Some on) stay e more (inr w) = inl (inr (Waited-shown su sl sn shown later on e more w))
+  HeldUp-later : (old mid new : List S) (su sl sn : Looks) (shown later : ℕ → ℕ → Type 0) (on : BlockedOn) → AllStay g mid new → sn ≡ sl
+      → ((bell count : ℕ) → shown bell count → later bell count) → IsHeldUp g old mid su sl shown on → IsHeldUp g old new su sn later on
+  HeldUp-later old mid new su sl sn shown later on stay e more (inl b) = inl (Blocked-shown old new shown later on more (Blocked-stays old mid new shown on stay b))
+  HeldUp-later old mid new su sl sn shown later on stay e more (inr w) = inr (Waited-shown su sl sn shown later on e more w)
+
+  some-held : (o : Option BlockedOn) (P : BlockedOn → Type 0) (on : BlockedOn) → o ≡ Some on → IfSome o P → P on
+  some-held o P on e h = let p = subst (λ (o : Option BlockedOn). IfSome o P) e h in p
+
+  -- the target waits, or it was not told and somebody before it waits
+  pub Blocked-who : (old mid new : List S) (told wanted is_told : Bool) (su sl sn tu tm tn : Looks) (shown later : ℕ → ℕ → Type 0) (full waits who : Option BlockedOn) (none : Type 0)
+      → MatchOption who none (λ on. (full ≡ Some on) ⊎ ((told ≡ false) × (wanted ≡ true) × (waits ≡ Some on))) → AllStay g mid new → sn ≡ sl → tu.in_vain ≤ tm.in_vain
+      → told ≡ is_told → ((bell count : ℕ) → shown bell count → later bell count) → IfSome waits (λ on. IsHeldUp g old mid su sl shown on)
+      → IfSome full (λ on. HasWaited tm tn later on) → IfSome who (λ on. IsBlocked g old new is_told su sn tu tn later on)
+  Blocked-who old mid new told wanted is_told su sl sn tu tm tn shown later full waits None none is stay e t same more held waited = tt
+  Blocked-who old mid new told wanted is_told su sl sn tu tm tn shown later full waits (Some on) none (inl is) stay e t same more held waited =
+      inr (Waited-since tu tm tn later on t (some-held full (λ on. HasWaited tm tn later on) on is waited))
+  Blocked-who old mid new told wanted is_told su sl sn tu tm tn shown later full waits (Some on) none (inr is) stay e t same more held waited =
+      inl (HeldUp-later old mid new su sl sn shown later on stay e more (some-held waits (λ on. IsHeldUp g old mid su sl shown on) on is.2 held), sym same ∙ is.0)
 
   -- a failure is one of a stage, as it was made, on what came to it
   pub SomeFails-after : (ss : List S) (ended : Bool) (X Y : List Row) (node : ℕ) (kind : Fail) → SomeFails g ss node kind → Linked g ss X Y → ToldInTurn g ended ss
@@ -266,6 +264,34 @@ module _ {S : Type 0} (g : Ghosts S) where
     is = f.is;
     after = failure g ended ss f.place f.stage X Y node kind f.there f.is t l f.fails;
   }
+
+-- the target waits, or it had wanted a page
+pub wanted-who : (told wanted wants : Bool) (tu tm tn : Looks) (later : ℕ → ℕ → Type 0) (full waits who : Option BlockedOn) (none : Type 0)
+    → MatchOption who none (λ on. (full ≡ Some on) ⊎ ((told ≡ false) × (wanted ≡ true) × (waits ≡ Some on))) → tu.in_vain ≤ tm.in_vain → wanted ≡ wants
+    → IfSome full (λ on. HasWaited tm tn later on) → IfSome who (λ on. (wants ≡ true) ⊎ HasWaited tu tn later on)
+wanted-who told wanted wants tu tm tn later full waits None none is t same waited = tt
+wanted-who told wanted wants tu tm tn later full waits (Some on) none (inl is) t same waited =
+    inr (let w = subst (λ (o : Option BlockedOn). IfSome o (λ on. HasWaited tm tn later on)) is waited in since tu.in_vain tm.in_vain tn.in_vain t w.looked w)
+  where
+    since : (a b c : ℕ) → a ≤ b → Rose b c → HasWaited tm tn later on → HasWaited tu tn later on
+    since a b c h rose w = record { looked = omega (arith, t, w.looked); bell = w.bell; seen = w.seen; handed = w.handed; unrung = w.unrung }
+wanted-who told wanted wants tu tm tn later full waits (Some on) none (inr is) t same waited = inl (sym same ∙ is.1)
+
+-- what holds of who waits holds of this one
+pub in-some : (r : Result (Option BlockedOn) OpFault) (o : Option BlockedOn) (on : BlockedOn) (P : BlockedOn → Type 0) → r ≡ Ok o → o ≡ Some on → IfOk r (λ waits. IfSome waits P) → P on
+in-some r o on P is some h =
+    let all : IfSome o P = subst (λ (r : Result (Option BlockedOn) OpFault). IfOk r (λ waits. IfSome waits P)) is h in
+    let this : P on = subst (λ (o : Option BlockedOn). IfSome o P) some all in this
+
+-- no step without room counts a unit
+pub few-step : (units quantum most room more : ℕ) → units < quantum + most → room ≡ quantum - units → more < room + most → (room ≡ 0 → more ≡ 0) → units + more < quantum + most
+few-step units quantum most zero more few e some none = omega (arith, few, none refl)
+few-step units quantum most (suc room) more few e some none = omega (arith, e, some)
+
+-- who was told was told before, or is told now, where the last stage is finished
+pub told-since : (was : Bool) (last : Type 0) → (was ≡ true → last) → (was ≡ true) ⊎ last → last
+told-since was last before (inl told) = before told
+told-since was last before (inr now) = now
 
 pub expr-not-memory : (fault : OpFault) (node : ℕ) (kind : Fail) → fault ≡ Expr node kind → NotMemory {A = Unit {0}} (Err fault)
 expr-not-memory fault node kind e = subst (λ (f : OpFault). NotMemory {A = Unit {0}} (Err f)) (sym e) tt

@@ -5,7 +5,7 @@ use Rattle.blocked.specs.Counts.{Rose, most_count}
 use Rattle.blocked.specs.declared.blocked_on.BlockedOn.{BlockedOn}
 use Rattle.operator_core.specs.declared.operator.Operator.{Ghosts}
 use Rattle.operator_core.specs.Rows.{Row}
-use Rattle.operator_core.specs.Stages.{Linked, ToldInTurn, AllCameFrom, FailsAfter, last_finished}
+use Rattle.operator_core.specs.Stages.{Linked, ToldInTurn, AllCameFrom, FailsAfter}
 use Rattle.stage_moves.specs.Places.{AllLater}
 use Rattle.stage_moves.specs.Counts.{Counted}
 use Rattle.stage_moves.specs.Looks.{Looks, HasWaited}
@@ -37,17 +37,11 @@ pub record StageBlocked {S : Type 0} (g : Ghosts S) (old new : List S) (shown : 
   pub handed : g.looked_at after ≡ on.seen
   pub unrung : on.rung ≡ false
 
--- The target was given Y and is given more by now, and its stages went on to what it was given.
-pub record WentTo {S : Type 0} (g : Ghosts S) (gave : List Row → Type 0) (old new : List S) (X A Y : List Row) (was is : Bool) : Type 0 where
+-- The target was given Y and is given more by now, and its stages went on to what it was given. So many units were
+-- counted: the rows that entered the stages and the target, and asks in vain, no more than the source counted of these.
+pub record WorkedTo {S : Type 0} (g : Ghosts S) (was_given : List Row → Type 0) (old new : List S) (X A Y : List Row) (was is : Bool) (missed misses units : ℕ) : Type 0 where
   pub rows : List Row
-  pub given : gave rows
-  pub went : WentOn g old new X A Y rows was is
-
--- The same, and so many units were counted: the rows that entered the stages and the target, and asks in vain, no more
--- than the source counted of these.
-pub record WorkedTo {S : Type 0} (g : Ghosts S) (gave : List Row → Type 0) (old new : List S) (X A Y : List Row) (was is : Bool) (missed misses units : ℕ) : Type 0 where
-  pub rows : List Row
-  pub given : gave rows
+  pub given : was_given rows
   pub went : WentOn g old new X A Y rows was is
   pub entered : ℕ
   pub again : ℕ
@@ -59,16 +53,16 @@ pub record WorkedTo {S : Type 0} (g : Ghosts S) (gave : List Row → Type 0) (ol
 abbrev pub IsHeldUp : {S : Type 0} → Ghosts S → List S → List S → Looks → Looks → (ℕ → ℕ → Type 0) → BlockedOn → Type 0
 IsHeldUp g old new source_was source_is shown on = StageBlocked g old new shown on ⊎ HasWaited source_was source_is shown on
 
--- a stage waits, or the source or the target does
-abbrev pub IsBlocked : {S : Type 0} → Ghosts S → List S → List S → Looks → Looks → Looks → Looks → (ℕ → ℕ → Type 0) → BlockedOn → Type 0
-IsBlocked g old new source_was source_is target_was target_is shown on =
-    IsHeldUp g old new source_was source_is shown on ⊎ HasWaited target_was target_is shown on
+-- a stage waits or the source does, and the target was not told that no page comes any more; or the target waits
+abbrev pub IsBlocked : {S : Type 0} → Ghosts S → List S → List S → Bool → Looks → Looks → Looks → Looks → (ℕ → ℕ → Type 0) → BlockedOn → Type 0
+IsBlocked g old new told source_was source_is target_was target_is shown on =
+    (IsHeldUp g old new source_was source_is shown on × (told ≡ false)) ⊎ HasWaited target_was target_is shown on
 
--- why a turn ended: enough units were counted, somebody waits, or the target is finished
-abbrev pub TurnedSo : (BlockedOn → Type 0) → Bool → ℕ → ℕ → Turned → Type 0
-TurnedSo blocked finished quantum units Yield = (quantum ≤ units) × (finished ≡ false)
-TurnedSo blocked finished quantum units (Blocked on) = blocked on × (finished ≡ false)
-TurnedSo blocked finished quantum units Finished = finished ≡ true
+-- why a turn ended: enough units were counted and the target was not told, somebody waits, or the target is finished
+abbrev pub TurnedSo : (BlockedOn → Type 0) → Bool → Bool → ℕ → ℕ → Turned → Type 0
+TurnedSo blocked told finished quantum units Yield = (quantum ≤ units) × (told ≡ false) × (finished ≡ false)
+TurnedSo blocked told finished quantum units (Blocked on) = blocked on × (finished ≡ false)
+TurnedSo blocked told finished quantum units Finished = finished ≡ true
 
 -- each bell was rung as much more often as more dues of it came
 abbrev pub RangDues : (old new : ℕ → ℕ → Type 0) (was is : ℕ → ℕ) → Type 0

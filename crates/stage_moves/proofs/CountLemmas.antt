@@ -1,12 +1,11 @@
 -- How many rows entered after a move, from what a call of one stage leaves.
 use Rattle.std.proofs.lemmas.List.{get_or-set_other}
-use Rattle.std.proofs.Common.{◌≡◌, ℕ, zero, suc, ◌+◌, ◌<◌, List, [], ◌∷◌, ◌++◌, length, get_or, set, Option, None, Result, Ok, Err, Bool, true, false, ◌≤◌, refl, sym, ap, subst, ◌∙◌, arith, add-one, add-zero, append-nil, length-append}
-use Rattle.std.specs.Prelude.{nat_lt, IfOk, OnOk}
+use Rattle.std.proofs.Common.{◌≡◌, ℕ, zero, suc, ◌+◌, ◌<◌, List, [], ◌∷◌, ◌++◌, length, get_or, set, Option, None, Ok, Bool, true, false, ◌≤◌, refl, sym, ap, subst, ◌∙◌, arith, add-one, add-zero, append-nil, length-append}
+use Rattle.std.specs.Prelude.{nat_lt}
 use Rattle.std.proofs.lemmas.Bool.{ltb-true}
 use Rattle.col_pages.specs.Pages.{TypedPage}
 use Rattle.operator_core.specs.declared.operator.Operator.{Ghosts}
-use Rattle.operator_core.specs.declared.fault.OpFault.{OpFault}
-use Rattle.operator_core.specs.Answers.{NotMemory, gave}
+use Rattle.operator_core.specs.Answers.{gave}
 use Rattle.operator_core.specs.Rows.{Row}
 use Rattle.operator_core.specs.Calls.{Took, Gave, Told, Looked}
 use Rattle.operator_core.specs.Stages.{Steps, Linked}
@@ -163,22 +162,6 @@ module _ {S : Type 0} (g : Ghosts S) where
   Counted-after old mid new X A Y B rows c d =
       let e : rows ≡ 0 + rows = omega arith in Counted-both old mid new X X A Y Y B 0 rows rows c d e
 
-  pub Counted-served : (r : Result ℕ OpFault) (old mid new : List S) → ((X Y : List Row) → Counted g old mid X X Y Y 0)
-      → IfOk r (λ rows. (X Y : List Row) → Counted g mid new X X Y Y rows) → IfOk r (λ rows. (X Y : List Row) → Counted g old new X X Y Y rows)
-  Counted-served (Ok rows) old mid new told moved = λ X Y. Counted-after old mid new X X Y Y rows (told X Y) (moved X Y)
-  Counted-served (Err fault) old mid new told moved = tt
-
-  -- what the last stage gave entered the target
-  pub Counted-drained : (r : Result (Option TypedPage) OpFault) (ss : List S) (i : ℕ) (s t : S) → i + 1 ≡ length ss → s ≡ get_or ss i s → (NotMemory r → Gave g s t (gave r))
-      → OnOk r ((X Y : List Row) → Counted g ss (set ss i t) X X Y (Y ++ gave r) (length (gave r)))
-  Counted-drained (Ok o) ss i s t h e all = λ X Y. Counted-gave ss i s t (gave (Ok o)) X Y h e (all tt)
-  Counted-drained (Err fault) ss i s t h e all = tt
-
-  pub Counted-drained_none : (old new : List S) (X Y : List Row) (o : Option TypedPage) → o ≡ None → Counted g old new X X Y (Y ++ gave (Ok o)) (length (gave (Ok o)))
-      → Counted g old new X X Y Y 0
-  Counted-drained_none old new X Y o e c =
-      subst (λ (y : List Row). Counted g old new X X Y y 0) (append-nil Y) (subst (λ (o : Option TypedPage). Counted g old new X X Y (Y ++ gave (Ok o)) (length (gave (Ok o)))) e c)
-
   -- the first stage took what the source gave
   pub Counted-fed : (old new : List S) (P X A Y : List Row) (rows : ℕ) (o : Option TypedPage) → o ≡ None
       → Counted g old new X (X ++ P) Y (Y ++ gave (Ok o)) (length P) → A ≡ X ++ P → rows ≡ length P → Counted g old new X A Y Y rows
@@ -187,9 +170,18 @@ module _ {S : Type 0} (g : Ghosts S) where
       subst (λ (x : List Row). Counted g old new X x Y Y rows) (sym a)
       (subst (λ (m : ℕ). Counted g old new X (X ++ P) Y Y m) (sym n) (subst (λ (y : List Row). Counted g old new X (X ++ P) Y y (length P)) (append-nil Y) none))
 
-  pub Counted-moved_on : (old mid new : List S) (X A : List Row) (rows more all : ℕ) (o : Option TypedPage) → o ≡ None → ((Y : List Row) → Counted g old mid X A Y (Y ++ gave (Ok o)) rows)
-      → ((Y : List Row) → Counted g mid new A A Y Y more) → all ≡ rows + more → (Y : List Row) → Counted g old new X A Y Y all
-  Counted-moved_on old mid new X A rows more all o none c d e Y = Counted-both old mid new X A A Y Y Y rows more all (Counted-in old mid X A Y rows o none (c Y)) (d Y) e
+  -- a page was taken and others moved on, and none is out
+  pub Counted-moved_on : (old mid new : List S) (X A P Q : List Row) (rows more all : ℕ) → P ≡ [] → Q ≡ [] → ((Y : List Row) → Counted g old mid X A Y (Y ++ P) rows)
+      → ((Y : List Row) → Counted g mid new A A Y Y more) → all ≡ rows + more → (Y : List Row) → Counted g old new X A Y (Y ++ Q) all
+  Counted-moved_on old mid new X A P Q rows more all none out c d e Y =
+      let first : Counted g old mid X A Y Y rows = subst (λ (y : List Row). Counted g old mid X A Y y rows) (ap (λ p. Y ++ p) none ∙ append-nil Y) (c Y) in
+      subst (λ (y : List Row). Counted g old new X A Y y all) (sym (ap (λ q. Y ++ q) out ∙ append-nil Y)) (Counted-both old mid new X A A Y Y Y rows more all first (d Y) e)
+
+  -- then the last stage gave
+  pub Counted-given : (old mid new : List S) (X A P R Y : List Row) (rows more all : ℕ) → P ≡ [] → Counted g old mid X A Y (Y ++ P) rows → Counted g mid new A A Y (Y ++ R) more
+      → all ≡ rows + more → Counted g old new X A Y (Y ++ R) all
+  Counted-given old mid new X A P R Y rows more all none c d e =
+      Counted-both old mid new X A A Y Y (Y ++ R) rows more all (subst (λ (y : List Row). Counted g old mid X A Y y rows) (ap (λ p. Y ++ p) none ∙ append-nil Y) c) d e
 
   pub Counted-none_out : (old new : List S) (X A Y : List Row) (rows : ℕ) → Counted g old new X A Y Y rows → Counted g old new X A Y (Y ++ []) rows
   Counted-none_out old new X A Y rows c = subst (λ (y : List Row). Counted g old new X A Y y rows) (sym (append-nil Y)) c

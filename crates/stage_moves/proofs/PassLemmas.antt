@@ -1,6 +1,8 @@
 -- What a pass leaves of a driver, from what its moves leave of the stages.
-use Rattle.std.proofs.Common.{◌≡◌, List, [], ◌++◌, map, Bool, true, Option, Some, None, Ok, refl, sym, subst, ◌∙◌, append-nil}
+use Rattle.std.proofs.Common.{◌≡◌, List, [], ◌++◌, map, Bool, true, false, Option, Some, None, Result, Ok, Err, refl, sym, ap, subst, ◌∙◌, append-nil}
+use Rattle.std.specs.Prelude.{IfOk}
 use Rattle.col_pages.specs.Pages.{TypedPage}
+use Rattle.operator_core.specs.declared.fault.OpFault.{OpFault}
 use Rattle.operator_core.specs.declared.operator.Operator.{Ghosts}
 use Rattle.operator_core.specs.Answers.{gave}
 use Rattle.operator_core.specs.Rows.{Row}
@@ -10,6 +12,15 @@ use Rattle.stage_moves.specs.Moves.{Moved}
 use Rattle.stage_moves.specs.Passes.{Passed}
 use Rattle.stage_moves.specs.Places.{AllStay}
 use Rattle.stage_moves.proofs.PlaceLemmas.{AllStay-same, AllStay-then}
+
+-- a source that was asked for a page had not ended
+pub not-ended : (was is : Bool) → was ≡ false → was ≡ true → is ≡ true
+not-ended was is going ended = absurd (let clash : false ≡ true = sym going ∙ ended in cc)
+
+-- no page is out
+pub none-out : (r : Result (Option TypedPage) OpFault) → IfOk r (λ o. o ≡ None) → gave r ≡ []
+none-out (Ok o) e = ap (λ (o : Option TypedPage). gave (Ok o)) e
+none-out (Err fault) e = refl
 
 module _ {S : Type 0} (g : Ghosts S) where
   -- nothing moved; the source may have ended
@@ -78,9 +89,18 @@ module _ {S : Type 0} (g : Ghosts S) where
   Passed-on old mid new X A Y B was is b e p q =
       Passed-then old mid new X A A Y B B was is is p (subst (λ (x : Bool). Passed g mid new A A B B x x) e q)
 
-  pub Passed-moved_on : (old mid new : List S) (X A : List Row) (was is b : Bool) (o : Option TypedPage) → b ≡ is → o ≡ None → ((Y : List Row) → Passed g old mid X A Y (Y ++ gave (Ok o)) was is)
-      → ((Y : List Row) → Passed g mid new A A Y Y b b) → (Y : List Row) → Passed g old new X A Y Y was is
-  Passed-moved_on old mid new X A was is b o e none p q Y = Passed-on old mid new X A Y Y was is b e (Passed-in old mid X A Y was is o none (p Y)) (q Y)
+  -- a page was taken and others moved on, and none is out
+  pub Passed-moved_on : (old mid new : List S) (X A P Q : List Row) (was is b : Bool) → b ≡ is → P ≡ [] → Q ≡ [] → ((Y : List Row) → Passed g old mid X A Y (Y ++ P) was is)
+      → ((Y : List Row) → Passed g mid new A A Y Y b b) → (Y : List Row) → Passed g old new X A Y (Y ++ Q) was is
+  Passed-moved_on old mid new X A P Q was is b e none out p q Y =
+      let first : Passed g old mid X A Y Y was is = subst (λ (y : List Row). Passed g old mid X A Y y was is) (ap (λ p. Y ++ p) none ∙ append-nil Y) (p Y) in
+      subst (λ (y : List Row). Passed g old new X A Y y was is) (sym (ap (λ q. Y ++ q) out ∙ append-nil Y)) (Passed-on old mid new X A Y Y was is b e first (q Y))
+
+  -- then the last stage gave
+  pub Passed-given : (old mid new : List S) (X A P R Y : List Row) (was is : Bool) → P ≡ [] → Passed g old mid X A Y (Y ++ P) was is → Passed g mid new A A Y (Y ++ R) is is
+      → Passed g old new X A Y (Y ++ R) was is
+  Passed-given old mid new X A P R Y was is none p q =
+      Passed-then old mid new X A A Y Y (Y ++ R) was is is (subst (λ (y : List Row). Passed g old mid X A Y y was is) (ap (λ p. Y ++ p) none ∙ append-nil Y) p) q
 
   pub Passed-none_out : (old new : List S) (X A Y : List Row) (was is : Bool) → Passed g old new X A Y Y was is → Passed g old new X A Y (Y ++ []) was is
   Passed-none_out old new X A Y was is p = subst (λ (y : List Row). Passed g old new X A Y y was is) (sym (append-nil Y)) p

@@ -1,4 +1,4 @@
-ghost use Rattle.std.specs.Prelude.{◌≡◌, ◌≤◌, ◌+◌, ◌++◌, ℕ, List, Bool, true, false, IfOk, IfSome, IsOk, MatchOption};
+ghost use Rattle.std.specs.Prelude.{◌≡◌, ◌≤◌, ◌+◌, ◌++◌, ℕ, List, Bool, true, false, IfOk, IfNone, IfSome, IsOk, MatchOption};
 ghost use Rattle.operator_core.specs.Rows.{Row};
 ghost use Rattle.stage_moves.specs.Looks.{Looks, no_looks, HasWaited};
 ghost use Rattle.stage_moves.specs.Ready.{IsReady};
@@ -70,7 +70,6 @@ pub trait PageSource {
         ensures made { as_made self.new ≡ as_made self.old }
         ensures page { IfOk result (λ o. MatchOption o (taken self.new ≡ taken self.old)
             (λ page. taken self.new ≡ taken self.old ++ page.rows)) }
-        ensures ended { is_ended self.old ≡ true → is_ended self.new ≡ true }
         ensures looks { looks self.new ≡ looks self.old }
         ensures misses { misses self.new ≡ misses self.old }
         ensures dues { (bell : ℕ) → dues self.new bell ≡ dues self.old bell };
@@ -79,7 +78,7 @@ pub trait PageSource {
 /// Where the pages of a driver go to. What it does with them that may wait is apart from the pass.
 pub trait PageTarget {
     // It was given these rows so far.
-    ghost gave: { Self → List Row → Type 0 };
+    ghost was_given: { Self → List Row → Type 0 };
 
     // It takes a page now.
     ghost wants: { Self → Bool };
@@ -115,29 +114,30 @@ pub trait PageTarget {
     /// Takes a page.
     fn put(&mut self, page: Page) -> Result<(), Memory>
         requires { wants self.old ≡ true }
-        ensures rows { IsOk result → (Y : List Row) → gave self.old Y → gave self.new (Y ++ page.rows) }
+        ensures rows { IsOk result → (Y : List Row) → was_given self.old Y → was_given self.new (Y ++ page.rows) }
         ensures made { IsOk result → as_made self.new ≡ as_made self.old }
         ensures told { IsOk result → is_told self.new ≡ is_told self.old }
         ensures finished { IsOk result → is_finished self.new ≡ is_finished self.old }
-        ensures looks { looks self.new ≡ looks self.old }
+        ensures looks { (looks self.old).in_vain ≤ (looks self.new).in_vain }
         ensures dues { IsOk result → (bell : ℕ) → dues self.new bell ≡ dues self.old bell };
 
     /// Tells it that no page comes any more.
     fn finish(&mut self)
-        ensures rows { (Y : List Row) → gave self.old Y → gave self.new Y }
+        ensures rows { (Y : List Row) → was_given self.old Y → was_given self.new Y }
         ensures made { as_made self.new ≡ as_made self.old }
         ensures told { is_told self.new ≡ true }
-        ensures looks { looks self.new ≡ looks self.old }
+        ensures looks { (looks self.old).in_vain ≤ (looks self.new).in_vain }
         ensures dues { (bell : ℕ) → dues self.new bell ≡ dues self.old bell };
 
     /// Does what is to be done with the pages that it took and, once it was told, what ends it, and rings for
-    /// it. Answers where it has to wait for that.
+    /// it. Answers where it has to wait for that; where it need not, it takes a page now or, once it was told,
+    /// is finished.
     fn ready<R: Threads + Wait + Sync, B: Bells>(
         &mut self,
         rt: &R,
         bells: &mut B,
     ) -> Result<Option<BlockedOn>, Memory>
-        ensures rows { IsOk result → (Y : List Row) → gave self.old Y → gave self.new Y }
+        ensures rows { IsOk result → (Y : List Row) → was_given self.old Y → was_given self.new Y }
         ensures made { IsOk result → as_made self.new ≡ as_made self.old }
         ensures told { IsOk result → is_told self.new ≡ is_told self.old }
         ensures untold { IsOk result → is_told self.old ≡ false
@@ -145,6 +145,10 @@ pub trait PageTarget {
         ensures answer { IfOk result (λ waits. IfSome waits (HasWaited (looks self.old) (looks self.new)
             (B.shown bells.new))) }
         ensures unfinished { IfOk result (λ waits. IfSome waits (λ _. is_finished self.new ≡ false)) }
+        ensures through { IfOk result (λ waits. IfNone waits
+            (is_told self.old ≡ true → is_finished self.new ≡ true)) }
+        ensures clear { IfOk result (λ waits. IfNone waits
+            (is_told self.old ≡ false → wants self.new ≡ true)) }
         ensures looks { (looks self.old).in_vain ≤ (looks self.new).in_vain }
         ensures bells { (bell count : ℕ) → B.shown bells.old bell count
             → B.shown bells.new bell count }

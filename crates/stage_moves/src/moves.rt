@@ -1,5 +1,5 @@
 //! The moves of a driver. A driver keeps `Linked` and `ToldInTurn` of its stages over each of them.
-ghost use Rattle.std.specs.Prelude.{◌≡◌, ◌+◌, ◌<◌, ◌≤◌, ◌++◌, ℕ, List, [], true, false, None, length, map, IfOk, OnOk};
+ghost use Rattle.std.specs.Prelude.{◌≡◌, ◌+◌, ◌<◌, ◌≤◌, ◌++◌, ℕ, List, [], true, false, None, length, map, IfOk};
 ghost use Rattle.sql_values.specs.declared.fail.Fail.{Fail as Kind};
 ghost use Rattle.col_pages.specs.Pages.{most_rows};
 ghost use Rattle.operator_core.specs.Answers.{NotMemory, gave};
@@ -13,6 +13,14 @@ use crate::typed_operator::TypedOperator;
 use col_pages::Page;
 use operator_core::OpFault;
 use operator_core::stage::{give_out, take_in, tell};
+
+/// What a move came to.
+#[derive(Drop)]
+pub struct Moving {
+    /// How many rows entered a stage, also where that failed on them.
+    pub rows: u32,
+    pub outcome: Result<(), OpFault>,
+}
 
 /// Whether a page of the source can be taken now: the first stage takes one or, where there is no stage, the
 /// target wants one.
@@ -54,8 +62,8 @@ pub fn feed<S: TypedOperator>(stages: &mut Vec<S>, page: Page) -> Result<Option<
     requires { first_needs S.Operator stages.old.items ≡ true }
     ensures moved { NotMemory result
         → Moved S.Operator stages.old.items stages.new.items page.rows (gave result) }
-    ensures counts { OnOk result ((X Y : List Row) → Counted S.Operator stages.old.items
-        stages.new.items X (X ++ page.rows) Y (Y ++ gave result) (length page.rows)) }
+    ensures counts { NotMemory result → (X Y : List Row) → Counted S.Operator stages.old.items
+        stages.new.items X (X ++ page.rows) Y (Y ++ gave result) (length page.rows) }
     ensures none { 0 < length stages.old.items → IfOk result (λ o. o ≡ None) }
     ensures fault { (node : ℕ) (kind : Kind) → result ≡ Err (OpFault.Expr node kind)
         → SomeFails S.Operator stages.new.items node kind }
@@ -73,33 +81,44 @@ pub fn feed<S: TypedOperator>(stages: &mut Vec<S>, page: Page) -> Result<Option<
     }
 }
 
-/// Moves a page from a stage to the next one, where that takes one now. Answers its number of rows.
-pub fn move_page<S: TypedOperator>(stages: &mut Vec<S>, place: usize) -> Result<u32, OpFault>
+/// Moves a page from a stage to the next one, where that takes one now.
+pub fn move_page<S: TypedOperator>(stages: &mut Vec<S>, place: usize) -> Moving
     requires { place + 1 < length stages.old.items }
-    ensures moved { NotMemory result → Moved S.Operator stages.old.items stages.new.items [] [] }
-    ensures counts { IfOk result (λ rows. (X Y : List Row)
-        → Counted S.Operator stages.old.items stages.new.items X X Y Y rows) }
+    ensures moved { NotMemory result.outcome
+        → Moved S.Operator stages.old.items stages.new.items [] [] }
+    ensures counts { NotMemory result.outcome → (X Y : List Row)
+        → Counted S.Operator stages.old.items stages.new.items X X Y Y result.rows }
     ensures len { length stages.new.items ≡ length stages.old.items }
-    ensures few { IfOk result (λ rows. rows ≤ most_rows) }
-    ensures fault { (node : ℕ) (kind : Kind) → result ≡ Err (OpFault.Expr node kind)
+    ensures few { result.rows ≤ most_rows }
+    ensures fault { (node : ℕ) (kind : Kind) → result.outcome ≡ Err (OpFault.Expr node kind)
         → SomeFails S.Operator stages.new.items node kind }
 {
     if !stages[place + 1].needs_input() {
-        return Ok(0);
+        return Moving {
+            rows: 0,
+            outcome: Ok(()),
+        };
     }
     let page = match give_out(&mut stages[place]) {
         Ok(Some(page)) => page,
-        Ok(None) => return Ok(0),
-        Err(fault) => return Err(fault),
+        Ok(None) => return Moving {
+            rows: 0,
+            outcome: Ok(()),
+        },
+        Err(fault) => return Moving {
+            rows: 0,
+            outcome: Err(fault),
+        },
     };
     if !stages[place + 1].expects(&page) {
-        return Err(OpFault::Memory);
+        return Moving {
+            rows: 0,
+            outcome: Err(OpFault::Memory),
+        };
     }
     let rows = page.len();
-    match take_in(&mut stages[place + 1], page) {
-        Ok(()) => Ok(rows),
-        Err(fault) => Err(fault),
-    }
+    let outcome = take_in(&mut stages[place + 1], page);
+    Moving { rows, outcome }
 }
 
 /// Tells a stage to finish, where its giver is finished.
@@ -124,8 +143,8 @@ pub fn pass_end<S: TypedOperator>(stages: &mut Vec<S>, place: usize, ended: bool
 pub fn drain<S: TypedOperator>(stages: &mut Vec<S>) -> Result<Option<Page>, OpFault>
     ensures moved { NotMemory result
         → Moved S.Operator stages.old.items stages.new.items [] (gave result) }
-    ensures counts { OnOk result ((X Y : List Row) → Counted S.Operator stages.old.items
-        stages.new.items X X Y (Y ++ gave result) (length (gave result))) }
+    ensures counts { NotMemory result → (X Y : List Row) → Counted S.Operator stages.old.items
+        stages.new.items X X Y (Y ++ gave result) (length (gave result)) }
     ensures fault { (node : ℕ) (kind : Kind) → result ≡ Err (OpFault.Expr node kind)
         → SomeFails S.Operator stages.new.items node kind }
 {

@@ -8,7 +8,7 @@ use Rattle.driver_turns.proofs.turns.turn.Given as goal
 
 abbrev pub invariant-loop : goal.invariant-loop
 invariant-loop g l = record {
-  worked : (Y : List Row) → g.T.PageTarget.gave l.fn.target Y → WorkedTo g.S.Operator (g.T.PageTarget.gave l.target) l.fn.stages.items l.stages.items
+  worked : (Y : List Row) → g.T.PageTarget.was_given l.fn.target Y → WorkedTo g.S.Operator (g.T.PageTarget.was_given l.target) l.fn.stages.items l.stages.items
       (g.I.PageSource.taken l.fn.source) (g.I.PageSource.taken l.source) Y (g.I.PageSource.is_ended l.fn.source) (g.I.PageSource.is_ended l.source)
       (g.I.PageSource.misses l.fn.source) (g.I.PageSource.misses l.source) l.units;
   later : AllLater g.S.Operator l.fn.stages.items l.stages.items;
@@ -20,6 +20,7 @@ invariant-loop g l = record {
   target_looks : (g.T.PageTarget.looks l.fn.target).in_vain ≤ (g.T.PageTarget.looks l.target).in_vain;
   told : (g.T.PageTarget.is_told l.fn.target ≡ true → last_finished g.S.Operator (g.I.PageSource.is_ended l.fn.source) l.fn.stages.items ≡ true)
       → g.T.PageTarget.is_told l.target ≡ true → last_finished g.S.Operator (g.I.PageSource.is_ended l.source) l.stages.items ≡ true;
+  tells : last_finished g.S.Operator (g.I.PageSource.is_ended l.source) l.stages.items ≡ true → g.T.PageTarget.is_told l.target ≡ true;
   bells : (bell count : ℕ) → g.B.Bells.shown l.fn.bells bell count → g.B.Bells.shown l.bells bell count;
   rang : RangDues (g.B.Bells.rang l.fn.bells) (g.B.Bells.rang l.bells) (λ bell. g.I.PageSource.dues l.fn.source bell + g.T.PageTarget.dues l.fn.target bell)
       (λ bell. g.I.PageSource.dues l.source bell + g.T.PageTarget.dues l.target bell);

@@ -1,6 +1,6 @@
 use Rattle.std.proofs.Common.{◌-◌, arith}
 use Rattle.stage_moves.proofs.MoveLemmas.{Moved-gave, SomeFails-at}
-use Rattle.stage_moves.proofs.CountLemmas.{Counted-drained}
+use Rattle.stage_moves.proofs.CountLemmas.{Counted-gave}
 use Rattle.stage_moves.proofs.moves.drain.Goals as goal
 
 pub returns-clause-moved : goal.returns-clause-moved
@@ -12,5 +12,5 @@ returns-clause-fault g c = λ node kind e. SomeFails-at g.S.Operator c.args.stag
     (omega (arith, c.len-count.ensures, c.if-count-eq0.false)) (c.give_out.ensures.fault node kind e)
 
 pub returns-clause-counts : goal.returns-clause-counts
-returns-clause-counts g c = Counted-drained g.S.Operator c.give_out.result c.args.stages.now.items (c.len-count.result - 1) c.index_mut.result.now c.give_out.new.op
-    (omega (arith, c.len-count.ensures, c.if-count-eq0.false)) c.index_mut.ensures.value (λ ok. c.give_out.ensures.gave ok)
+returns-clause-counts g c = λ ok X Y. Counted-gave g.S.Operator c.args.stages.now.items (c.len-count.result - 1) c.index_mut.result.now c.give_out.new.op _ X Y
+    (omega (arith, c.len-count.ensures, c.if-count-eq0.false)) c.index_mut.ensures.value (c.give_out.ensures.gave ok)

@@ -2,7 +2,7 @@ use Rattle.std.proofs.Common.{◌≡◌, ℕ, List, Bool, length}
 use Rattle.operator_core.specs.Rows.{Row}
 use Rattle.stage_moves.specs.Counts.{Counted}
 use Rattle.driver_turns.specs.Turns.{WentOn}
-use Rattle.driver_turns.proofs.turns.look_at_stages.Given as goal
+use Rattle.driver_turns.proofs.looks.look_at_stages.Given as goal
 
 abbrev pub invariant-loop-place : goal.invariant-loop-place
 invariant-loop-place g l = record {

@@ -1,6 +1,6 @@
 use Rattle.stage_moves.proofs.CountLemmas.{Counted-looked}
 use Rattle.driver_turns.proofs.TurnLemmas.{WentOn-looked}
-use Rattle.driver_turns.proofs.turns.look_at.Goals as goal
+use Rattle.driver_turns.proofs.looks.look_at.Goals as goal
 
 pub returns-clause-went : goal.returns-clause-went
 returns-clause-went g c = λ ok X Y ended. WentOn-looked g.S.Operator c.laws.ensures c.args.stages.now.items c.args.place c.index_mut.result.now c.look.new.op X Y ended

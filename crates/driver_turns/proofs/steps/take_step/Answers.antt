@@ -1,13 +1,10 @@
 use Rattle.std.proofs.Common.{refl, sym, ◌∙◌}
 use Rattle.stage_moves.proofs.PlaceLemmas.{AllLater-same}
-use Rattle.driver_turns.proofs.TurnLemmas.{WentOn-none, WentTo-looked, WorkedTo-none, RangDues-step}
-use Rattle.driver_turns.proofs.turns.step.Goals as goal
-
-pub returns-in-Ok-clause-went : goal.returns-in-Ok-clause-went
-returns-in-Ok-clause-went g c = λ _ Y given. WentTo-looked g.S.Operator _ _ _ _ _ Y _ _ ((c.in-Ok.ensures).rows refl Y given) (WentOn-none g.S.Operator _ _ Y _)
+use Rattle.driver_turns.proofs.TurnLemmas.{WorkedTo-none, RangDues-step}
+use Rattle.driver_turns.proofs.steps.take_step.Goals as goal
 
 pub returns-in-Ok-clause-worked : goal.returns-in-Ok-clause-worked
-returns-in-Ok-clause-worked g c = λ Y given. WorkedTo-none g.S.Operator _ _ _ Y _ _ ((c.in-Ok.ensures).rows refl Y given)
+returns-in-Ok-clause-worked g c = λ _ Y given. WorkedTo-none g.S.Operator _ _ _ Y _ _ ((c.in-Ok.ensures).rows refl Y given)
 
 pub returns-in-Ok-clause-later : goal.returns-in-Ok-clause-later
 returns-in-Ok-clause-later g c = λ _. AllLater-same g.S.Operator _

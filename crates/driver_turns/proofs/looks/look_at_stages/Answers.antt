@@ -1,7 +1,7 @@
 use Rattle.std.proofs.Common.{[], false, refl, sym, ◌∙◌, arith}
 use Rattle.stage_moves.proofs.CountLemmas.{Counted-none, Counted-after}
 use Rattle.driver_turns.proofs.TurnLemmas.{WentOn-none, WentOn-then, Blocked-since}
-use Rattle.driver_turns.proofs.turns.look_at_stages.Goals as goal
+use Rattle.driver_turns.proofs.looks.look_at_stages.Goals as goal
 
 pub loop-place-init : goal.loop-place-init
 loop-place-init g c = record {

@@ -77,6 +77,32 @@ fn picks_change_no_row(rt: HostRuntime) -> Result<(), Fail> {
     Ok(())
 }
 
+/// A join of which both sides divide by a number that may be zero.
+const BOTH_DIVIDE: &str = "\
+{'id':1,'op':'join','kind':'INNER','on':[[0,0]],'left':\
+{'id':3,'op':'project','columns':[{'call':'/','args':[{'lit':'6','type':'bigint'},{'col':0}]},{'col':1}],'input':@t},'right':\
+{'id':2,'op':'project','columns':[{'call':'/','args':[{'lit':'6','type':'bigint'},{'col':0}]},{'col':1}],'input':@u}}";
+
+#[test]
+fn the_driver_that_is_picked_first_fails_first(rt: HostRuntime) -> Result<(), Fail> {
+    let plan = plan_of(rt.alloc(), "$k", "'a','b','c','d'", BOTH_DIVIDE)?;
+    let left = "node 3";
+    let right = "node 2";
+    let cases: [(&[u32], &str); 6] = [
+        (&[], left),
+        (&[0, 1], left),
+        (&[2, 1], left),
+        (&[1], right),
+        (&[1, 0], right),
+        (&[3, 0], right),
+    ];
+    for (picks, text) in cases {
+        let sizes = (10_000, 1024, 100_000);
+        assert!(rt; gives_cut(&rt, plan.as_str(), "k,x~0,a~;k,y~0,p~", sizes, picks, text)?);
+    }
+    Ok(())
+}
+
 /// Writes so many lines of the key 7, each behind these words.
 fn write_many(alloc: Global, text: &mut String, words: &str, count: u32) -> Result<(), Fail> {
     for n in 0..count {

@@ -11,7 +11,9 @@ use csv_tables::text_of;
 use plan_fits::tree_of_a_plan_fits;
 use plan_reader::{Plan, tree};
 use plan_trees::types_of_tree;
-use query_runner::{files_of as files_of_tables, load_plan, load_tables, result_of, shape_of};
+use query_runner::{
+    Status, files_of as files_of_tables, load_plan, load_tables, result_of, shape_of,
+};
 use run_ports::MemFiles;
 use sql_values::Table;
 use std::alloc::Global;
@@ -22,7 +24,7 @@ use std::thread::Threads;
 use task_executor::Shape;
 use tree_evaluator::evaluate;
 
-/// Whether a run under these picks gives this text, and the plain evaluator too.
+/// Whether a run under these picks gives this text, and the plain evaluator too, or fails at the node that it names.
 pub(crate) fn gives<R: Threads + Wait + Sync + RandomSource + AllocGlobal>(
     rt: &R,
     given: &Given<'_>,
@@ -114,6 +116,9 @@ fn tables_give<R: Threads + Wait + Sync + RandomSource + AllocGlobal>(
         Ok(bytes) => Ok(
             is_text(bytes.as_slice(), text) && evaluates_to(rt.alloc(), plan, tables, text)?,
         ),
+        Err(Status::ExprFailed { node, .. }) => {
+            Ok(format!(in rt.alloc(); "node {node}")?.as_str() == text)
+        }
         Err(_) => Ok(false),
     }
 }

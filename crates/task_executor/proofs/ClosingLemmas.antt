@@ -6,7 +6,7 @@ use Rattle.page_judges.specs.Typed.{AllFit}
 use Rattle.operator_core.specs.Rows.{Row}
 use Rattle.operator_core.specs.Calls.{IsLawful}
 use Rattle.driver_loop.specs.Drivers.{DriverState, HasFailed}
-use Rattle.driver_loop.specs.Ends.{has_ended, rows_given, rows_kept, rows_taken}
+use Rattle.driver_loop.specs.Ends.{has_ended, rows_given, rows_handed, rows_taken}
 use Rattle.driver_loop.specs.Turns.{note_of_stage, note_of_target}
 use Rattle.driver_loop.specs.contracts.stage.StageOperator.TheImpl.{ghosts}
 use Rattle.driver_loop.specs.declared.pieces.CellNote.{CellNote}
@@ -44,7 +44,7 @@ use Rattle.task_executor.proofs.MemberLemmas.{In, all_in, contained_in, in_flat}
 use Rattle.task_executor.proofs.StandLemmas.{Stands, all_taken, stand}
 
 -- a target that keeps rows keeps those that it was given
-kept_given : (target : Target) → IsResult target → rows_kept target ≡ rows_given target
+kept_given : (target : Target) → IsResult target → rows_handed target ≡ rows_given target
 kept_given (Build b) is = absurd is
 kept_given (Kept result) is = refl
 

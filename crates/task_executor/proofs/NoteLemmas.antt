@@ -16,7 +16,7 @@ use Rattle.task_executor.specs.Cells.{AreNamed, AreOfCells, LearnedFrom, Names, 
 use Rattle.task_executor.specs.Closing.{WereTaken, builds_of, looks_of}
 use Rattle.task_executor.specs.Turns.{IsStill}
 use Rattle.task_executor.specs.declared.closing.Notes.{Notes}
-use Rattle.driver_loop.specs.Ends.{rows_kept}
+use Rattle.driver_loop.specs.Ends.{rows_handed}
 use Rattle.operator_core.specs.Rows.{Row}
 
 -- the cells of notes are those of their stages and targets
@@ -117,7 +117,7 @@ all_compared looks own builds now k n same are lt at front follows =
 
 -- one more was
 pub taken_more : (done : List DriverState) (d : DriverState) (old mid new : Notes) (rows pushed : List (List Row)) (own : List Row) → WereTaken done old mid rows → IsStill d
-    → new.looks.items ≡ mid.looks.items ++ flat_map note_of_stage d.stages → new.builds.items ≡ mid.builds.items ++ note_of_target d.target → own ≡ rows_kept d.target → pushed ≡ rows ++ own ∷ []
+    → new.looks.items ≡ mid.looks.items ++ flat_map note_of_stage d.stages → new.builds.items ≡ mid.builds.items ++ note_of_target d.target → own ≡ rows_handed d.target → pushed ≡ rows ++ own ∷ []
     → WereTaken (done ++ d ∷ []) old new pushed
 taken_more done d old mid new rows pushed own taken still looks builds gave push = record {
   each = All-append IsStill done (d ∷ []) taken.each (All-cons IsStill d [] still (All-nil IsStill));
@@ -129,7 +129,7 @@ taken_more done d old mid new rows pushed own taken still looks builds gave push
         ∙ ap (λ (ns : List CellNote). old.builds.items ++ (builds_of done ++ ns)) (sym (append-nil (note_of_target d.target)))
         ∙ ap (λ (ns : List CellNote). old.builds.items ++ ns) (sym (flat_map-append (λ (x : DriverState). note_of_target x.target) done (d ∷ [])));
   };
-  gave = push ∙ (λ i. taken.gave i ++ gave i ∷ []) ∙ sym (map-append (λ (x : DriverState). rows_kept x.target) done (d ∷ []));
+  gave = push ∙ (λ i. taken.gave i ++ gave i ∷ []) ∙ sym (map-append (λ (x : DriverState). rows_handed x.target) done (d ∷ []));
 }
 
 -- notes of drivers that were taken apart are of their cells

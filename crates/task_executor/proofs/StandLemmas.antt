@@ -87,7 +87,7 @@ pub record IsBuild (names : Names) (bell : ℕ) (keys : List ℕ) (types : List 
   pub rings : build.bell ≡ bell
   pub keyed : build.source.keys ≡ keys
   pub typed : build.source.types ≡ types
-  pub known : (x : IndexedRows) → build.note.known ≡ Some x → (done ≡ true) × (x ≡ build.source)
+  pub known : (x : IndexedRows) → build.note.known ≡ Some x → build.note.refused ≡ 0 → (done ≡ true) × (x ≡ build.source)
 
 build_is : (names : Names) (bell : ℕ) (keys : List ℕ) (types : List SqlType) (done : Bool) (target : Target) → BuildsFor names bell keys types target → IsBuiltAs done target
     → IsBuild names bell keys types done target
@@ -161,7 +161,8 @@ module _ (names : Names) (tables : Tables) (laws : IsLawful ghosts) (all : List 
         let b = s.build.build in
         let own : CellNote = record { bell = b.bell; note = b.note } in
         let at : In (note_of_target side.target) own = subst (λ (t : Target). In (note_of_target t) own) (sym s.build.is) (inl refl) in
-        s.build.known source (follows own at (s.build.rings ∙ sym rings) source known)
+        let learned = follows own at (s.build.rings ∙ sym rings) source known in
+        s.build.known source learned.0 learned.1
 
     source_of : (raw : ProbeState) → raw.bell ≡ bell
         → ((build : CellNote) → In (note_of_target side.target) build → LearnedFrom (record { bell = raw.bell; note = raw.note }) build)

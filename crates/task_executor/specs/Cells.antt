@@ -37,9 +37,10 @@ cells_of d = flat_map cell_of d.stages ++ target_cell d.target
 abbrev pub AreNamed : List DriverState → Type 0
 AreNamed drivers = (names : Names) × All (λ (c : ℕ × ℕ). c.1 ≡ names c.0) (flat_map cells_of drivers)
 
--- whoever publishes in the cell knows what one who looks into it knows
+-- whoever publishes in the cell knows what one who looks into it knows, and found no other source there
 abbrev pub LearnedFrom : CellNote → CellNote → Type 0
-LearnedFrom look build = build.bell ≡ look.bell → (source : IndexedRows) → look.note.known ≡ Some source → build.note.known ≡ Some source
+LearnedFrom look build =
+    build.bell ≡ look.bell → (source : IndexedRows) → look.note.known ≡ Some source → (build.note.known ≡ Some source) × (build.note.refused ≡ 0)
 
 abbrev pub AllLearnedFrom : List CellNote → List CellNote → Type 0
 AllLearnedFrom looks builds = All (λ look. All (LearnedFrom look) builds) looks

@@ -2,7 +2,7 @@
 use Rattle.std.specs.Prelude.{◌≡◌, List, [], ◌∷◌, ◌++◌, Bool, true, false, All, flat_map, map}
 use Rattle.operator_core.specs.Rows.{Row}
 use Rattle.driver_loop.specs.Drivers.{DriverState}
-use Rattle.driver_loop.specs.Ends.{rows_kept}
+use Rattle.driver_loop.specs.Ends.{rows_handed}
 use Rattle.driver_loop.specs.Turns.{note_of_stage, note_of_target}
 use Rattle.task_executor.specs.Turns.{IsStill}
 use Rattle.driver_loop.specs.declared.pieces.CellNote.{CellNote}
@@ -28,4 +28,4 @@ builds_of drivers = flat_map (λ (d : DriverState). note_of_target d.target) dri
 pub record WereTaken (drivers : List DriverState) (old new : Notes) (rows : List (List Row)) : Type 0 where
   pub each : All IsStill drivers
   pub kept : HaveKept old new (looks_of drivers) (builds_of drivers)
-  pub gave : rows ≡ map (λ (d : DriverState). rows_kept d.target) drivers
+  pub gave : rows ≡ map (λ (d : DriverState). rows_handed d.target) drivers

@@ -6,3 +6,4 @@ pub mod Wirings
 pub mod Turns
 pub mod Nets
 pub mod Closing
+pub mod RunBells

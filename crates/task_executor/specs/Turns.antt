@@ -4,7 +4,7 @@ use Rattle.std.specs.List.{AllZip}
 use Rattle.split_source.specs.Gathered.{AreDistinct, AreWhole}
 use Rattle.split_source.specs.Seats.{AreAll, SeatState}
 use Rattle.driver_loop.specs.Drivers.{DriverState, HasFailed, IsBuilt, IsDriver, IsOver, IsWhole}
-use Rattle.driver_loop.specs.Ends.{IsBegun, IsDrained, claim_of, has_ended, rows_kept, source_made, target_made}
+use Rattle.driver_loop.specs.Ends.{IsBegun, IsDrained, claim_of, has_ended, rows_handed, source_made, target_made}
 use Rattle.driver_loop.specs.contracts.stage.StageOperator.TheImpl.{ghosts}
 use Rattle.driver_loop.specs.declared.stage.Stage.{Stage}
 use Rattle.driver_loop.specs.declared.run_fault.RunFault.{RunFault}
@@ -72,4 +72,4 @@ pub record IsStill (d : DriverState) : Type 0 where
 pub record AreStill (drivers : List DriverState) (rows : List Row) : Type 0 where
   pub each : All IsStill drivers
   pub follow : AllLearnedFrom (flat_map (λ (d : DriverState). flat_map note_of_stage d.stages) drivers) (flat_map (λ (d : DriverState). note_of_target d.target) drivers)
-  pub first : (main : DriverState) (others : List DriverState) → drivers ≡ main ∷ others → rows ≡ rows_kept main.target
+  pub first : (main : DriverState) (others : List DriverState) → drivers ≡ main ∷ others → rows ≡ rows_handed main.target

@@ -12,8 +12,8 @@ ghost use Rattle.task_executor.specs.Turns.{AreAlone, AreFailing, AreFinished, A
 use crate::closing::close;
 use crate::net::Net;
 use crate::result::rows_of;
+use crate::run_bells::RunBells;
 use crate::shape::Shape;
-use crate::still_bells::StillBells;
 use driver_loop::{Driver, RunFault, Stage, Turn};
 use futures::task::{Doorbell, Solo};
 use operator_core::laws;
@@ -50,7 +50,11 @@ where
     let Ok(solo) = Solo::new(rt, Doorbell::spinning()) else {
         return Err(RunFault::Memory);
     };
-    match drive(rt, alloc, &solo, &mut drivers, shape.quantum, picks) {
+    // A net has a bell for each right side, and a driver of its own for it.
+    let Ok(mut bells) = RunBells::new(alloc, drivers.len()) else {
+        return Err(RunFault::Memory);
+    };
+    match drive(rt, &solo, &mut drivers, &mut bells, shape.quantum, picks) {
         Ok(()) => match finish(alloc, drivers) {
             Ok(rows) => Ok(RunDone { rows }),
             Err(Memory) => Err(RunFault::Memory),
@@ -66,9 +70,9 @@ where
 /// Gives turns until each driver is finished: first to those that are picked, and then to each in turn.
 fn drive<R: Threads + Wait + Sync>(
     rt: &R,
-    alloc: Global,
     solo: &Solo,
     drivers: &mut Vec<Driver<'_>>,
+    bells: &mut RunBells,
     quantum: u32,
     picks: &[u32],
 ) -> Result<(), RunFault>
@@ -78,12 +82,12 @@ fn drive<R: Threads + Wait + Sync>(
     ensures done { MatchResult result (λ _. AreUnfailed drivers.new.items × AreFinished drivers.new.items)
         (AreFailing drivers.new.items) }
 {
-    serve_picked(rt, alloc, solo, drivers, quantum, picks)?;
+    serve_picked(rt, solo, drivers, bells, quantum, picks)?;
     for _ in rt.forever() {
         if are_finished(drivers) {
             break;
         }
-        serve_all(rt, alloc, solo, drivers, quantum)?;
+        serve_all(rt, solo, drivers, bells, quantum)?;
     }
     Ok(())
 }
@@ -91,9 +95,9 @@ fn drive<R: Threads + Wait + Sync>(
 /// Gives a turn to each driver that is picked, unless it is finished. A pick counts round and round.
 fn serve_picked<R: Threads + Wait + Sync>(
     rt: &R,
-    alloc: Global,
     solo: &Solo,
     drivers: &mut Vec<Driver<'_>>,
+    bells: &mut RunBells,
     quantum: u32,
     picks: &[u32],
 ) -> Result<(), RunFault>
@@ -104,7 +108,7 @@ fn serve_picked<R: Threads + Wait + Sync>(
 {
     for pick in picks {
         let place = *pick as usize % drivers.len();
-        serve(rt, alloc, solo, drivers, place, quantum)?;
+        serve(rt, solo, drivers, bells, place, quantum)?;
     }
     Ok(())
 }
@@ -118,9 +122,9 @@ fn are_finished(drivers: &Vec<Driver<'_>>) -> bool
 /// Gives a turn to each driver that is not finished.
 fn serve_all<R: Threads + Wait + Sync>(
     rt: &R,
-    alloc: Global,
     solo: &Solo,
     drivers: &mut Vec<Driver<'_>>,
+    bells: &mut RunBells,
     quantum: u32,
 ) -> Result<(), RunFault>
     requires { AreUnfailed drivers.old.items }
@@ -128,7 +132,7 @@ fn serve_all<R: Threads + Wait + Sync>(
     ensures done { MatchResult result (λ _. AreUnfailed drivers.new.items) (AreFailing drivers.new.items) }
 {
     for place in 0..drivers.len() {
-        serve(rt, alloc, solo, drivers, place, quantum)?;
+        serve(rt, solo, drivers, bells, place, quantum)?;
     }
     Ok(())
 }
@@ -136,9 +140,9 @@ fn serve_all<R: Threads + Wait + Sync>(
 /// Gives a turn to the driver at a place, unless it is finished.
 fn serve<R: Threads + Wait + Sync>(
     rt: &R,
-    alloc: Global,
     solo: &Solo,
     drivers: &mut Vec<Driver<'_>>,
+    bells: &mut RunBells,
     place: usize,
     quantum: u32,
 ) -> Result<(), RunFault>
@@ -150,24 +154,23 @@ fn serve<R: Threads + Wait + Sync>(
     if drivers[place].is_finished() {
         return Ok(());
     }
-    give_turn(rt, alloc, solo, &mut drivers[place], quantum)
+    give_turn(rt, solo, &mut drivers[place], bells, quantum)
 }
 
 /// Gives a turn. A driver that waits is asked again at its next one.
 fn give_turn<R: Threads + Wait + Sync>(
     rt: &R,
-    alloc: Global,
     solo: &Solo,
     driver: &mut Driver<'_>,
+    bells: &mut RunBells,
     quantum: u32,
 ) -> Result<(), RunFault>
     requires { (driver.old.is_finished ≡ false) × (driver.old.fault ≡ None) }
     ensures later { IsLater driver.old driver.new }
     ensures done { MatchResult result (λ _. driver.new.fault ≡ None) (IsFailing driver.new) }
 {
-    let mut bells = StillBells { alloc };
     let mut cx = solo.begin();
-    let turn = driver.turn(rt, quantum, &mut cx, &mut bells);
+    let turn = driver.turn(rt, quantum, &mut cx, bells);
     cx.cancel();
     match turn {
         Turn::Yield => Ok(()),

@@ -1,7 +1,7 @@
 //! The end of a run: its drivers are taken apart, and what they tell of each other is compared.
 ghost use Rattle.std.specs.Prelude.{◌≡◌, ◌<◌, ◌++◌, ◌∷◌, [], List, true, length, flat_map, All, IfOk, OnOk};
 ghost use Rattle.driver_loop.specs.Drivers.{IsWhole};
-ghost use Rattle.driver_loop.specs.Ends.{rows_kept};
+ghost use Rattle.driver_loop.specs.Ends.{rows_handed};
 ghost use Rattle.driver_loop.specs.Turns.{note_of_stage, note_of_target};
 ghost use Rattle.task_executor.specs.Cells.{AllLearnedFrom, AreNamed, AreOfCells, LearnedFrom};
 ghost use Rattle.task_executor.specs.Closing.{HaveKept, IsOneIf, WereTaken};
@@ -24,7 +24,8 @@ struct Notes {
 }
 
 /// Takes the drivers apart, and gives the rows that the first one was given. Each tells which splits it read, and
-/// what it knows of cells: no driver knows a source that its builder does not, else memory counts as wanting.
+/// what it knows of cells: no driver knows a source that its builder does not, or that its builder found there, else
+/// memory counts as wanting.
 pub(crate) fn close(alloc: Global, drivers: Vec<Driver<'_>>) -> Result<HeldPages, Memory>
     requires some { 0 < length drivers.items }
     requires whole { AreWholeDrivers drivers.items }
@@ -73,7 +74,7 @@ fn take_apart(alloc: Global, driver: Driver<'_>, notes: &mut Notes) -> Result<He
         ≡ notes.old.looks.items ++ flat_map note_of_stage driver.entry.stages) }
     ensures builds { IfOk result (λ _. notes.new.builds.items
         ≡ notes.old.builds.items ++ note_of_target driver.entry.target) }
-    ensures rows { IfOk result (λ rows. rows ≡ rows_kept driver.entry.target) }
+    ensures rows { IfOk result (λ rows. rows ≡ rows_handed driver.entry.target) }
 {
     driver.keeps();
     let is_build = driver.is_build();
@@ -154,7 +155,7 @@ fn all_follow_one(look: &mut CellNote, builds: &mut Vec<CellNote>) -> bool
     true
 }
 
-/// Whether one who publishes knows what one who looks knows, where it is the same cell.
+/// Whether one who publishes knows what one who looks knows, and as its own, where it is the same cell.
 fn follows(look: &mut CellNote, build: &mut CellNote) -> bool
     requires { build.old.bell ≡ look.old.bell → build.old.note.cell ≡ look.old.note.cell }
     ensures look { look.new ≡ look.old }
@@ -165,5 +166,5 @@ fn follows(look: &mut CellNote, build: &mut CellNote) -> bool
         return true;
     }
     look.note.agree(&mut build.note);
-    build.note.knows() || !look.note.knows()
+    !look.note.knows() || build.note.knows() && build.note.refused() == 0
 }

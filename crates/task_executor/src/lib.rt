@@ -10,7 +10,7 @@
 //! - `alone`: `run_alone`, a run on one thread. Where it answers rows, the plan's tree allows them over the tables;
 //!   where an expression failed, its node may fail so
 //! - `closing`: the end of a run, where its drivers are taken apart
-//! - `still_bells`: the bells of a run on one thread
+//! - `run_bells`: the bells of a run on one thread, which count their rings
 //!
 //! The plans that are built are one fragment: scans of tables and constant rows, and filters, projects, joins,
 //! aggregates, sorts, top ns and limits over these. A net has one driver for the root, and one for the right side
@@ -23,10 +23,10 @@ mod closing;
 mod net;
 mod pipeline;
 mod result;
+mod run_bells;
 mod shape;
 mod sides;
 mod source;
-mod still_bells;
 mod types;
 mod wiring;
 

@@ -33,6 +33,21 @@ first_refused document all =
     (option_or (at 6 (first_unlinked document all))
     (at 7 (first_alone document all))))))
 
+-- a value out of its form, beyond its limit, or with a name that it may not have
+abbrev pub first_malformed : Data → List Spot → Option (ℕ × Spot)
+first_malformed document all =
+    option_or (at 2 (find is_misshapen all))
+    (option_or (at 3 (first_beyond all))
+    (at 4 (first_misnamed document [] all)))
+
+-- a fragment or a half of an operator that does not go together with the others
+abbrev pub first_unjoined : Data → List Spot → Option (ℕ × Spot)
+first_unjoined document all = option_or (at 6 (first_unlinked document all)) (at 7 (first_alone document all))
+
+-- the first failing check, whether or not all forms are built
+abbrev pub first_inconsistent : Data → List Spot → Option (ℕ × Spot)
+first_inconsistent document all = option_or (first_malformed document all) (first_unjoined document all)
+
 -- the code and the pointer of a refusal
 abbrev pub refusal : ℕ × Spot → ℕ × List ℕ
 refusal r = (r.0, pointer_text (fault_path r.1))
@@ -40,6 +55,10 @@ refusal r = (r.0, pointer_text (fault_path r.1))
 -- why a document is refused, if it is
 abbrev pub refusal_of : Data → Option (ℕ × List ℕ)
 refusal_of document = option_map refusal (first_refused document (places_of document))
+
+-- why it is refused whether or not all of it is built
+abbrev pub inconsistency_of : Data → Option (ℕ × List ℕ)
+inconsistency_of document = option_map refusal (first_inconsistent document (places_of document))
 
 -- the bytes are JSON, and the document is the value that they write
 pub record IsJson (bytes : List ℕ) (document : Data) : Type 0 where
@@ -50,6 +69,11 @@ pub record IsJson (bytes : List ℕ) (document : Data) : Type 0 where
 pub record IsDocument (bytes : List ℕ) (document : Data) : Type 0 where
   pub json : IsJson bytes document
   pub passes : refusal_of document ≡ None
+
+-- the same whether or not all of the document is built
+pub record IsAnyDocument (bytes : List ℕ) (document : Data) : Type 0 where
+  pub json : IsJson bytes document
+  pub passes : inconsistency_of document ≡ None
 
 -- code 1: the bytes are no JSON
 pub record IsNotJson (bytes : List ℕ) (code : ℕ) (path : List ℕ) : Type 0 where
@@ -72,3 +96,19 @@ RefusedAs refusal Memory = Unit {0}
 abbrev pub RefusedFor : List ℕ → PlanFault → Type 0
 RefusedFor bytes (Refused code path) = IsNotJson bytes code path ⊎ IsRefused bytes code path
 RefusedFor bytes Memory = Unit {0}
+
+-- why bytes are no JSON
+abbrev pub NotJsonFor : List ℕ → PlanFault → Type 0
+NotJsonFor bytes (Refused code path) = IsNotJson bytes code path
+NotJsonFor bytes Memory = Unit {0}
+
+-- the bytes are a document, and the first check that fails, whether or not all of it is built, has the code and the path
+pub record IsInconsistent (bytes : List ℕ) (code : ℕ) (path : List ℕ) : Type 0 where
+  pub document : Data
+  pub json : IsJson bytes document
+  pub refused : inconsistency_of document ≡ Some (code, path)
+
+-- why bytes are no plan document, whether or not all of one is built
+abbrev pub InconsistentFor : List ℕ → PlanFault → Type 0
+InconsistentFor bytes (Refused code path) = IsNotJson bytes code path ⊎ IsInconsistent bytes code path
+InconsistentFor bytes Memory = Unit {0}

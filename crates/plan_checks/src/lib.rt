@@ -10,7 +10,7 @@
 //! - `fragments`: code 6, which fragment reads which
 //! - `halves`: code 7, the two halves of an operator
 //! - `refusal`, `fault`: the first of all, and as the answer
-//! - `read`: `read_document`
+//! - `read`: `read_document`, and `read_any_document`, which does not ask whether all is built
 #![tactic(auto)]
 
 mod built;
@@ -25,6 +25,4 @@ mod shapes;
 mod types;
 
 pub use fault::PlanFault;
-pub use fragments::first_unlinked;
-pub use halves::first_alone;
-pub use read::{documents_are_one, read_document};
+pub use read::{documents_are_one, read_any_document, read_document};

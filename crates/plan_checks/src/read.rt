@@ -1,28 +1,58 @@
 ghost use Rattle.std.specs.Prelude.{◌≡◌, ◌≤◌, [], IfOk, MatchResult};
 ghost use Rattle.serde_json.specs.Data.{Data, depth};
 ghost use Rattle.serde_json.specs.View.{view};
-ghost use Rattle.plan_checks.specs.Documents.{IsDocument, IsJson, RefusedFor};
+ghost use Rattle.plan_checks.specs.Documents.{InconsistentFor, IsAnyDocument, IsDocument, IsJson, NotJsonFor, RefusedFor};
 
 use crate::fault::PlanFault;
-use crate::refusal::judge;
+use crate::refusal::{judge, judge_any};
 use serde_json::Value;
 use sql_values::Text;
 use std::alloc::Global;
 
 /// The document that the bytes are, where no check fails at any of its places.
+#[tactic(auto, using(crate::proofs::RefusalLemmas::no_json))]
 pub fn read_document(alloc: Global, bytes: &[u8]) -> Result<Value, PlanFault>
     ensures result { MatchResult result (λ document. IsDocument bytes.now (view document))
         (RefusedFor bytes.now) }
     ensures nests { IfOk result (λ document. depth (view document) ≤ 127) }
 {
-    let document = match Value::from_slice(alloc, bytes) {
+    let document = match parse(alloc, bytes) {
         Ok(document) => document,
-        Err(fault) if fault.is_memory() => return Err(PlanFault::Memory),
-        Err(_) => return Err(not_json(alloc)),
+        Err(fault) => return Err(fault),
     };
     match judge(alloc, &document) {
         Ok(()) => Ok(document),
         Err(fault) => Err(fault),
+    }
+}
+
+/// The document that the bytes are, where no check fails at any of its places, whether or not all of it is built.
+#[tactic(auto, using(crate::proofs::RefusalLemmas::no_json))]
+pub fn read_any_document(alloc: Global, bytes: &[u8]) -> Result<Value, PlanFault>
+    ensures result { MatchResult result (λ document. IsAnyDocument bytes.now (view document))
+        (InconsistentFor bytes.now) }
+    ensures nests { IfOk result (λ document. depth (view document) ≤ 127) }
+{
+    let read = match parse(alloc, bytes) {
+        Ok(read) => read,
+        Err(fault) => return Err(fault),
+    };
+    match judge_any(alloc, &read) {
+        Ok(()) => Ok(read),
+        Err(fault) => Err(fault),
+    }
+}
+
+/// The value that the bytes write, where they are JSON.
+fn parse(alloc: Global, bytes: &[u8]) -> Result<Value, PlanFault>
+    ensures result { MatchResult result (λ document. IsJson bytes.now (view document))
+        (NotJsonFor bytes.now) }
+    ensures nests { IfOk result (λ document. depth (view document) ≤ 127) }
+{
+    match Value::from_slice(alloc, bytes) {
+        Ok(document) => Ok(document),
+        Err(fault) if fault.is_memory() => Err(PlanFault::Memory),
+        Err(_) => Err(not_json(alloc)),
     }
 }
 

@@ -7,7 +7,7 @@ use Rattle.plan_places.specs.declared.step.Step.{Step}
 use Rattle.plan_places.specs.Places.{pointer_text}
 use Rattle.plan_checks.specs.declared.fault.PlanFault.{PlanFault}
 use Rattle.plan_checks.specs.declared.fault.PlanFault.TheVariants.{Refused, Memory}
-use Rattle.plan_checks.specs.Documents.{IsJson, IsNotJson, refusal_of}
+use Rattle.plan_checks.specs.Documents.{IsJson, IsNotJson, inconsistency_of, refusal_of}
 use Rattle.plan_docs.specs.Documents.{plan_of}
 use Rattle.plan_docs.specs.Plans.{PlanForm}
 use Rattle.plan_spreads.specs.Plans.{plan_spreads}
@@ -34,6 +34,10 @@ plan_refusal plan = option_or (untyped (plan_types plan)) (misplaced (plan_sprea
 abbrev pub judgement_of : Data → Option (ℕ × List ℕ)
 judgement_of d = option_or (refusal_of d) (plan_refusal (plan_of d))
 
+-- the same whether or not all of the document is built
+abbrev pub any_judgement_of : Data → Option (ℕ × List ℕ)
+any_judgement_of d = option_or (inconsistency_of d) (plan_refusal (plan_of d))
+
 -- the bytes are a document that no check refuses, and the plan is what it means
 pub record IsPlan (bytes : List ℕ) (plan : PlanForm) : Type 0 where
   pub document : Data
@@ -51,3 +55,21 @@ pub record IsRefused (bytes : List ℕ) (code : ℕ) (path : List ℕ) : Type 0 
 abbrev pub RefusedFor : List ℕ → PlanFault → Type 0
 RefusedFor bytes (Refused code path) = IsNotJson bytes code path ⊎ IsRefused bytes code path
 RefusedFor bytes Memory = Unit {0}
+
+-- the bytes are a document that no check refuses, whether or not all of it is built, and the plan is what it means
+pub record IsAnyPlan (bytes : List ℕ) (plan : PlanForm) : Type 0 where
+  pub document : Data
+  pub json : IsJson bytes document
+  pub passes : any_judgement_of document ≡ None
+  pub means : plan ≡ plan_of document
+
+-- the bytes are a document, and the first check that fails, whether or not all of it is built, has the code and the path
+pub record IsInconsistent (bytes : List ℕ) (code : ℕ) (path : List ℕ) : Type 0 where
+  pub document : Data
+  pub json : IsJson bytes document
+  pub refused : any_judgement_of document ≡ Some (code, path)
+
+-- why bytes are no plan, whether or not all of one is built
+abbrev pub InconsistentFor : List ℕ → PlanFault → Type 0
+InconsistentFor bytes (Refused code path) = IsNotJson bytes code path ⊎ IsInconsistent bytes code path
+InconsistentFor bytes Memory = Unit {0}

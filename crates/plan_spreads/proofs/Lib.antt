@@ -5,3 +5,4 @@ pub mod WidthLemmas
 pub mod NodeLemmas
 pub mod PlanLemmas
 pub mod ReadingLemmas
+pub mod FitLemmas

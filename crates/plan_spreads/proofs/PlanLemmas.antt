@@ -195,7 +195,7 @@ fragment_stands tasks some i later types parts all f t s m a e h =
       root = rooted tasks some (i + 1) later types parts all (output_view f.output) f.placement (root_path i) ts s f.root m a e typed;
     }))
 
-all_stand : (tasks : ℕ) → 0 < tasks → (i : ℕ) (fs : List FragmentForm) (ts : List RowTypes) (ss : List RowSpread) → AllMeet i fs → sources_fault i fs ≡ None
+pub all_stand : (tasks : ℕ) → 0 < tasks → (i : ℕ) (fs : List FragmentForm) (ts : List RowTypes) (ss : List RowSpread) → AllMeet i fs → sources_fault i fs ≡ None
     → all_spreads i fs ≡ Ok ss → all_types i fs ≡ Ok ts → AllStand fs ts (fragment_parts tasks i fs)
 all_stand tasks some i [] ts ss m a e h = λ k f is. absurd cc
 all_stand tasks some i (f ∷ fs) ts ss m a e h =
@@ -214,25 +214,25 @@ all_stand tasks some i (f ∷ fs) ts ss m a e h =
     (fragment_stands tasks some i fs later parts below f t s m.0 (left_none here rest_fault a) e1 h2) below)))))
 
 -- the spread of the first of some fragments, and those of the others
-record FirstSpread (i : ℕ) (f : FragmentForm) (fs : List FragmentForm) (ss : List RowSpread) : Type 0 where
-  first : RowSpread
-  rest : List RowSpread
-  here : fragment_spread i fs f ≡ Ok first
-  below : all_spreads (i + 1) fs ≡ Ok rest
-  are : first ∷ rest ≡ ss
+pub record FirstSpread (i : ℕ) (f : FragmentForm) (fs : List FragmentForm) (ss : List RowSpread) : Type 0 where
+  pub first : RowSpread
+  pub rest : List RowSpread
+  pub here : fragment_spread i fs f ≡ Ok first
+  pub below : all_spreads (i + 1) fs ≡ Ok rest
+  pub are : first ∷ rest ≡ ss
 
-first_spread : (i : ℕ) (f : FragmentForm) (fs : List FragmentForm) (ss : List RowSpread) → all_spreads i (f ∷ fs) ≡ Ok ss → FirstSpread i f fs ss
+pub first_spread : (i : ℕ) (f : FragmentForm) (fs : List FragmentForm) (ss : List RowSpread) → all_spreads i (f ∷ fs) ≡ Ok ss → FirstSpread i f fs ss
 first_spread i f fs ss e =
     typed_then_ok (fragment_spread i fs f) (λ s. typed_then (all_spreads (i + 1) fs) (λ rest. Ok (s ∷ rest))) ss (FirstSpread i f fs ss) e
     (λ s e1 g1. typed_then_ok (all_spreads (i + 1) fs) (λ rest. Ok (s ∷ rest)) ss (FirstSpread i f fs ss) g1
     (λ rest e2 g2. record { first = s; rest = rest; here = e1; below = e2; are = cc g2 }))
 
 -- the types of the fragments after the first
-record LaterTypes (i : ℕ) (fs : List FragmentForm) : Type 0 where
-  later : List RowTypes
-  are : all_types (i + 1) fs ≡ Ok later
+pub record LaterTypes (i : ℕ) (fs : List FragmentForm) : Type 0 where
+  pub later : List RowTypes
+  pub are : all_types (i + 1) fs ≡ Ok later
 
-later_types : (i : ℕ) (f : FragmentForm) (fs : List FragmentForm) (ts : List RowTypes) → all_types i (f ∷ fs) ≡ Ok ts → LaterTypes i fs
+pub later_types : (i : ℕ) (f : FragmentForm) (fs : List FragmentForm) (ts : List RowTypes) → all_types i (f ∷ fs) ≡ Ok ts → LaterTypes i fs
 later_types i f fs ts h =
     typed_then_ok (all_types (i + 1) fs) (λ later. typed_then (fragment_types later i f) (λ types. Ok (types ∷ later))) ts (LaterTypes i fs) h
     (λ later h1 k1. record { later = later; are = h1 })

@@ -4,5 +4,6 @@ pub mod Sources
 pub mod Nodes
 pub mod Plans
 pub mod Runs
+pub mod Widths
 pub mod Halves
 pub mod Reading

@@ -36,16 +36,25 @@ spread_of p first later path (scan id table columns types) = ok_or (scan_spread 
 spread_of p first later path (values id types rows) = Ok Every
 spread_of p first later path (remote id fragment) = ok_or (remote_spread (output_of (fragment_read first later fragment))) path
 spread_of p first later path (filter id predicate input) = spread_of p first later (under path key.Input) input
-spread_of p first later path (project id columns input) = over path (spread_of p first later (under path key.Input) input) (project_spread columns)
+spread_of p first later path (project id columns input) =
+    over path (spread_of p first later (under path key.Input) input) (operator_spread p first later (project id columns input))
 spread_of p first later path (join id kind on filters left right) =
-    typed_then (spread_of p first later (under path key.Left) left) (λ l. over path (spread_of p first later (under path key.Right) right) (join_spread on l))
-spread_of p first later path (aggregate id step keys calls input) = over path (spread_of p first later (under path key.Input) input) (aggregate_spread step keys)
+    typed_then (spread_of p first later (under path key.Left) left)
+    (λ l. over path (spread_of p first later (under path key.Right) right) (sides_spread (join id kind on filters left right) l))
+spread_of p first later path (aggregate id step keys calls input) =
+    over path (spread_of p first later (under path key.Input) input) (operator_spread p first later (aggregate id step keys calls input))
 spread_of p first later path (aggregate_final id input) =
-    over path (spread_of p first later (under path key.Input) input) (final_spread p (keys_read first later input))
-spread_of p first later path (sort id keys input) = over path (spread_of p first later (under path key.Input) input) (λ s. None)
-spread_of p first later path (top_n id step count keys input) = over path (spread_of p first later (under path key.Input) input) (first_rows_spread step)
-spread_of p first later path (top_n_final id input) = over path (spread_of p first later (under path key.Input) input) (λ s. None)
-spread_of p first later path (limit id step count input) = over path (spread_of p first later (under path key.Input) input) (first_rows_spread step)
-spread_of p first later path (limit_final id input) = over path (spread_of p first later (under path key.Input) input) (λ s. None)
+    over path (spread_of p first later (under path key.Input) input) (operator_spread p first later (aggregate_final id input))
+spread_of p first later path (sort id keys input) =
+    over path (spread_of p first later (under path key.Input) input) (operator_spread p first later (sort id keys input))
+spread_of p first later path (top_n id step count keys input) =
+    over path (spread_of p first later (under path key.Input) input) (operator_spread p first later (top_n id step count keys input))
+spread_of p first later path (top_n_final id input) =
+    over path (spread_of p first later (under path key.Input) input) (operator_spread p first later (top_n_final id input))
+spread_of p first later path (limit id step count input) =
+    over path (spread_of p first later (under path key.Input) input) (operator_spread p first later (limit id step count input))
+spread_of p first later path (limit_final id input) =
+    over path (spread_of p first later (under path key.Input) input) (operator_spread p first later (limit_final id input))
 spread_of p first later path (union id left right) =
-    typed_then (spread_of p first later (under path key.Left) left) (λ l. over path (spread_of p first later (under path key.Right) right) (union_spread l))
+    typed_then (spread_of p first later (under path key.Left) left)
+    (λ l. over path (spread_of p first later (under path key.Right) right) (sides_spread (union id left right) l))

@@ -2,7 +2,9 @@
 ghost use Rattle.std.specs.Prelude.{◌≡◌, ℕ, ◌<◌, List, None, Ok, Some, slice_get};
 ghost use Rattle.plan_docs.specs.Plans.{FragmentForm, plan_view};
 ghost use Rattle.plan_runs.specs.Placements.{Placed};
+ghost use Rattle.plan_runs.specs.RunPlans.{tree_of_run};
 ghost use Rattle.plan_runs.specs.Spreads.{whole};
+ghost use Rattle.plan_trees.specs.Widths.{FitsWidths};
 ghost use Rattle.plan_types.specs.declared.row_types.RowTypes.{RowTypes};
 ghost use Rattle.plan_types.specs.Plans.{plan_types};
 ghost use Rattle.plan_spreads.specs.declared.spread.RowSpread.{RowSpread};
@@ -10,6 +12,7 @@ ghost use Rattle.plan_spreads.specs.Halves.{HalvesMeet, half};
 ghost use Rattle.plan_spreads.specs.Plans.{plan_spreads};
 ghost use Rattle.plan_spreads.specs.Reading.{AllReadOn};
 ghost use Rattle.plan_spreads.specs.Runs.{fragment_parts, part_read, plan_run, row_spread_view, tasks_of};
+ghost use Rattle.plan_spreads.specs.Widths.{AllLeavesFit};
 
 use plan_docs::Plan;
 
@@ -21,6 +24,17 @@ pub fn plans_are_placed(plan: &Plan)
         → plan_spreads (plan_view plan.now) ≡ Ok spreads
         → HalvesMeet (plan_view plan.now).fragments → (tasks : ℕ) → 0 < tasks
         → Placed 1 (plan_run tasks (plan_view plan.now)) whole }
+{}
+
+/// The law that the tree of such a plan as it runs has the columns that its parts ask for, where its scans have a type
+/// for each column and its constant rows a value for each type.
+pub fn plans_fit_widths(plan: &Plan)
+    ensures { (types : List RowTypes) (spreads : List RowSpread)
+        → plan_types (plan_view plan.now) ≡ Ok types
+        → plan_spreads (plan_view plan.now) ≡ Ok spreads
+        → HalvesMeet (plan_view plan.now).fragments → AllLeavesFit (plan_view plan.now).fragments
+        → (tasks : ℕ) → 0 < tasks
+        → FitsWidths (tree_of_run (plan_run tasks (plan_view plan.now))) }
 {}
 
 /// The law that each fragment of such a plan is placed at the spread that `spread_plan` answers for it, where its root

@@ -23,6 +23,6 @@ mod sources;
 mod spread;
 
 pub use fault::SpreadFault;
-pub use laws::{halves_read_on, plans_are_placed, roots_are_placed};
+pub use laws::{halves_read_on, plans_are_placed, plans_fit_widths, roots_are_placed};
 pub use plans::spread_plan;
 pub use spread::RowSpread;

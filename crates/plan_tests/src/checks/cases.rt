@@ -270,22 +270,20 @@ ROOT | {'id':2,'op':'filter','predicate':{'col':0},'input':{'id':3,'op':'remote'
 ROOT | {'id':2,'op':'scan','table':'z','columns':['a']} | 4 /fragments/0/root/table\n\
 ROOT | {'id':2,'op':'limit','step':'SINGLE','count':2147483648,'input':SCAN} | 3 /fragments/0/root/count";
 
-/// Lines as in `CASES`, with the path that code 6 has, or none where it has none.
+/// Lines as in `CASES`, with the code and the path that are told whether or not all forms are built.
 pub const LINKS: &str = "\
-'version':1, | 'version':1, |\n\
-{'id':3,'placement' | {'id':2,'placement' | /fragments/3/id\n\
-{'id':3,'placement' | {'id':2147483647,'placement' | /fragments/3/id\n\
-'fragment':3 | 'fragment':4 | /fragments/1/root/input/right/fragment\n\
-'fragment':3 | 'fragment':2147483647 | /fragments/1/root/input/right/fragment\n\
-'fragment':3 | 'fragment':2 | /fragments/1/root/input/right/fragment\n\
-'fragment':3 | 'fragment':1 | /fragments/1/root/input/right/fragment\n\
-{'id':6,'op':'remote','fragment':3} | {'id':6,'op':'scan','table':'u','columns':['a']} | /fragments/3";
-
-/// Lines as in `CASES`, with the path that code 7 has, or none where it has none.
-pub const HALVES: &str = "\
-'version':1, | 'version':1, |\n\
-'op':'topn','step':'FINAL' | 'op':'limit','step':'FINAL' | /fragments/0/root/step\n\
-'step':'PARTIAL','count':7 | 'step':'SINGLE','count':7 | /fragments/0/root/step\n\
-'step':'SINGLE','keys':[8] | 'step':'PARTIAL','keys':[8] | /fragments/2/root/step\n\
-'step':'SINGLE','count':12 | 'step':'PARTIAL','count':12 | /fragments/3/root/right/step\n\
-'step':'SINGLE','count':12,'input' | 'step':'FINAL','input' | /fragments/3/root/right/step";
+'version':1, | 'version':1, | 0\n\
+# Code 6: ids of fragments, and what sources read.\n\
+{'id':3,'placement' | {'id':2,'placement' | 6 /fragments/3/id\n\
+{'id':3,'placement' | {'id':2147483647,'placement' | 6 /fragments/3/id\n\
+'fragment':3 | 'fragment':4 | 6 /fragments/1/root/input/right/fragment\n\
+'fragment':3 | 'fragment':2147483647 | 6 /fragments/1/root/input/right/fragment\n\
+'fragment':3 | 'fragment':2 | 6 /fragments/1/root/input/right/fragment\n\
+'fragment':3 | 'fragment':1 | 6 /fragments/1/root/input/right/fragment\n\
+{'id':6,'op':'remote','fragment':3} | {'id':6,'op':'scan','table':'u','columns':['a']} | 6 /fragments/3\n\
+# Code 7: halves of operators.\n\
+'op':'topn','step':'FINAL' | 'op':'limit','step':'FINAL' | 7 /fragments/0/root/step\n\
+'step':'PARTIAL','count':7 | 'step':'SINGLE','count':7 | 7 /fragments/0/root/step\n\
+'step':'SINGLE','keys':[8] | 'step':'PARTIAL','keys':[8] | 7 /fragments/2/root/step\n\
+'step':'SINGLE','count':12 | 'step':'PARTIAL','count':12 | 7 /fragments/3/root/right/step\n\
+'step':'SINGLE','count':12,'input' | 'step':'FINAL','input' | 7 /fragments/3/root/right/step";

@@ -152,3 +152,51 @@ pub const P3: &str =
 'fragments':[\n\
 {'id':0,'placement':'SINGLE','root':{'id':1,'op':'aggregate','step':'FINAL','input':{'id':2,'op':'remote','fragment':1}}},\n\
 {'id':1,'placement':'SOURCE','output':{'kind':'SINGLE'},'root':{'id':3,'op':'aggregate','step':'PARTIAL','keys':[],'calls':[{'name':'sum','column':0}],'input':{'id':4,'op':'scan','table':'t','columns':['a']}}}]}";
+
+/// A plan of three fragments: parts of groups, whole groups by their keys, and the sorted result.
+pub const GROUPED: &str = "{'version':1,'output':['k','s'],'tables':[{'name':'t','columns':[\
+    {'name':'a','type':'bigint'},{'name':'b','type':'varchar'}]}],'fragments':[\
+    {'id':0,'placement':'SINGLE','root':\
+    {'id':1,'op':'sort','keys':[{'column':0,'order':'ASC'}],'input':{'id':2,'op':'remote','fragment':1}}},\
+    {'id':1,'placement':'HASH','output':{'kind':'SINGLE'},'root':\
+    {'id':3,'op':'aggregate','step':'FINAL','input':{'id':4,'op':'remote','fragment':2}}},\
+    {'id':2,'placement':'SOURCE','output':{'kind':'HASH','columns':[0]},'root':\
+    {'id':5,'op':'aggregate','step':'PARTIAL','keys':[1],'calls':[{'name':'sum','column':0}],\
+    'input':{'id':6,'op':'scan','table':'t','columns':['a','b']}}}]}";
+
+/// A text of that document, what is put in its place, and the code and the path that are told whether or not all
+/// forms are built, 0 where it is a plan.
+pub const ANY: &str = "\
+'version':1, | 'version':1 , | 0\n\
+'placement':'SOURCE' | 'placement':'SINGLE' | 0\n\
+# The codes of values come first.\n\
+'version':1, | 'version':01, | 1\n\
+'step':'FINAL' | 'step':'LAST' | 2 /fragments/1/root/step\n\
+'fragment':2 | 'fragment':2147483648 | 3 /fragments/1/root/input/fragment\n\
+'id':6 | 'id':1 | 4 /fragments/2/root/input/id\n\
+'table':'t' | 'table':'u' | 4 /fragments/2/root/input/table\n\
+# Code 6: sources and fragments, before halves.\n\
+{'id':2,'placement' | {'id':3,'placement' | 6 /fragments/2/id\n\
+'fragment':2 | 'fragment':1 | 6 /fragments/1/root/input/fragment\n\
+'fragment':2 | 'fragment':0 | 6 /fragments/1/root/input/fragment\n\
+'fragment':2 | 'fragment':3 | 6 /fragments/1/root/input/fragment\n\
+'fragment':1 | 'fragment':2 | 6 /fragments/1/root/input/fragment\n\
+{'id':4,'op':'remote','fragment':2} | {'id':4,'op':'scan','table':'t','columns':['a']} | 6 /fragments/2\n\
+# Code 7: halves, before types.\n\
+'op':'aggregate','step':'FINAL', | 'op':'topn','step':'FINAL', | 7 /fragments/1/root/step\n\
+'step':'PARTIAL','keys':[1] | 'step':'SINGLE','keys':[7] | 7 /fragments/1/root/step\n\
+'op':'aggregate','step':'FINAL', | 'op':'filter','predicate':{'null':'date'}, | 7 /fragments/2/root/step\n\
+'op':'sort','keys':[{'column':0,'order':'ASC'}], | 'op':'limit','step':'PARTIAL','count':1, | 7 /fragments/0/root/step\n\
+'op':'sort','keys':[{'column':0,'order':'ASC'}], | 'op':'limit','step':'FINAL', | 7 /fragments/0/root/step\n\
+# Code 5: types, before placement; the last fragment first.\n\
+[1] | [7] | 5 /fragments/2/root/keys/0\n\
+'columns':[0] | 'columns':[3] | 5 /fragments/2/output/columns/0\n\
+{'kind':'SINGLE'} | {'kind':'HASH','columns':[2]} | 5 /fragments/1/output/columns/0\n\
+['k','s'] | ['k'] | 5 /output\n\
+# Code 8: placement.\n\
+'placement':'SINGLE' | 'placement':'HASH' | 8 /fragments/0/placement\n\
+{'kind':'SINGLE'} | {'kind':'HASH','columns':[1]} | 8 /fragments/0/root/input\n\
+{'kind':'SINGLE'} | {'kind':'BROADCAST'} | 8 /fragments/0/root/input\n\
+'placement':'HASH' | 'placement':'SOURCE' | 8 /fragments/1/root/input\n\
+{'kind':'HASH','columns':[0]} | {'kind':'BROADCAST'} | 8 /fragments/1/root\n\
+'columns':[0] | 'columns':[1] | 8 /fragments/1/root";

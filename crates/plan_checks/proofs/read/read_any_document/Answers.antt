@@ -1,0 +1,1 @@
+use Rattle.plan_checks.proofs.read.read_any_document.Goals as goal

@@ -1,0 +1,1 @@
+use Rattle.plan_checks.proofs.refusal.first_inconsistent.Goals as goal

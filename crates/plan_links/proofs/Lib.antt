@@ -1,0 +1,10 @@
+pub mod EachLemmas
+pub mod WalkLemmas
+pub mod SourceLemmas
+pub mod StepLemmas
+pub mod PlaceLemmas
+pub mod InputLemmas
+pub mod HalfLemmas
+pub mod MeetLemmas
+pub mod LeafLemmas
+pub mod DocumentLemmas

@@ -1,0 +1,52 @@
+//! What follows from the definitions.
+ghost use Rattle.std.specs.Prelude.{◌≡◌, ◌<◌, ℕ, List, None, Ok, Some, slice_get};
+ghost use Rattle.plan_docs.specs.Plans.{FragmentForm, plan_view};
+ghost use Rattle.plan_reader.specs.Judgement.{IsAnyPlan, IsPlan};
+ghost use Rattle.plan_reader.specs.Trees.{tree_of};
+ghost use Rattle.plan_runs.specs.Placements.{Placed};
+ghost use Rattle.plan_runs.specs.RunPlans.{tree_of_run};
+ghost use Rattle.plan_runs.specs.Spreads.{whole};
+ghost use Rattle.plan_spreads.specs.declared.spread.RowSpread.{RowSpread};
+ghost use Rattle.plan_spreads.specs.Halves.{HalvesMeet, half};
+ghost use Rattle.plan_spreads.specs.Plans.{plan_spreads};
+ghost use Rattle.plan_spreads.specs.Reading.{AllReadOn};
+ghost use Rattle.plan_spreads.specs.Runs.{fragment_parts, part_read, plan_run, row_spread_view, tasks_of};
+ghost use Rattle.plan_trees.specs.Widths.{FitsWidths};
+ghost use Rattle.plan_links.specs.Consistent.{IsConsistent};
+
+use plan_docs::Plan;
+
+/// The law that a plan that was read is consistent, whether or not it was asked that all of it is built.
+pub fn read_plans_are_consistent(plan: &Plan)
+    ensures built { (bytes : List ℕ) → IsPlan bytes (plan_view plan.now)
+        → IsConsistent (plan_view plan.now) }
+    ensures any { (bytes : List ℕ) → IsAnyPlan bytes (plan_view plan.now)
+        → IsConsistent (plan_view plan.now) }
+{}
+
+/// The law that in a consistent plan the halves of operators meet, and each source reads a fragment
+/// after its own.
+pub fn halves_meet(plan: &Plan)
+    ensures meet { IsConsistent (plan_view plan.now) → HalvesMeet (plan_view plan.now).fragments }
+    ensures read_on { IsConsistent (plan_view plan.now) → AllReadOn 0 (plan_view plan.now).fragments }
+{}
+
+/// The law that such a plan means the tree of the plan as it runs, with any number of tasks; that this tree has the
+/// columns that its parts ask for; and that as it runs the plan is placed as a whole in the one task of fragment 0, and
+/// each fragment at the spread that is told for it, where its root is no PARTIAL node.
+pub fn consistent_plans_are_placed(plan: &Plan)
+    ensures tree { IsConsistent (plan_view plan.now) → (tasks : ℕ)
+        → tree_of (plan_view plan.now) ≡ tree_of_run (plan_run tasks (plan_view plan.now)) }
+    ensures widths { IsConsistent (plan_view plan.now) → (tasks : ℕ) → 0 < tasks
+        → FitsWidths (tree_of_run (plan_run tasks (plan_view plan.now))) }
+    ensures placed { IsConsistent (plan_view plan.now) → (tasks : ℕ) → 0 < tasks
+        → Placed 1 (plan_run tasks (plan_view plan.now)) whole }
+    ensures roots { IsConsistent (plan_view plan.now) → (spreads : List RowSpread)
+        → plan_spreads (plan_view plan.now) ≡ Ok spreads → (tasks : ℕ) → 0 < tasks
+        → (i : ℕ) (f : FragmentForm) (s : RowSpread)
+        → slice_get (plan_view plan.now).fragments i ≡ Some f → slice_get spreads i ≡ Some s
+        → half f.root ≡ None
+        → Placed (tasks_of tasks f.placement)
+        (part_read 0 (fragment_parts tasks 0 (plan_view plan.now).fragments) i).root
+        (row_spread_view s) }
+{}

@@ -15,8 +15,8 @@ fn does_the_first_value_stay(
 {
     let was_empty = cell.look(two, 0).is_none();
     let was_noted = !two.knows() & (two.empties() == 1) & (two.refused() == 0);
-    let was_taken = cell.set(one, 5).is_ok() & one.knows() & (one.refused() == 0);
-    let was_refused = matches!(cell.set(two, 6), Err(SetFault::Refused(6)));
+    let was_taken = cell.set(one, 5, 0).is_ok() & one.knows() & (one.refused() == 0);
+    let was_refused = matches!(cell.set(two, 6, 0), Err(SetFault::Refused(6)));
     let was_counted = two.knows() & (two.refused() == 1) & (two.empties() == 1);
     let is_shown = cell.look(two, 0) == Some(&5);
     was_empty & was_noted & was_taken & was_refused & was_counted & is_shown
@@ -39,7 +39,7 @@ fn offer(cell: &SetOnce<usize>, mine: usize) -> (bool, Option<usize>, SetNote<us
     ensures known { IfSome result.1 (λ x. result.2.known ≡ Some x) }
 {
     let mut note = cell.note();
-    let was_taken = cell.set(&mut note, mine).is_ok();
+    let was_taken = cell.set(&mut note, mine, 0).is_ok();
     let shown = cell.look(&mut note, 0).copied();
     (was_taken, shown, note)
 }

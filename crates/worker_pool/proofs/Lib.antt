@@ -1,0 +1,3 @@
+pub mod AdmitLemmas
+pub mod GatherLemmas
+pub mod RecallLemmas

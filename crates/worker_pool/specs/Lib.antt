@@ -1,0 +1,5 @@
+pub mod Items
+pub mod Turns
+pub mod Turned
+pub mod Pools
+pub mod Gathered

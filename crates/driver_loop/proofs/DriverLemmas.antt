@@ -1,5 +1,5 @@
 -- What a driver keeps over its turns, and what follows from it.
-use Rattle.std.proofs.Common.{◌≡◌, ◌+◌, ◌<◌, ℕ, min, List, [], ◌∷◌, Bool, true, false, Option, Some, None, Result, Ok, Err, length, map, refl, sym, subst, ◌∙◌, arith}
+use Rattle.std.proofs.Common.{◌≡◌, ◌⊎◌, inl, inr, ◌+◌, ◌<◌, ℕ, min, List, [], ◌∷◌, Bool, true, false, Option, Some, None, Result, Ok, Err, length, map, refl, sym, subst, ◌∙◌, arith}
 use Rattle.std.specs.Prelude.{IfOk}
 use Rattle.sql_values.specs.declared.fail.Fail.{Fail}
 use Rattle.operator_core.specs.Answers.{NotMemory}
@@ -7,6 +7,7 @@ use Rattle.operator_core.specs.Calls.{IsLawful}
 use Rattle.operator_core.specs.declared.fault.OpFault.{OpFault}
 use Rattle.operator_core.specs.declared.fault.OpFault.TheVariants.{Expr}
 use Rattle.operator_core.specs.declared.fault.OpFault.TheVariants as op
+use Rattle.operator_core.specs.Rows.{Row}
 use Rattle.operator_core.specs.Stages.{last_finished}
 use Rattle.operator_core.proofs.ChainLemmas.{finished, could_go_on, failure}
 use Rattle.operator_core.proofs.LinkLemmas.{Linked-made}
@@ -21,11 +22,12 @@ use Rattle.driver_loop.specs.declared.run_fault.RunFault.{RunFault}
 use Rattle.driver_loop.specs.declared.run_fault.RunFault.TheVariants.{ExprFailed}
 use Rattle.driver_loop.specs.declared.run_fault.RunFault.TheVariants as run
 use Rattle.driver_turns.specs.declared.turns.Turned.{Turned}
+use Rattle.driver_turns.specs.Turns.{WorkedTo}
 use Rattle.driver_loop.specs.declared.stage.Stage.{Stage}
 use Rattle.driver_loop.specs.contracts.stage.StageOperator.TheImpl.{ghosts}
 use Rattle.driver_loop.specs.Faults.{run_fault}
-use Rattle.driver_loop.specs.Ends.{rows_taken, has_ended, is_told, rows_given}
-use Rattle.driver_loop.specs.Drivers.{DriverState, IsWhole, IsDriver, IsOver, HasFailed, HasWorked, CanGoOn, Went}
+use Rattle.driver_loop.specs.Ends.{rows_taken, has_ended, is_told, was_given}
+use Rattle.driver_loop.specs.Drivers.{DriverState, IsWhole, IsDriver, IsOver, HasFailed, HasWorked, CanGoOn, WorkedFrom}
 
 pub whole : (fault : Option RunFault) → fault ≡ None → IsWhole fault
 whole fault e = subst IsWhole (sym e) tt
@@ -38,15 +40,19 @@ entered_none : IsLawful ghosts → (stages : List Stage) → map ghosts.as_made 
 entered_none laws [] e = (refl, refl)
 entered_none laws (s ∷ stages) e = ([], 0, Steps-made ghosts laws s (cc), entered_none laws stages (cc), omega arith)
 
-pub driver_new : IsLawful ghosts → (d : DriverState) → rows_taken d.source ≡ [] → map ghosts.as_made d.stages ≡ d.stages → rows_given d.target ≡ []
+pub driver_new : IsLawful ghosts → (d : DriverState) → rows_taken d.source ≡ [] → map ghosts.as_made d.stages ≡ d.stages → was_given d.target []
     → is_told d.target ≡ false → d.work ≡ 0 → d.is_finished ≡ false → d.fault ≡ None → IsDriver d
 driver_new laws d taken made given untold none going unfailed = record {
-  links = λ w. rw (taken, given) (Linked-made ghosts laws d.stages made);
-  turns = λ w. Turns-made ghosts laws (has_ended d.source) d.stages made;
-  told = λ w told. absurd (let clash : false ≡ true = sym untold ∙ told in cc);
-  counts = λ w. record { rows = 0; entered = rw (taken, given) (entered_none laws d.stages made); work = omega (arith, none) };
-  over = λ f. cc;
-  failed = λ node kind f. cc;
+  rows = [];
+  given = λ w. given;
+  goes = record {
+    links = λ w. rw taken (Linked-made ghosts laws d.stages made);
+    turns = λ w. Turns-made ghosts laws (has_ended d.source) d.stages made;
+    told = λ w told. absurd (let clash : false ≡ true = sym untold ∙ told in cc);
+    counts = λ w. record { rows = 0; entered = rw taken (entered_none laws d.stages made); work = omega (arith, none) };
+    over = λ f. cc;
+    failed = λ node kind f. cc;
+  };
 }
 
 -- what holds of how a turn ended holds of this end
@@ -72,26 +78,73 @@ expr_fault op.Memory told node kind is same = absurd (let e : run.Memory ≡ Exp
 counted : (old units work rows : ℕ) → old ≡ min rows most_count → work ≡ min (old + units) most_count → work ≡ min (rows + units) most_count
 counted old units work rows before now = omega (arith, before, now)
 
-pub worked : (d now e : DriverState) (units : ℕ) → d ≡ now → Counted ghosts d.stages e.stages (rows_taken d.source) (rows_taken e.source) (rows_given d.target) (rows_given e.target) units
+-- without asks in vain all units are rows
+pub worked_from : (d e : DriverState) (Y : List Row) (units : ℕ)
+    → WorkedTo ghosts (was_given e.target) d.stages e.stages (rows_taken d.source) (rows_taken e.source) Y (has_ended d.source) (has_ended e.source) 0 0 units → WorkedFrom d e Y units
+worked_from d e Y units p =
+    let below : 0 < most_count = omega arith in
+    let all : p.entered ≡ units = omega (arith, p.units_are, p.within below) in
+    record {
+      rows = p.rows;
+      given = p.given;
+      went = p.went;
+      counts = subst (λ (n : ℕ). Counted ghosts d.stages e.stages (rows_taken d.source) (rows_taken e.source) Y p.rows n) all p.counts;
+    }
+
+pub worked : (d now e : DriverState) (units : ℕ) → d ≡ now → IsDriver d → IsWhole d.fault → ((Y : List Row) → was_given d.target Y → WorkedFrom d e Y units)
     → e.work ≡ min (d.work + units) most_count → HasWorked now e
-worked d now e units same entered work = subst (λ (d : DriverState). HasWorked d e) same (record { units = units; entered = entered; work = work })
+worked d now e units same kept whole went work =
+    subst (λ (d : DriverState). HasWorked d e) same (record { units = units; went = went; came = (went kept.rows (kept.given whole)).went.came; work = work })
+
+whole_or_not : (fault : Option RunFault) → IsWhole fault ⊎ (IsWhole fault → ⊥)
+whole_or_not None = inl tt
+whole_or_not (Some (ExprFailed node kind)) = inl tt
+whole_or_not (Some run.Memory) = inr (λ w. w)
+
+module _ (d e : DriverState) (units : ℕ) (kept : IsDriver d) (whole : IsWhole d.fault)
+    (over : e.is_finished ≡ true → (e.fault ≡ None) × (last_finished ghosts (has_ended e.source) e.stages ≡ true))
+    (failed : (node : ℕ) (kind : Fail) → e.fault ≡ Some (ExprFailed node kind) → SomeFails ghosts e.stages node kind) where
+  turned_to : WorkedFrom d e kept.rows units → (is_told e.target ≡ true → last_finished ghosts (has_ended e.source) e.stages ≡ true) → e.work ≡ min (d.work + units) most_count → IsDriver e
+  turned_to p told work = record {
+    rows = p.rows;
+    given = λ _. p.given;
+    goes = record {
+      links = λ _. p.went.links (kept.goes.links whole);
+      turns = λ _. p.went.turns (kept.goes.turns whole);
+      told = λ _. told;
+      counts = λ _.
+          let c = kept.goes.counts whole in
+          record { rows = c.rows + units; entered = p.counts.entered c.rows c.entered; work = counted d.work units e.work c.rows c.work work };
+      over = over;
+      failed = failed;
+    };
+  }
+
+  turned_in_vain : (IsWhole e.fault → ⊥) → IsDriver e
+  turned_in_vain lost = record {
+    rows = [];
+    given = λ w. absurd (lost w);
+    goes = record {
+      links = λ w. absurd (lost w);
+      turns = λ w. absurd (lost w);
+      told = λ w. absurd (lost w);
+      counts = λ w. absurd (lost w);
+      over = over;
+      failed = failed;
+    };
+  }
 
 -- a driver after a turn, whichever way that ended
-pub driver_turned : (d e : DriverState) (units : ℕ) → IsDriver d → IsWhole d.fault → (IsWhole e.fault → Went d e)
+pub driver_turned : (d e : DriverState) (units : ℕ) → IsDriver d → IsWhole d.fault → (IsWhole e.fault → (Y : List Row) → was_given d.target Y → WorkedFrom d e Y units)
     → (IsWhole e.fault → (is_told d.target ≡ true → last_finished ghosts (has_ended d.source) d.stages ≡ true) → is_told e.target ≡ true → last_finished ghosts (has_ended e.source) e.stages ≡ true)
-    → (IsWhole e.fault → Counted ghosts d.stages e.stages (rows_taken d.source) (rows_taken e.source) (rows_given d.target) (rows_given e.target) units) → e.work ≡ min (d.work + units) most_count
+    → e.work ≡ min (d.work + units) most_count
     → (e.is_finished ≡ true → (e.fault ≡ None) × (last_finished ghosts (has_ended e.source) e.stages ≡ true))
     → ((node : ℕ) (kind : Fail) → e.fault ≡ Some (ExprFailed node kind) → SomeFails ghosts e.stages node kind) → IsDriver e
-driver_turned d e units kept whole went told counts work over failed = record {
-  links = λ w. (went w).links (kept.links whole);
-  turns = λ w. (went w).turns (kept.turns whole);
-  told = λ w. told w (kept.told whole);
-  counts = λ w.
-      let c = kept.counts whole in
-      record { rows = c.rows + units; entered = (counts w).entered c.rows c.entered; work = counted d.work units e.work c.rows c.work work };
-  over = over;
-  failed = failed;
-}
+driver_turned d e units kept whole went told work over failed = after (whole_or_not e.fault)
+  where
+    after : IsWhole e.fault ⊎ (IsWhole e.fault → ⊥) → IsDriver e
+    after (inl w) = turned_to d e units kept whole over failed (went w kept.rows (kept.given whole)) (told w (kept.goes.told whole)) work
+    after (inr lost) = turned_in_vain d e units kept whole over failed lost
 
 -- there is room for as many stages
 pub room_stays : (old new : List Stage) (room : ℕ) → AllLater ghosts old new → length old < room → length new < room
@@ -102,32 +155,30 @@ pub not_memory : (A : Type 0) (fault : OpFault) → IsWhole (Some (run_fault fau
 not_memory A (Expr node kind) w = tt
 not_memory A op.Memory w = absurd w
 
--- a turn after which the last stage is finished
-pub driver_ends : IsLawful ghosts → (d e : DriverState) → IsDriver d → d.fault ≡ None → Went d e → last_finished ghosts (has_ended e.source) e.stages ≡ true → IsOver e
-driver_ends laws d e kept unfailed went over =
-    let w = whole d.fault unfailed in
-    let f = finished ghosts laws (has_ended e.source) e.stages (rows_taken e.source) (rows_given e.target) (went.turns (kept.turns w)) over (went.links (kept.links w)) in
-    record { ended = f.0; chain = f.1 }
-
+-- a driver that is over, its source had ended
 pub driver_over : IsLawful ghosts → (d : DriverState) → IsDriver d → d.is_finished ≡ true → IsOver d
 driver_over laws d kept over =
-    let o = kept.over over in
+    let o = kept.goes.over over in
     let w = whole d.fault o.0 in
-    let f = finished ghosts laws (has_ended d.source) d.stages (rows_taken d.source) (rows_given d.target) (kept.turns w) o.1 (kept.links w) in
-    record { ended = f.0; chain = f.1 }
+    let f = finished ghosts laws (has_ended d.source) d.stages (rows_taken d.source) kept.rows (kept.goes.turns w) o.1 (kept.goes.links w) in
+    record { rows = kept.rows; given = kept.given w; over = record { ended = f.0; chain = f.1 } }
 
 pub driver_failed : (d : DriverState) → IsDriver d → (node : ℕ) (kind : Fail) → d.fault ≡ Some (ExprFailed node kind) → HasFailed d node kind
 driver_failed d kept node kind e =
-    let some = kept.failed node kind e in
+    let some = kept.goes.failed node kind e in
     let w = failed_whole d.fault node kind e in
     record {
       place = some.place;
       stage = some.stage;
       there = some.there;
       is = some.is;
-      after = failure ghosts (has_ended d.source) d.stages some.place some.stage (rows_taken d.source) (rows_given d.target) node kind some.there some.is (kept.turns w) (kept.links w) some.fails;
+      after = failure ghosts (has_ended d.source) d.stages some.place some.stage (rows_taken d.source) kept.rows node kind some.there some.is (kept.goes.turns w) (kept.goes.links w) some.fails;
     }
 
 pub driver_goes_on : IsLawful ghosts → (d : DriverState) → IsDriver d → IsWhole d.fault → CanGoOn d
-driver_goes_on laws d kept w = λ made Z are coming.
-    could_go_on ghosts laws (has_ended d.source) d.stages made (rows_taken d.source) (rows_given d.target) Z are (kept.turns w) (kept.links w) coming
+driver_goes_on laws d kept w = record {
+  rows = kept.rows;
+  given = kept.given w;
+  on = λ made Z are coming.
+      could_go_on ghosts laws (has_ended d.source) d.stages made (rows_taken d.source) kept.rows Z are (kept.goes.turns w) (kept.goes.links w) coming;
+}

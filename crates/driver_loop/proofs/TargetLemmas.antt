@@ -1,40 +1,86 @@
 -- What a target keeps while it is given rows, and at its end.
-use Rattle.std.proofs.Common.{◌≡◌, [], ℕ, ◌+◌, Bool, true, false, Option, Some, None, refl, sym, ap, ◌∙◌, arith, cond}
+use Rattle.std.proofs.Common.{◌≡◌, [], ◌∷◌, ℕ, ◌+◌, List, Bool, true, false, Option, Some, None, refl, sym, ap, ◌∙◌, arith, cond, length, map, replicate, subst}
+use Rattle.std.specs.List.{range_with_len}
+use Rattle.std.proofs.lemmas.List.{length-map}
+use Rattle.std.proofs.lemmas.List.FromFn.{length-range_with_len}
+use Rattle.bag_laws.specs.Buckets.{key_bucket, of_bucket}
 use Rattle.blocked.specs.Counts.{rings_at}
 use Rattle.key_index.specs.Keys.{IndexedRows}
 use Rattle.driver_loop.specs.declared.target.Target.{Target}
-use Rattle.driver_loop.specs.declared.target.Target.TheVariants.{Result, Build}
+use Rattle.driver_loop.specs.declared.target.Target.TheVariants.{Result, Build, Put, Deal}
+use Rattle.driver_ends.specs.declared.put_target.PutKind.{PutKind}
+use Rattle.driver_ends.specs.declared.put_target.PutKind.TheVariants.{One, Each, Hash}
+use Rattle.driver_ends.specs.Ends.{outlet_as_made, target_as_made as put_as_made}
+use Rattle.driver_ends.specs.Outlets.{OutletState, rows_sent}
+use Rattle.driver_ends.specs.Targets.{HasSent, TargetState, sent_to}
 use Rattle.driver_loop.specs.Builds.{BuildState, IsHeldAs, IsPublishedAs, KnowsOwnSource, build_dues, build_made_or_lost}
-use Rattle.driver_loop.specs.Ends.{KnowsCell, target_finished, is_told, rows_given, target_made_or_lost, target_made}
+use Rattle.driver_loop.specs.Ends.{target_finished, is_told, rows_given, target_made_or_lost, target_made, was_given}
+use Rattle.driver_loop.specs.Seats.{KnowsEnds}
 use Rattle.driver_loop.specs.Drivers.{IsBuiltAs}
+
+made_twice : (outlets : List OutletState) → map outlet_as_made (map outlet_as_made outlets) ≡ map outlet_as_made outlets
+made_twice [] = refl
+made_twice (outlet ∷ outlets) = λ i. outlet_as_made outlet ∷ made_twice outlets i
 
 made_kept : (t : Target) → target_made (target_made_or_lost t) ≡ target_made t
 made_kept (Result result) = refl
 made_kept (Build build) = refl
+made_kept (Put put) = ap (λ (outlets : List OutletState). Put (record { kind = put.kind; outlets = outlets; is_told = false })) (made_twice put.outlets)
+made_kept (Deal deal) = refl
 
 pub kept_made : (t u : Target) → target_made_or_lost u ≡ target_made_or_lost t → target_made u ≡ target_made t
 kept_made t u e = sym (made_kept u) ∙ ap target_made e ∙ made_kept t
 
+-- of no rows each edge has none
+map_none : {X Y : Type 0} (f : X → List Y) → ((x : X) → f x ≡ []) → (xs : List X) → map f xs ≡ replicate (length xs) []
+map_none f none [] = refl
+map_none f none (x ∷ xs) = λ i. none x i ∷ map_none f none xs i
+
+none_sent : (kind : PutKind) (n : ℕ) → sent_to kind n [] ≡ replicate n []
+none_sent One n = refl
+none_sent Each n = refl
+none_sent (Hash by) n = map_none (λ k. of_bucket (key_bucket by.parts by.columns) k []) (λ k. refl) (range_with_len 0 n) ∙ ap (λ m. replicate m []) (length-range_with_len 0 n)
+
+made_sent : (outlets : List OutletState) → map rows_sent (map outlet_as_made outlets) ≡ replicate (length outlets) []
+made_sent [] = refl
+made_sent (outlet ∷ outlets) = λ i. [] ∷ made_sent outlets i
+
+none_put : (put : TargetState) → Put (put_as_made put) ≡ Put put → HasSent put []
+none_put put e =
+    let same : put_as_made put ≡ put = cc in
+    subst (λ (put : TargetState). HasSent put []) same
+    (made_sent put.outlets ∙ ap (λ n. replicate n []) (sym (length-map put.outlets outlet_as_made)) ∙ sym (none_sent put.kind (length (map outlet_as_made put.outlets))))
+
 -- one that is as it was made was given no rows, and was not told
-pub made_none : (t : Target) → target_made t ≡ t → rows_given t ≡ []
-made_none (Result result) e = sym (ap rows_given e)
-made_none (Build build) e = sym (ap rows_given e)
+pub made_given : (t : Target) → target_made t ≡ t → was_given t []
+made_given (Result result) e = ap rows_given e
+made_given (Build build) e = ap rows_given e
+made_given (Put put) e = none_put put e
+made_given (Deal deal) e = sym (ap rows_given e)
 
 pub made_untold : (t : Target) → target_made t ≡ t → is_told t ≡ false
 made_untold (Result result) e = sym (ap is_told e)
 made_untold (Build build) e = sym (ap is_told e)
+made_untold (Put put) e = sym (ap is_told e)
+made_untold (Deal deal) e = sym (ap is_told e)
 
 abbrev pub is_lost : Target → Bool
 is_lost (Result result) = false
 is_lost (Build build) = build.is_lost
+is_lost (Put put) = false
+is_lost (Deal deal) = false
 
 lost_kept : (t : Target) → is_lost (target_made_or_lost t) ≡ is_lost t
 lost_kept (Result result) = refl
 lost_kept (Build build) = refl
+lost_kept (Put put) = refl
+lost_kept (Deal deal) = refl
 
 lost_not : (over : Bool) (t : Target) → IsBuiltAs over t → is_lost t ≡ false
 lost_not over (Result result) b = refl
 lost_not over (Build build) b = b.0
+lost_not over (Put put) b = refl
+lost_not over (Deal deal) b = refl
 
 -- a build that is not lost is published where it is done, and only there
 published : (over : Bool) (build : BuildState) → KnowsOwnSource build → build.is_lost ≡ false → build.is_published ≡ over → IsBuiltAs over (Build build)
@@ -45,9 +91,11 @@ published false build kept whole e =
     (whole, e, (λ x is first. absurd (let clash : Some x ≡ None = sym is ∙ kept.unknown whole e first in cc)), (λ clash. absurd (let c : false ≡ true = clash in cc)))
 
 -- a target that was not lost, and was kept as it was made, is built as far as it is done
-pub built_on : (over now : Bool) (t u : Target) → KnowsCell u → target_made_or_lost u ≡ target_made_or_lost t → target_finished u ≡ now → IsBuiltAs over t → IsBuiltAs now u
+pub built_on : (over now : Bool) (t u : Target) → KnowsEnds u → target_made_or_lost u ≡ target_made_or_lost t → target_finished u ≡ now → IsBuiltAs over t → IsBuiltAs now u
 built_on over now t (Result result) kept e done b = tt
 built_on over now t (Build build) kept e done b = published now build kept (ap is_lost e ∙ lost_kept t ∙ lost_not over t b) done
+built_on over now t (Put put) kept e done b = (done, λ is. kept (done ∙ is))
+built_on over now t (Deal deal) kept e done b = (done, λ is. kept (done ∙ is))
 
 -- one that was made so
 pub made_built : (t : Target) → target_made t ≡ t → IsBuiltAs false t
@@ -57,6 +105,10 @@ made_built (Build build) e = (sym (ap is_lost e), sym (ap target_finished e), (�
     known : Target → Option IndexedRows
     known (Result result) = None
     known (Build build) = build.note.known
+    known (Put put) = None
+    known (Deal deal) = None
+made_built (Put put) e = (sym (ap target_finished e), λ clash. absurd (let c : false ≡ true = clash in cc))
+made_built (Deal deal) e = (sym (ap target_finished e), λ clash. absurd (let c : false ≡ true = clash in cc))
 
 -- a build whose rows were published
 pub published_rows : (old new : BuildState) → IsPublishedAs old new → new.source.rows ≡ old.source.rows

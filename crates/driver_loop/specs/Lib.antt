@@ -3,6 +3,7 @@ pub mod InRowsSource
 pub mod Builds
 pub mod InBuild
 pub mod Ends
+pub mod Seats
 pub mod Faults
 pub mod Drivers
 pub mod InDriver

@@ -5,17 +5,19 @@ ghost use Rattle.blocked.specs.Counts.{most_count};
 ghost use Rattle.col_pages.specs.Pages.{most_rows};
 ghost use Rattle.futures.specs.Task.{Covers, Keeps};
 ghost use Rattle.operator_core.specs.Stages.{last_finished};
-ghost use Rattle.driver_loop.specs.Ends.{is_build, is_told, rows_taken, has_ended, source_made, target_dues, target_made, IsBegun, IsDrained};
-ghost use Rattle.driver_loop.specs.Drivers.{IsDriver, IsOver, HasFailed, HasWorked, CanGoOn, IsBuilt, IsWhole, Went};
+ghost use Rattle.driver_loop.specs.Ends.{is_build, is_told, rows_taken, has_ended, source_made, target_made, IsBegun, IsDrained};
+ghost use Rattle.driver_turns.specs.Turns.{RangDues};
+ghost use Rattle.driver_loop.specs.Drivers.{IsDriver, IsOver, HasFailed, HasWorked, CanGoOn, IsBuilt, IsBuiltAs, IsWhole, driver_dues};
+ghost use Rattle.driver_loop.specs.Seats.{PutAll};
 ghost use Rattle.driver_loop.specs.Turns.{IsLeftBy, IsWaiting, IfBlocked, ArePiecesOf, notes_of};
 
 use crate::notes::put_notes;
 use crate::pieces::{CellNote, Pieces};
 use crate::run_fault::RunFault;
-use crate::source::Source;
+use crate::source::{Source, SourceSeats};
 use crate::stage::Stage;
 use crate::step::take_turn;
-use crate::target::Target;
+use crate::target::{Target, TargetParts};
 use crate::turn::{Turn, hear};
 use blocked::{Bells, BlockedOn};
 use driver_turns::{Turned, Turning};
@@ -163,18 +165,16 @@ impl<'w> Driver<'w> {
         ensures target { IsWhole self.new.fault
             → target_made self.new.target ≡ target_made self.old.target }
         ensures state { IsLeftBy result self.new }
-        ensures went { IsWhole self.new.fault → Went self.old self.new }
         ensures work { (self.old.work ≤ self.new.work)
             × (self.new.work < self.old.work + (quantum + most_rows)) }
-        ensures counts { IsWhole self.new.fault → HasWorked self.old self.new }
+        ensures worked { IsWhole self.new.fault → HasWorked self.old self.new }
         ensures yields { result ≡ Turn.Yield
             → min (self.old.work + quantum) most_count ≤ self.new.work }
         ensures untold { result ≡ Turn.Yield → is_told self.new.target ≡ false }
         ensures tells { self.new.fault ≡ None
             → last_finished ⟦<Stage<'w> as Operator>⟧ (has_ended self.new.source) self.new.stages ≡ true
             → is_told self.new.target ≡ true }
-        ensures blocked { IfBlocked result (λ on. IsWaiting self.old.stages self.new.stages
-            self.old.target self.new.target (B.shown bells.new) on) }
+        ensures blocked { IfBlocked result (λ on. IsWaiting self.old self.new (B.shown bells.new) on) }
         ensures heard { IfBlocked result (λ on. Covers cx.new (⟦<BlockedOn as Future>⟧.needs on)) }
         ensures over { result ≡ Turn.Finished → IsOver self.new }
         ensures failed { (node : ℕ) (kind : Kind)
@@ -182,9 +182,8 @@ impl<'w> Driver<'w> {
         ensures context { Keeps cx.old cx.new }
         ensures bells { (bell count : ℕ) → B.shown bells.old bell count
             → B.shown bells.new bell count }
-        ensures rang { IsWhole self.new.fault → (bell times : ℕ)
-            → B.rang bells.old bell (times + target_dues self.old.target bell)
-            → B.rang bells.new bell (times + target_dues self.new.target bell) }
+        ensures rang { IsWhole self.new.fault → RangDues (B.rang bells.old) (B.rang bells.new)
+            (driver_dues self.old) (driver_dues self.new) }
     {
         laws::laws::<Stage<'w>>(PhantomData);
         let Turning { units, outcome } = take_turn(
@@ -217,6 +216,7 @@ impl<'w> Driver<'w> {
         ensures pieces { ArePiecesOf self.entry result }
         ensures lookups { IsWhole self.entry.fault → result.lookups.items ≡ notes_of self.entry }
         ensures built { IsBuilt self.entry }
+        ensures all { PutAll self.entry.target result.puts.items result.deal }
         ensures over { IsOver self.entry }
         ensures drained { IsDrained self.entry.source }
     {
@@ -238,6 +238,8 @@ impl<'w> Driver<'w> {
     fn take_apart(self) -> Pieces<'w>
         ensures pieces { ArePiecesOf self.entry result }
         ensures lookups { IsWhole self.entry.fault → result.lookups.items ≡ notes_of self.entry }
+        ensures all { IsBuiltAs true self.entry.target
+            → PutAll self.entry.target result.puts.items result.deal }
     {
         let Driver {
             number,
@@ -249,10 +251,19 @@ impl<'w> Driver<'w> {
             ..
         } = self;
         put_notes(&mut lookups, stages);
-        let rows = target.into_rows(alloc, &mut lookups);
+        let TargetParts { rows, puts, deal } = target.into_parts(alloc, &mut lookups);
+        let SourceSeats {
+            claim,
+            gather_take,
+            spread_take,
+        } = source.into_seats();
         Pieces {
             number,
-            claim: source.into_claim(),
+            claim,
+            gather_take,
+            spread_take,
+            puts,
+            deal,
             rows,
             lookups,
         }

@@ -1,7 +1,9 @@
 //! Drivers: one source, stages in order, one target, and turns that move pages along.
 //!
 //! A driver takes pages from its source, moves them from stage to stage and gives what the last one gives to
-//! its target, a turn at a time. What it promises (`specs/Drivers.antt`) is what it keeps over its turns:
+//! its target, a turn at a time. What its target was given is one list of rows, but for a target that spreads rows
+//! over edges: of that it is any list of which each edge has what it has of one (`was_given`). What a driver promises
+//! (`specs/Drivers.antt`) is what it keeps over its turns, each of some rows that its target was given:
 //!
 //! - `IsDriver`: what its stages took and gave goes on from the rows that it took of its source to those that
 //!   it gave to its target; a stage was told to finish only where its giver was finished; its work is the
@@ -13,27 +15,32 @@
 //! - `CanGoOn`: one that is not through, or failed on an expression, can go on, whatever rows still come and
 //!   whatever the notes of its stages come to know
 //! - `IsBuilt`: where its target builds the right side of a join, that was published where the driver is
-//!   finished, and only there: the target's note knows the rows that it was given, and nothing before
+//!   finished, and only there: the target's note knows the rows that it was given, and nothing before, unless its cell
+//!   held another source. Where it puts to edges, these have every row and their Ends where the driver is finished, and
+//!   only there
 //!
 //! A turn yields only once it counted its quantum of rows, and counts fewer than that and the most rows of a
-//! page. It is blocked only where a stage looked for a value in this turn, in vain; the future that it hands
-//! out has registered with the turn's context. After want of memory nothing is said but that it failed so.
+//! page. It is blocked only where a stage, the source or the target looked in this turn, in vain (`IsWaiting`); the
+//! future that it hands out has registered with the turn's context. Each bell is rung as much more often, of the
+//! bells that the turn was given, as more was taken and put. After want of memory nothing is said but that it failed so.
 //!
-//! The turn in which the last stage is finished also ends the target: a build is frozen and published in its
-//! cell, and the cell's bell is rung. Where the cell has another source already, the turn fails as for want of
-//! memory.
+//! The turn in which the last stage is finished also tells the target. A build is frozen and published in its
+//! cell, and the cell's bell is rung; where the cell has another source, it waits there. Edges get an End behind their
+//! pages, as each has room.
 //!
-//! A driver hands back the notes of all cells that it looked into or published in. What notes of one cell know
-//! is the same (`SetNote::agree` of `set_once`), so that what one driver published is what others probed. The
-//! list of these notes has its memory from the start, so that a driver can always be taken apart.
+//! A driver hands back the seats of its source and target: what a seat put is what it has of the first of the rows that
+//! the target was given, and of a finished driver all of them (`specs/Seats.antt`). It hands back the notes of all cells
+//! that it looked into or published in. What notes of one cell know is the same (`SetNote::agree` of `set_once`), so that
+//! what one driver published is what others probed. The list of these notes has its memory from the start, so that a driver
+//! can always be taken apart.
 //!
-//! - `source`: `Source`, where pages come from. A scan of claimed splits, or rows of the plan (`rows_source`)
+//! - `source`: `Source`, where pages come from. A scan of claimed splits, rows of the plan (`rows_source`), or an edge
 //! - `stage`: `Stage`, the operators, one variant each. It behaves as its operator does, and expects pages of
 //!   the operator's types
 //! - `target`: `Target`, where pages go to. The rows of a result (`ResultTarget`) are kept as the pages in which
-//!   they came
+//!   they came; others go to edges
 //! - `build`: `BuildTarget`, which keeps them as the source of a join (`specs/Builds.antt`)
-//! - `step`: a turn of these parts, said of the rows that the target has
+//! - `step`: a turn of these parts
 //! - `driver`: `Driver`. `turn`: what a turn answers. `pieces`: what a driver hands back. `notes`: how the
 //!   notes of its stages come into one list
 //! - `run_fault`: `RunFault`, why a run gave up

@@ -1,5 +1,6 @@
 use hash_join::LookupNote;
 use operator_core::HeldPages;
+use output_buffer::{GatherPut, GatherTake, SpreadPut, SpreadTake};
 use split_source::ClaimSeat;
 
 /// What a driver hands back at its end.
@@ -8,6 +9,14 @@ pub struct Pieces<'w> {
     pub number: u32,
     /// The seat by which it claimed splits, where its source is a scan.
     pub claim: Option<ClaimSeat<'w>>,
+    /// The seat by which it took from an edge that was its own.
+    pub gather_take: Option<GatherTake<'w>>,
+    /// The seat by which it took from an edge of many takers.
+    pub spread_take: Option<SpreadTake<'w>>,
+    /// The seats by which it put to edges of one taker.
+    pub puts: Vec<GatherPut<'w>>,
+    /// The seat by which it put to an edge of many takers.
+    pub deal: Option<SpreadPut<'w>>,
     /// What its target was given, where it is a result.
     pub rows: HeldPages,
     /// The notes of its stages in their order, and then that of its target.

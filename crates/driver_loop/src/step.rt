@@ -1,14 +1,15 @@
-//! A turn of the parts of a driver, said of the rows that its target has.
+//! A turn of the parts of a driver.
 ghost use Rattle.std.specs.Prelude.{◌≡◌, ◌+◌, ◌<◌, ℕ, List, true, false, IfOk, IsErr, IsOk};
 ghost use Rattle.sql_values.specs.declared.fail.Fail.{Fail as Kind};
 ghost use Rattle.col_pages.specs.Pages.{most_rows};
 ghost use Rattle.operator_core.specs.Answers.{NotMemory};
+ghost use Rattle.operator_core.specs.Rows.{Row};
 ghost use Rattle.operator_core.specs.Stages.{Linked, ToldInTurn, last_finished};
-ghost use Rattle.stage_moves.specs.Counts.{Counted};
 ghost use Rattle.stage_moves.specs.Moves.{SomeFails};
-ghost use Rattle.driver_turns.specs.Turns.{RangDues, StageFailed, TurnedSo, WentOn};
-ghost use Rattle.driver_loop.specs.Ends.{has_ended, is_told, rows_given, rows_taken, source_made, target_dues, target_finished, target_made_or_lost, KnowsCell};
-ghost use Rattle.driver_loop.specs.Turns.{IsWaiting};
+ghost use Rattle.stage_moves.specs.Places.{AllLater};
+ghost use Rattle.driver_turns.specs.Turns.{IsBlocked, RangDues, StageFailed, TurnedSo, WorkedTo};
+ghost use Rattle.driver_loop.specs.Ends.{has_ended, is_told, rows_taken, source_dues, source_looks, source_made, target_dues, target_finished, target_looks, target_made_or_lost, was_given};
+ghost use Rattle.driver_loop.specs.Seats.{KnowsEnds};
 
 use crate::source::Source;
 use crate::stage::Stage;
@@ -19,7 +20,7 @@ use operator_core::{OpFault, Operator};
 use std::sync::Wait;
 use std::thread::Threads;
 
-/// A turn. No source of a driver waits, so that where it is blocked a stage or the target does.
+/// A turn. No source of a driver asks in vain where nobody rings, so that its units are rows.
 pub(crate) fn take_turn<'w, R: Threads + Wait + Sync, B: Bells>(
     rt: &R,
     source: &mut Source<'w>,
@@ -28,19 +29,21 @@ pub(crate) fn take_turn<'w, R: Threads + Wait + Sync, B: Bells>(
     quantum: u32,
     bells: &mut B,
 ) -> Turning
-    ensures went { NotMemory result.outcome → WentOn ⟦<Stage<'w> as Operator>⟧ stages.old.items
-        stages.new.items (rows_taken source.old) (rows_taken source.new) (rows_given target.old)
-        (rows_given target.new) (has_ended source.old) (has_ended source.new) }
-    ensures counts { NotMemory result.outcome → Counted ⟦<Stage<'w> as Operator>⟧ stages.old.items
-        stages.new.items (rows_taken source.old) (rows_taken source.new) (rows_given target.old)
-        (rows_given target.new) result.units }
-    ensures answer { IfOk result.outcome (λ turned. TurnedSo (IsWaiting stages.old.items stages.new.items
-        target.old target.new (B.shown bells.new)) (is_told target.new) (target_finished target.new)
+    ensures worked { NotMemory result.outcome → (Y : List Row) → was_given target.old Y
+        → WorkedTo ⟦<Stage<'w> as Operator>⟧ (was_given target.new) stages.old.items stages.new.items
+        (rows_taken source.old) (rows_taken source.new) Y (has_ended source.old) (has_ended source.new)
+        0 0 result.units }
+    ensures later { NotMemory result.outcome
+        → AllLater ⟦<Stage<'w> as Operator>⟧ stages.old.items stages.new.items }
+    ensures answer { IfOk result.outcome (λ turned. TurnedSo (IsBlocked ⟦<Stage<'w> as Operator>⟧
+        stages.old.items stages.new.items (is_told target.new) (source_looks source.old)
+        (source_looks source.new) (target_looks target.old) (target_looks target.new)
+        (B.shown bells.new)) (is_told target.new) (target_finished target.new)
         quantum result.units turned) }
     ensures source { source_made source.new ≡ source_made source.old }
     ensures target { NotMemory result.outcome
         → target_made_or_lost target.new ≡ target_made_or_lost target.old }
-    ensures cell { KnowsCell target.new }
+    ensures ends { KnowsEnds target.new }
     ensures told { NotMemory result.outcome → (is_told target.old ≡ true
         → last_finished ⟦<Stage<'w> as Operator>⟧ (has_ended source.old) stages.old.items ≡ true)
         → is_told target.new ≡ true
@@ -56,11 +59,13 @@ pub(crate) fn take_turn<'w, R: Threads + Wait + Sync, B: Bells>(
     ensures bells { (bell count : ℕ) → B.shown bells.old bell count
         → B.shown bells.new bell count }
     ensures rang { NotMemory result.outcome → RangDues (B.rang bells.old) (B.rang bells.new)
-        (target_dues target.old) (target_dues target.new) }
+        (λ bell. source_dues source.old bell + target_dues target.old bell)
+        (λ bell. source_dues source.new bell + target_dues target.new bell) }
     ensures fault { (node : ℕ) (kind : Kind) → result.outcome ≡ Err (OpFault.Expr node kind)
         → SomeFails ⟦<Stage<'w> as Operator>⟧ stages.new.items node kind }
     ensures failure { (node : ℕ) (kind : Kind) → result.outcome ≡ Err (OpFault.Expr node kind)
-        → Linked ⟦<Stage<'w> as Operator>⟧ stages.old.items (rows_taken source.old) (rows_given target.old)
+        → (Y : List Row) → was_given target.old Y
+        → Linked ⟦<Stage<'w> as Operator>⟧ stages.old.items (rows_taken source.old) Y
         → ToldInTurn ⟦<Stage<'w> as Operator>⟧ (has_ended source.old) stages.old.items
         → StageFailed ⟦<Stage<'w> as Operator>⟧ stages.new.items (has_ended source.new)
         (rows_taken source.new) node kind }

@@ -1,7 +1,9 @@
 //! Where the pages of a driver go to, one variant each.
-ghost use Rattle.std.specs.Prelude.{◌≡◌, [], false, ◌<◌, ◌++◌, length, OnOk};
+ghost use Rattle.std.specs.Prelude.{◌≡◌, [], true, false, None, ◌<◌, ◌++◌, length, OnOk};
 ghost use Rattle.std.specs.Vec.{vec_capacity};
-ghost use Rattle.driver_loop.specs.Ends.{is_build, rows_handed, KnowsCell};
+ghost use Rattle.driver_loop.specs.Drivers.{IsBuiltAs};
+ghost use Rattle.driver_loop.specs.Ends.{is_build, rows_handed};
+ghost use Rattle.driver_loop.specs.Seats.{KnowsEnds, PutAll, PutFirst, deal_of, puts_of};
 ghost use Rattle.driver_loop.specs.Turns.{note_of_target};
 
 use crate::build::BuildTarget;
@@ -10,7 +12,9 @@ use crate::pieces::CellNote;
 use crate::types::are_same;
 use blocked::{Bells, BlockedOn};
 use col_pages::Page;
+use driver_ends::{DealTarget, PutTarget};
 use operator_core::HeldPages;
+use output_buffer::{GatherPut, SpreadPut};
 use sql_values::{Memory, Types};
 use stage_moves::PageTarget;
 use std::alloc::Global;
@@ -53,15 +57,41 @@ pub enum Target<'w> {
     Result(ResultTarget),
     /// The source of a join, which is published at the end.
     Build(BuildTarget<'w>),
+    /// Edges of one taker each.
+    Put(PutTarget<'w>),
+    /// An edge of many takers.
+    Deal(DealTarget<'w>),
+}
+
+/// What a target hands back.
+#[derive(Drop)]
+pub(crate) struct TargetParts<'w> {
+    pub rows: HeldPages,
+    pub puts: Vec<GatherPut<'w>>,
+    pub deal: Option<SpreadPut<'w>>,
+}
+
+impl<'w> TargetParts<'w> {
+    /// One of rows alone.
+    fn of_rows(alloc: Global, rows: HeldPages) -> TargetParts<'w>
+        ensures rows { result.rows ≡ rows }
+        ensures puts { result.puts.items ≡ [] }
+        ensures deal { result.deal ≡ None }
+    {
+        TargetParts {
+            rows,
+            puts: Vec::new(alloc),
+            deal: None,
+        }
+    }
 }
 
 impl<'w> PageTarget for Target<'w> {
-    ghost use Rattle.driver_loop.specs.Ends.{is_told, rows_given, target_dues, target_finished, target_looks, target_made_or_lost};
-    ghost use Rattle.std.specs.Prelude.{not};
+    ghost use Rattle.driver_loop.specs.Ends.{is_told, target_dues, target_finished, target_looks, target_made_or_lost, target_wants, was_given};
 
-    ghost was_given = { λ t Y. Y ≡ rows_given t };
+    ghost was_given = { was_given };
 
-    ghost wants = { λ t. not (is_told t) };
+    ghost wants = { target_wants };
 
     ghost is_told = { is_told };
 
@@ -74,13 +104,20 @@ impl<'w> PageTarget for Target<'w> {
     ghost dues = { target_dues };
 
     fn wants(&self) -> bool {
-        !self.is_told()
+        match self {
+            Target::Result(result) => !result.is_told,
+            Target::Build(build) => build.wants(),
+            Target::Put(put) => put.wants(),
+            Target::Deal(deal) => deal.wants(),
+        }
     }
 
     fn is_told(&self) -> bool {
         match self {
             Target::Result(result) => result.is_told,
             Target::Build(build) => build.is_told(),
+            Target::Put(put) => put.is_told(),
+            Target::Deal(deal) => deal.is_told(),
         }
     }
 
@@ -88,6 +125,8 @@ impl<'w> PageTarget for Target<'w> {
         match self {
             Target::Result(result) => result.is_told,
             Target::Build(build) => build.is_finished(),
+            Target::Put(put) => PageTarget::is_finished(put),
+            Target::Deal(deal) => PageTarget::is_finished(deal),
         }
     }
 
@@ -95,6 +134,8 @@ impl<'w> PageTarget for Target<'w> {
         match self {
             Target::Result(result) => result.put(page),
             Target::Build(build) => build.put(page),
+            Target::Put(put) => PageTarget::put(put, page),
+            Target::Deal(deal) => PageTarget::put(deal, page),
         }
     }
 
@@ -102,6 +143,8 @@ impl<'w> PageTarget for Target<'w> {
         match self {
             Target::Result(result) => result.is_told = true,
             Target::Build(build) => build.finish(),
+            Target::Put(put) => PageTarget::finish(put),
+            Target::Deal(deal) => PageTarget::finish(deal),
         }
     }
 
@@ -113,18 +156,26 @@ impl<'w> PageTarget for Target<'w> {
         match self {
             Target::Result(_) => Ok(None),
             Target::Build(build) => build.ready(rt, bells),
+            Target::Put(put) => put.ready(rt, bells),
+            Target::Deal(deal) => deal.ready(rt, bells),
         }
     }
 }
 
 impl<'w> Target<'w> {
-    /// The law of what it knows of its cell.
+    /// The law of what it knows of its cell, and of the edges that it is through with.
     pub(crate) fn keeps(&self)
-        ensures { KnowsCell self.now }
+        ensures { KnowsEnds self.now }
     {
         match self {
             Target::Result(_) => {}
             Target::Build(build) => build.keeps(),
+            Target::Put(put) => {
+                let _ = put.is_finished();
+            }
+            Target::Deal(deal) => {
+                let _ = deal.is_finished();
+            }
         }
     }
 
@@ -132,23 +183,38 @@ impl<'w> Target<'w> {
         ensures { result ≡ is_build self.now }
     {
         match self {
-            Target::Result(_) => false,
             Target::Build(_) => true,
+            Target::Result(_) | Target::Put(_) | Target::Deal(_) => false,
         }
     }
 
-    /// Hands over the rows of a result, and puts the note of a build behind others, where there is room.
-    pub(crate) fn into_rows(self, alloc: Global, notes: &mut Vec<CellNote>) -> HeldPages
-        ensures rows { result ≡ rows_handed self.entry }
+    /// Hands over the rows of a result and the seats of edges, and puts the note of a build behind others, where there
+    /// is room.
+    pub(crate) fn into_parts(self, alloc: Global, notes: &mut Vec<CellNote>) -> TargetParts<'w>
+        ensures rows { result.rows ≡ rows_handed self.entry }
+        ensures puts { result.puts.items ≡ puts_of self.entry }
+        ensures deal { result.deal ≡ deal_of self.entry }
+        ensures first { PutFirst self.entry result.puts.items result.deal }
+        ensures all { IsBuiltAs true self.entry → PutAll self.entry result.puts.items result.deal }
         ensures notes { length notes.old.items < vec_capacity notes.old
             → notes.new.items ≡ notes.old.items ++ note_of_target self.entry }
     {
         match self {
-            Target::Result(result) => result.rows,
+            Target::Result(result) => TargetParts::of_rows(alloc, result.rows),
             Target::Build(build) => {
                 put_note(notes, build.into_note());
-                HeldPages::new(alloc)
+                TargetParts::of_rows(alloc, HeldPages::new(alloc))
             }
+            Target::Put(put) => TargetParts {
+                rows: HeldPages::new(alloc),
+                puts: put.stop(),
+                deal: None,
+            },
+            Target::Deal(deal) => TargetParts {
+                rows: HeldPages::new(alloc),
+                puts: Vec::new(alloc),
+                deal: Some(deal.stop()),
+            },
         }
     }
 }

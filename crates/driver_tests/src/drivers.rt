@@ -149,7 +149,7 @@ fn scan_of<'w>(
 }
 
 /// Rows of whole numbers.
-fn result<'w>(alloc: Global) -> Result<Target<'w>, Memory>
+pub(crate) fn result<'w>(alloc: Global) -> Result<Target<'w>, Memory>
     ensures { IfOk result (λ t. target_made t ≡ t) }
 {
     let types = whole(alloc)?;
@@ -250,7 +250,7 @@ fn write_page(text: &mut String, page: &Page) -> Result<(), Memory> {
     Ok(())
 }
 
-fn write_pages(text: &mut String, rows: &mut HeldPages) -> Result<(), Memory> {
+pub(crate) fn write_pages(text: &mut String, rows: &mut HeldPages) -> Result<(), Memory> {
     for _ in 0..1000 {
         let Some(page) = rows.take_first() else {
             return Ok(());

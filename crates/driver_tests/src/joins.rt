@@ -38,7 +38,7 @@ fn push(alloc: Global, rows: &mut RowList, number: i64) -> Result<(), Memory>
 }
 
 /// Two rows of the plan.
-fn rows(alloc: Global, first: i64, second: i64) -> Result<RowList, Memory>
+pub(crate) fn rows(alloc: Global, first: i64, second: i64) -> Result<RowList, Memory>
     ensures { IfOk result (λ rows. All (λ row. IsTrue (fits_row (Bigint ∷ []) row)) rows) }
 {
     let mut rows = RowList::new(alloc);

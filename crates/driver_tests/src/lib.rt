@@ -4,11 +4,14 @@
 //! - `moves`: the moves of `stage_moves`
 //! - `turns`: the turns of `driver_turns`
 //! - `drivers`: of `driver_loop`, drivers that scan a table
+//! - `edges`: of `driver_loop`, drivers that put to edges and take from them
 //! - `joins`: of `driver_loop`, a driver that builds the right side of a join, and one that probes it
 #![tactic(auto)]
 
 #[cfg(test)]
 mod drivers;
+#[cfg(test)]
+mod edges;
 #[cfg(test)]
 mod fixtures;
 #[cfg(test)]

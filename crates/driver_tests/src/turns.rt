@@ -139,6 +139,16 @@ fn the_target_is_named_before_a_stage_and_a_stage_before_the_source(
 }
 
 #[test]
+fn what_the_stages_hold_moves_on_though_the_source_waits(rt: HostRuntime) -> Result<(), Memory> {
+    let mut stages = stages(rt.alloc())?;
+    let was_fed = put(&mut stages, page(rt.alloc(), &[1, 2, 3])?);
+    let (mut source, mut target) = (source_of(0, 9), empty_target(rt.alloc()));
+    let end = turn_of(&rt, rt.alloc(), &mut source, &mut stages, &mut target, 9);
+    assert!(rt; was_fed & (end == at(6, 6)) & (first_rows(&mut target) == 3));
+    Ok(())
+}
+
+#[test]
 fn a_target_that_is_full_gets_its_page_later(rt: HostRuntime) -> Result<(), Memory> {
     let mut stages = stages(rt.alloc())?;
     let was_fed = put(&mut stages, page(rt.alloc(), &[1, 2, 3])?);

@@ -5,13 +5,14 @@ use Rattle.sql_values.specs.declared.fail.Fail.{Fail}
 use Rattle.page_judges.specs.Typed.{AllFit}
 use Rattle.operator_core.specs.Rows.{Row}
 use Rattle.operator_core.specs.Calls.{IsLawful}
-use Rattle.driver_loop.specs.Drivers.{DriverState, HasFailed}
-use Rattle.driver_loop.specs.Ends.{has_ended, rows_given, rows_handed, rows_taken}
+use Rattle.driver_loop.proofs.OneListLemmas.{driver_to_list}
+use Rattle.driver_loop.specs.Drivers.{DriverState, HasFailed, IsDriverTo}
+use Rattle.driver_loop.specs.Ends.{HasOneList, has_ended, rows_given, rows_handed, rows_taken}
 use Rattle.driver_loop.specs.Turns.{note_of_stage, note_of_target}
 use Rattle.driver_loop.specs.contracts.stage.StageOperator.TheImpl.{ghosts}
 use Rattle.driver_loop.specs.declared.pieces.CellNote.{CellNote}
 use Rattle.driver_loop.specs.declared.target.Target.{Target}
-use Rattle.driver_loop.specs.declared.target.Target.TheVariants.{Build, Result as Kept}
+use Rattle.driver_loop.specs.declared.target.Target.TheVariants.{Build, Deal, Put, Result as Kept}
 use Rattle.driver_loop.specs.declared.run_fault.RunFault.{RunFault}
 use Rattle.driver_loop.specs.declared.run_fault.RunFault.TheVariants.{ExprFailed, Memory}
 use Rattle.plan_docs.specs.Plans.{PlanForm}
@@ -47,6 +48,14 @@ use Rattle.task_executor.proofs.StandLemmas.{Stands, all_taken, stand}
 kept_given : (target : Target) → IsResult target → rows_handed target ≡ rows_given target
 kept_given (Build b) is = absurd is
 kept_given (Kept result) is = refl
+kept_given (Put put) is = absurd is
+kept_given (Deal deal) is = absurd is
+
+kept_list : (target : Target) → IsResult target → HasOneList target
+kept_list (Build b) is = absurd is
+kept_list (Kept result) is = tt
+kept_list (Put put) is = absurd is
+kept_list (Deal deal) is = absurd is
 
 module _ (plan : PlanForm) (tables : Tables) (laws : IsLawful ghosts) (before drivers : List DriverState) (rows : List Row)
     (net : IsNetOf plan tables before) (later : AreLater before drivers) (whole : AreWholeDrivers drivers) (still : AreStill drivers rows) where
@@ -88,6 +97,9 @@ module _ (plan : PlanForm) (tables : Tables) (laws : IsLawful ghosts) (before dr
     fit : AllFit (types_of_source run) (rows_taken main.source)
     fit = front_of_source (types_of_source run) (rows_taken main.source) left.rest (rows_of_source tables run) left.same (source_fits run net.in_one_task tables run_fits)
 
+    goes : IsDriverTo main (rows_given main.target)
+    goes = driver_to_list main (kept_list main.target result) is.driver
+
     gave_rows : rows ≡ rows_given main.target
     gave_rows = still.first main sides are ∙ kept_given main.target result
 
@@ -95,9 +107,9 @@ module _ (plan : PlanForm) (tables : Tables) (laws : IsLawful ghosts) (before dr
     main_gives finished =
         let done : (d : DriverState) → In drivers d → d.is_finished ≡ true = λ d at. all_in (λ (e : DriverState). e.is_finished ≡ true) drivers d finished at in
         let g = stands.gave (λ d at. done d (in_sides d at)) in
-        let over = is.over (done main in_main) in
+        let over = (is.over (done main in_main)).over in
         let chain = (finish_all ghosts laws run stands.notes g.0 main.stages (types_of (tree_of_run run)) stands.operate g.1 (has_ended main.source) (rows_taken main.source)
-        (rows_given main.target) (is.driver.turns is.whole) (is.driver.links is.whole) fit (is.driver.over (done main in_main)).1).0 in
+        (rows_given main.target) (goes.turns is.whole) (goes.links is.whole) fit (goes.over (done main in_main)).1).0 in
         subst (λ (r : List Row). Allows (tree_of plan) tables r) (sym gave_rows)
         (subst (λ (t : TreeForm). Allows t tables (rows_given main.target)) (sym same_tree)
         (nets_give strict tables run net.in_one_task (fits_widths (tree_of_run run) tables run_fits) g.0 g.2 (rows_taken main.source) (rows_given main.target)

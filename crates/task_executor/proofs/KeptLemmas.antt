@@ -11,7 +11,7 @@ use Rattle.driver_loop.specs.contracts.stage.StageOperator.TheImpl.{ghosts}
 use Rattle.driver_loop.specs.declared.stage.Stage.{Stage}
 use Rattle.driver_loop.specs.declared.stage.Stage.TheVariants.{Filter, Limit, Probe, Single, Sort, TopN}
 use Rattle.driver_loop.specs.declared.target.Target.{Target}
-use Rattle.driver_loop.specs.declared.target.Target.TheVariants.{Build, Result as Kept}
+use Rattle.driver_loop.specs.declared.target.Target.TheVariants.{Build, Deal, Put, Result as Kept}
 use Rattle.plan_docs.specs.Plans.{PlanForm}
 use Rattle.plan_trees.specs.TreeTypes.{types_of}
 use Rattle.plan_runs.specs.RunPlans.{RunPlan, tree_of_run, scan, values, remote, filter, project, join, aggregate, aggregate_parts, sort, topn, topn_parts, limit, limit_parts, union}
@@ -40,6 +40,10 @@ made_cells (Probe op types) = refl
 -- a target that keeps rows keeps rows later on too
 result_later : (before after : Target) → IsResult before → target_made after ≡ target_made before → IsResult after
 result_later (Build b) after is same = absurd is
+result_later (Put put) after is same = absurd is
+result_later (Deal deal) after is same = absurd is
+result_later (Kept result) (Put put) is same = absurd cc
+result_later (Kept result) (Deal deal) is same = absurd cc
 result_later (Kept result) (Build b) is same = absurd cc
 result_later (Kept result) (Kept now) is same = tt
 
@@ -85,10 +89,14 @@ module _ (names : Names) where
 
   result_named : (target : Target) → IsResult target → All Holds (target_cell target)
   result_named (Build b) is = absurd is
+  result_named (Put put) is = absurd is
+  result_named (Deal deal) is = absurd is
   result_named (Kept result) is = All-nil Holds
 
   build_named : (bell : ℕ) (keys : List ℕ) (types : List SqlType) (target : Target) → BuildsFor names bell keys types target → All Holds (target_cell target)
   build_named bell keys types (Kept result) builds = absurd builds
+  build_named bell keys types (Put put) builds = absurd builds
+  build_named bell keys types (Deal deal) builds = absurd builds
   build_named bell keys types (Build b) builds = All-cons Holds (b.bell, b.note.cell) [] (builds.1 ∙ ap names (sym builds.0)) (All-nil Holds)
 
   module _ (tables : Tables) where

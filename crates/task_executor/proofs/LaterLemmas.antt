@@ -19,7 +19,7 @@ use Rattle.driver_loop.specs.Ends.{target_made}
 use Rattle.driver_loop.specs.contracts.stage.StageOperator.TheImpl.{ghosts}
 use Rattle.driver_loop.specs.declared.stage.Stage.{Stage}
 use Rattle.driver_loop.specs.declared.target.Target.{Target}
-use Rattle.driver_loop.specs.declared.target.Target.TheVariants.{Build, Result}
+use Rattle.driver_loop.specs.declared.target.Target.TheVariants.{Build, Deal, Put, Result}
 use Rattle.task_executor.specs.Cells.{Names}
 use Rattle.task_executor.specs.Pipelines.{Assembled, IsProbeOf, IsStageOf}
 use Rattle.task_executor.proofs.ReadLemmas.{reads_on}
@@ -156,7 +156,11 @@ module _ (names : Names) where
 
   builds_on : (bell : ℕ) (keys : List ℕ) (types : List SqlType) (before after : Target) → BuildsFor names bell keys types before → target_made after ≡ target_made before → BuildsFor names bell keys types after
   builds_on bell keys types (Result result) after builds same = absurd builds
+  builds_on bell keys types (Put put) after builds same = absurd builds
+  builds_on bell keys types (Deal deal) after builds same = absurd builds
   builds_on bell keys types (Build build) (Result result) builds same = absurd cc
+  builds_on bell keys types (Build build) (Put put) builds same = absurd cc
+  builds_on bell keys types (Build build) (Deal deal) builds same = absurd cc
   builds_on bell keys types (Build build) (Build now) builds same =
       let made = build_on build now same in (
         ap (λ (b : BuildState). b.bell) made ∙ builds.0,

@@ -11,7 +11,7 @@ use Rattle.driver_loop.specs.declared.pieces.CellNote.{CellNote}
 use Rattle.driver_loop.specs.declared.stage.Stage.{Stage}
 use Rattle.driver_loop.specs.declared.stage.Stage.TheVariants.{Filter, Limit, Probe, Single, Sort, TopN}
 use Rattle.driver_loop.specs.declared.target.Target.{Target}
-use Rattle.driver_loop.specs.declared.target.Target.TheVariants.{Build, Result}
+use Rattle.driver_loop.specs.declared.target.Target.TheVariants.{Build, Deal, Put, Result}
 use Rattle.task_executor.specs.Cells.{AreNamed, AreOfCells, LearnedFrom, Names, cell_of, cells_of, target_cell}
 use Rattle.task_executor.specs.Closing.{WereTaken, builds_of, looks_of}
 use Rattle.task_executor.specs.Turns.{IsStill}
@@ -38,6 +38,8 @@ stages_noted (s ∷ ss) = map-append cell_noted (note_of_stage s) (flat_map note
 target_noted : (t : Target) → map cell_noted (note_of_target t) ≡ target_cell t
 target_noted (Result result) = refl
 target_noted (Build b) = refl
+target_noted (Put put) = refl
+target_noted (Deal deal) = refl
 
 named_notes : (names : Names) (notes : List CellNote) → All (λ (c : ℕ × ℕ). c.1 ≡ names c.0) (map cell_noted notes) → All (λ (n : CellNote). n.note.cell ≡ names n.bell) notes
 named_notes names [] all = All-nil (λ (n : CellNote). n.note.cell ≡ names n.bell)

@@ -12,7 +12,7 @@ use Rattle.bag_laws.proofs.BagLemmas.{same-from_equal}
 use Rattle.plan_nets.specs.Stopped.{IsLeftOf}
 use Rattle.driver_loop.specs.Ends.{IsBegun, IsDrained, claim_of, has_ended, rows_taken, source_made}
 use Rattle.driver_loop.specs.declared.source.Source.{Source}
-use Rattle.driver_loop.specs.declared.source.Source.TheVariants.{Scan, Rows}
+use Rattle.driver_loop.specs.declared.source.Source.TheVariants.{Scan, Rows, Local, Remote}
 use Rattle.task_executor.specs.Reads.{IsAlone, Reads, ReadsAlone}
 use Rattle.task_executor.specs.Turns.{IsStopped}
 use Rattle.task_executor.proofs.SourceLemmas.{gave_some}
@@ -27,18 +27,26 @@ record SameScan (scan now : ScanState) : Type 0 where
 abbrev scanned_rows : Source → List Row
 scanned_rows (Scan s) = s.rows
 scanned_rows (Rows v) = v.rows
+scanned_rows (Local l) = []
+scanned_rows (Remote r) = []
 
 abbrev scanned_columns : Source → List ℕ
 scanned_columns (Scan s) = s.columns
 scanned_columns (Rows v) = []
+scanned_columns (Local l) = []
+scanned_columns (Remote r) = []
 
 abbrev split_size : Source → ℕ
 split_size (Scan s) = s.size
 split_size (Rows v) = 0
+split_size (Local l) = 0
+split_size (Remote r) = 0
 
 abbrev claims_or : ClaimsId → Source → ClaimsId
 claims_or id (Scan s) = s.seat.claims
 claims_or id (Rows v) = id
+claims_or id (Local l) = id
+claims_or id (Remote r) = id
 
 same_scan : (scan now : ScanState) → source_made (Scan now) ≡ source_made (Scan scan) → SameScan scan now
 same_scan scan now same = record {
@@ -70,12 +78,20 @@ scan_reads_on scan now rows reads s = record {
 pub reads_on : (rows : List Row) (source now : Source) → source_made now ≡ source_made source → Reads source rows → Reads now rows
 reads_on rows (Scan scan) (Scan now) same reads = scan_reads_on scan now rows reads (same_scan scan now same)
 reads_on rows (Scan scan) (Rows values) same reads = absurd cc
+reads_on rows (Scan scan) (Local local) same reads = absurd cc
+reads_on rows (Scan scan) (Remote remote) same reads = absurd cc
 reads_on rows (Rows values) (Scan now) same reads = absurd cc
 reads_on rows (Rows values) (Rows now) same reads = ap scanned_rows same ∙ reads
+reads_on rows (Rows values) (Local local) same reads = absurd cc
+reads_on rows (Rows values) (Remote remote) same reads = absurd cc
+reads_on rows (Local local) now same reads = absurd reads
+reads_on rows (Remote remote) now same reads = absurd reads
 
 pub alone_of : (source : Source) (rows : List Row) → Reads source rows → IsAlone source
 alone_of (Scan scan) rows reads = reads.alone
 alone_of (Rows values) rows reads = tt
+alone_of (Local local) rows reads = tt
+alone_of (Remote remote) rows reads = tt
 
 none_behind : (given rest rows : List Row) → given ++ rest ≡ rows → given ≡ rows → rest ≡ []
 none_behind given rest rows is same = append_cancel_left given rest [] (is ∙ sym same ∙ sym (append-nil given))
@@ -91,3 +107,5 @@ took_some (Rows values) rows reads drained begun stopped = record {
   same = same-from_equal (begun.1 ∙ reads);
   none = λ e. none_behind values.given begun.0 values.rows begun.1 (drained e);
 }
+took_some (Local local) rows reads drained begun stopped = absurd reads
+took_some (Remote remote) rows reads drained begun stopped = absurd reads

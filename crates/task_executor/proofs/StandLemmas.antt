@@ -33,16 +33,17 @@ use Rattle.plan_nets.proofs.FitLemmas.{front_of_source, source_fits}
 use Rattle.plan_nets.proofs.LookupLemmas.{probe_probes}
 use Rattle.plan_nets.proofs.OperatorLemmas.{stood_at}
 use Rattle.plan_nets.proofs.ProbeLemmas.{looks_up_rows}
+use Rattle.driver_loop.proofs.OneListLemmas.{driver_to_list}
 use Rattle.driver_loop.specs.Builds.{BuildState}
-use Rattle.driver_loop.specs.Drivers.{DriverState, IsBuiltAs}
-use Rattle.driver_loop.specs.Ends.{has_ended, rows_given, rows_taken}
+use Rattle.driver_loop.specs.Drivers.{DriverState, IsBuiltAs, IsDriverTo}
+use Rattle.driver_loop.specs.Ends.{HasOneList, has_ended, rows_given, rows_taken}
 use Rattle.driver_loop.specs.Turns.{note_of_stage, note_of_target}
 use Rattle.driver_loop.specs.contracts.stage.StageOperator.TheImpl.{ghosts}
 use Rattle.driver_loop.specs.declared.pieces.CellNote.{CellNote}
 use Rattle.driver_loop.specs.declared.stage.Stage.{Stage}
 use Rattle.driver_loop.specs.declared.stage.Stage.TheVariants.{Filter, Limit, Probe, Single, Sort, TopN}
 use Rattle.driver_loop.specs.declared.target.Target.{Target}
-use Rattle.driver_loop.specs.declared.target.Target.TheVariants.{Build, Result}
+use Rattle.driver_loop.specs.declared.target.Target.TheVariants.{Build, Deal, Put, Result}
 use Rattle.task_executor.specs.Cells.{LearnedFrom, Names}
 use Rattle.task_executor.specs.Pipelines.{Assembled, IsProbeOf, IsStageOf}
 use Rattle.task_executor.specs.Sides.{AreSides, BuildsFor, RunsPipeline}
@@ -92,6 +93,8 @@ pub record IsBuild (names : Names) (bell : ℕ) (keys : List ℕ) (types : List 
 build_is : (names : Names) (bell : ℕ) (keys : List ℕ) (types : List SqlType) (done : Bool) (target : Target) → BuildsFor names bell keys types target → IsBuiltAs done target
     → IsBuild names bell keys types done target
 build_is names bell keys types done (Result result) builds built = absurd builds
+build_is names bell keys types done (Put put) builds built = absurd builds
+build_is names bell keys types done (Deal deal) builds built = absurd builds
 build_is names bell keys types done (Build build) builds built =
     record { build = build; is = refl; rings = builds.0; keyed = builds.2; typed = builds.3; known = built.2 }
 
@@ -140,6 +143,7 @@ module _ (names : Names) (tables : Tables) (laws : IsLawful ghosts) (all : List 
   pub record Side (run : RunPlan) (bell : ℕ) (on : List (ℕ × ℕ)) (d : DriverState) (behind : List DriverState) : Type 0 where
     pub stands : Stands run d.stages (types_of (tree_of_run run)) behind (rows_taken d.source) (has_ended d.source)
     pub is : IsStill d
+    pub goes : IsDriverTo d (rows_given d.target)
     pub build : IsBuild names bell (map (λ (pair : ℕ × ℕ). pair.1) on) (types_of (tree_of_run run)) d.is_finished d.target
     pub fit : AllFit (types_of_source run) (rows_taken d.source)
     pub left : IsLeftOf (rows_of_source tables run) (rows_taken d.source) (has_ended d.source)
@@ -149,7 +153,7 @@ module _ (names : Names) (tables : Tables) (laws : IsLawful ghosts) (all : List 
     gave_fits : AllFit (types_of (tree_of_run right)) (rows_given side.target)
     gave_fits =
         (stood_at ghosts laws right s.stands.notes side.stages (types_of (tree_of_run right)) s.stands.operate (has_ended side.source) (rows_taken side.source) (rows_given side.target)
-        (s.is.driver.turns s.is.whole) (s.is.driver.links s.is.whole) s.fit).1
+        (s.goes.turns s.is.whole) (s.goes.links s.is.whole) s.fit).1
 
     rows_are : rows_given side.target ≡ s.build.build.source.rows
     rows_are = ap rows_given s.build.is
@@ -228,10 +232,10 @@ module _ (names : Names) (tables : Tables) (laws : IsLawful ghosts) (all : List 
       → SameWeights (rows_taken side.source) (rows_of_source tables right)
       × stage.Chain strict (stages_of (stages_over right builds)) (rows_taken side.source) (rows_given side.target)
   side_gave right bell on side behind s done builds agree =
-      let over = s.is.over done in (
+      let over = (s.is.over done).over in (
         all_taken tables right side s.left over.ended,
         (finish_all ghosts laws right s.stands.notes builds side.stages (types_of (tree_of_run right)) s.stands.operate agree (has_ended side.source) (rows_taken side.source) (rows_given side.target)
-            (s.is.driver.turns s.is.whole) (s.is.driver.links s.is.whole) s.fit (s.is.driver.over done).1).0,
+            (s.goes.turns s.is.whole) (s.goes.links s.is.whole) s.fit (s.goes.over done).1).0,
       )
 
   -- what is left of the rows of a right side's source
@@ -247,10 +251,12 @@ module _ (names : Names) (tables : Tables) (laws : IsLawful ghosts) (all : List 
   side_is right one fits bell on side behind own runs builds at stands =
       let is = all_in IsStill all side still at in
       let left = side_left right side own runs at in
+      let build = build_is names bell (map (λ (pair : ℕ × ℕ). pair.1) on) (types_of (tree_of_run right)) side.is_finished side.target builds is.built in
       record {
         stands = stands;
         is = is;
-        build = build_is names bell (map (λ (pair : ℕ × ℕ). pair.1) on) (types_of (tree_of_run right)) side.is_finished side.target builds is.built;
+        goes = driver_to_list side (subst HasOneList (sym build.is) tt) is.driver;
+        build = build;
         fit = front_of_source (types_of_source right) (rows_taken side.source) left.rest (rows_of_source tables right) left.same (source_fits right one tables fits);
         left = left;
       }
@@ -295,8 +301,8 @@ module _ (names : Names) (tables : Tables) (laws : IsLawful ghosts) (all : List 
           },
           s.stands.at,
           (stood_at ghosts laws right s.stands.notes built.side.stages (types_of (tree_of_run right)) s.stands.operate (has_ended built.side.source) (rows_taken built.side.source)
-              (rows_given built.side.target) (s.is.driver.turns s.is.whole) (s.is.driver.links s.is.whole) s.fit).0,
-          (λ rows known. let k = l.known rows known in ((s.is.driver.over k.0).1, same-from_equal k.1)),
+              (rows_given built.side.target) (s.goes.turns s.is.whole) (s.goes.links s.is.whole) s.fit).0,
+          (λ rows known. let k = l.known rows known in ((s.goes.over k.0).1, same-from_equal k.1)),
           r.at,
         );
         gave = λ done.

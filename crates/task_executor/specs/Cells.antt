@@ -7,7 +7,7 @@ use Rattle.driver_loop.specs.declared.pieces.CellNote.{CellNote}
 use Rattle.driver_loop.specs.declared.stage.Stage.{Stage}
 use Rattle.driver_loop.specs.declared.stage.Stage.TheVariants.{Filter, Limit, Probe, Single, Sort, TopN}
 use Rattle.driver_loop.specs.declared.target.Target.{Target}
-use Rattle.driver_loop.specs.declared.target.Target.TheVariants.{Build, Result}
+use Rattle.driver_loop.specs.declared.target.Target.TheVariants.{Build, Deal, Put, Result}
 
 -- the cell's name, by the number of its bell
 abbrev pub Names : Type 0
@@ -29,6 +29,8 @@ cell_of (Probe op types) = (op.bell, op.note.cell) ∷ []
 abbrev pub target_cell : Target → List (ℕ × ℕ)
 target_cell (Result result) = []
 target_cell (Build b) = (b.bell, b.note.cell) ∷ []
+target_cell (Put put) = []
+target_cell (Deal deal) = []
 
 abbrev pub cells_of : DriverState → List (ℕ × ℕ)
 cells_of d = flat_map cell_of d.stages ++ target_cell d.target

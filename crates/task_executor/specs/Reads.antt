@@ -7,7 +7,7 @@ use Rattle.split_source.specs.Seats.{AreAllOf}
 use Rattle.split_source.specs.Splits.{split_count}
 use Rattle.driver_loop.specs.Ends.{rows_taken}
 use Rattle.driver_loop.specs.declared.source.Source.{Source}
-use Rattle.driver_loop.specs.declared.source.Source.TheVariants.{Scan, Rows}
+use Rattle.driver_loop.specs.declared.source.Source.TheVariants.{Scan, Rows, Local, Remote}
 use Rattle.page_judges.specs.Typed.{AllFit}
 use Rattle.plan_trees.specs.Allowed.{scanned}
 use Rattle.plan_pipelines.specs.Built.{PipelineSource, from_plan, from_table}
@@ -19,10 +19,12 @@ pub record ReadsAlone (scan : ScanState) (rows : List Row) : Type 0 where
   pub count : scan.seat.claims.of.count ≡ split_count (length scan.rows) scan.size
   pub all : map (cut scan.columns) scan.rows ≡ rows
 
--- the source has these rows, and none of them was or is given elsewhere
+-- the source has these rows, and none of them was or is given elsewhere; an edge has none of its own
 abbrev pub Reads : Source → List Row → Type 0
 Reads (Scan scan) rows = ReadsAlone scan rows
 Reads (Rows values) rows = values.rows ≡ rows
+Reads (Local local) rows = ⊥
+Reads (Remote remote) rows = ⊥
 
 -- it gave nothing
 abbrev pub IsFresh : Source → Type 0
@@ -42,3 +44,5 @@ RowsFit (from_plan types rows) = AllFit types rows
 abbrev pub IsAlone : Source → Type 0
 IsAlone (Scan scan) = AreAllOf scan.seat.claims (scan.seat ∷ [])
 IsAlone (Rows values) = Unit {0}
+IsAlone (Local local) = Unit {0}
+IsAlone (Remote remote) = Unit {0}

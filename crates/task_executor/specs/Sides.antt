@@ -3,7 +3,7 @@ use Rattle.std.specs.Prelude.{◌≡◌, ℕ, List, [], ◌∷◌, ◌++◌, len
 use Rattle.sql_values.specs.declared.types.SqlType.{SqlType}
 use Rattle.driver_loop.specs.Drivers.{DriverState}
 use Rattle.driver_loop.specs.declared.target.Target.{Target}
-use Rattle.driver_loop.specs.declared.target.Target.TheVariants.{Build, Result}
+use Rattle.driver_loop.specs.declared.target.Target.TheVariants.{Build, Deal, Put, Result}
 use Rattle.plan_docs.specs.Nodes.{NodeForm}
 use Rattle.plan_docs.specs.Nodes as node
 use Rattle.plan_trees.specs.TreeTypes.{types_of}
@@ -57,11 +57,15 @@ pub record RunsPipeline (names : Names) (tables : Tables) (run : RunPlan) (bells
 -- the target builds what is looked up by these columns, in the cell of this bell
 abbrev pub BuildsFor : Names → ℕ → List ℕ → List SqlType → Target → Type 0
 BuildsFor names bell keys types (Result result) = ⊥
+BuildsFor names bell keys types (Put put) = ⊥
+BuildsFor names bell keys types (Deal deal) = ⊥
 BuildsFor names bell keys types (Build b) = (b.bell ≡ bell) × (b.note.cell ≡ names bell) × (b.source.keys ≡ keys) × (b.source.types ≡ types)
 
 abbrev pub IsResult : Target → Type 0
 IsResult (Result result) = Unit {0}
 IsResult (Build b) = ⊥
+IsResult (Put put) = ⊥
+IsResult (Deal deal) = ⊥
 
 -- one of the drivers is that of a join's right side, those before it are of its left side, and those behind it of
 -- its right side

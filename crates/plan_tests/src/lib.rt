@@ -7,6 +7,7 @@
 //! - `docs`: the plan that a document means, of `plan_docs`
 //! - `types`: the types of a plan's rows, of `plan_types`
 //! - `spreads`: the spreads of a plan's rows over tasks, of `plan_spreads`
+//! - `layouts`: the pipes of a plan, of `plan_layout`
 //! - `reader`: `read_plan` and the tree of a plan, of `plan_reader`
 //! - `lines`: what the modules share: cases that are written as lines
 #![tactic(auto)]
@@ -17,6 +18,8 @@ mod checks;
 mod docs;
 #[cfg(test)]
 mod grammar;
+#[cfg(test)]
+mod layouts;
 #[cfg(test)]
 mod lines;
 #[cfg(test)]

@@ -1,0 +1,1 @@
+use Rattle.plan_layout.proofs.edges.target_of.Goals as goal

@@ -1,0 +1,1 @@
+use Rattle.plan_layout.proofs.layout.tasks_of.Goals as goal

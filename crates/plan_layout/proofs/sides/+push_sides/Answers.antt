@@ -1,0 +1,1 @@
+use Rattle.plan_layout.proofs.sides.+push_sides.Goals as goal

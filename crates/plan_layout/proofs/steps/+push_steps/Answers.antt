@@ -1,0 +1,1 @@
+use Rattle.plan_layout.proofs.steps.+push_steps.Goals as goal

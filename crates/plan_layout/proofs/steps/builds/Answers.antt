@@ -1,0 +1,1 @@
+use Rattle.plan_layout.proofs.steps.builds.Goals as goal

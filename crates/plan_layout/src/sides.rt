@@ -1,0 +1,133 @@
+//! The pipes of one fragment without those that fetch.
+ghost use Rattle.std.specs.Prelude.{◌≡◌, ◌++◌, ◌∷◌, [], map, IfOk, OnOk};
+ghost use Rattle.plan_docs.specs.Nodes.{node_view};
+ghost use Rattle.plan_layout.specs.Pipes.{pipe_view, target_view};
+ghost use Rattle.plan_layout.specs.Sides.{pipe_of, pipes_of, sides_of, site_view};
+
+use crate::pipe::{Pipe, PipeTarget, Series};
+use crate::steps::{drivers_of, side_count, source_of, steps_of};
+use crate::sums::sum_of;
+use plan_docs::{Fragment, Node};
+use sql_values::Memory;
+use std::alloc::Global;
+
+/// A fragment as it runs: its number among all, its tasks, and the drivers of a pipe in each.
+#[derive(Clone, Copy)]
+pub struct Site<'p> {
+    pub fragments: &'p [Fragment],
+    pub fragment: u32,
+    pub tasks: u32,
+    pub drivers: u32,
+}
+
+/// What a pipe has before its drivers are numbered.
+pub const UNNUMBERED: Series = Series {
+    first: 0,
+    stride: 0,
+};
+
+fn pipe_of<'p>(
+    alloc: Global,
+    site: &Site<'p>,
+    next: usize,
+    target: PipeTarget<'p>,
+    node: &'p Node,
+) -> Result<Pipe<'p>, Memory>
+    ensures { IfOk result (λ pipe. pipe_view pipe
+        ≡ pipe_of (site_view site.now) next (target_view target.entry) (node_view node.now)) }
+{
+    let source = source_of(node);
+    let steps = steps_of(alloc, site.fragments, next, node)?;
+    Ok(Pipe {
+        fragment: site.fragment,
+        tasks: site.tasks,
+        drivers: drivers_of(site.drivers, source, steps.as_slice(), target),
+        numbers: UNNUMBERED,
+        source,
+        steps,
+        target,
+    })
+}
+
+/// The pipe of a node, with those that begin below it from the place `next` on.
+fn push_pipe<'p>(
+    alloc: Global,
+    site: &Site<'p>,
+    pipes: &mut Vec<Pipe<'p>>,
+    next: usize,
+    target: PipeTarget<'p>,
+    node: &'p Node,
+) -> Result<(), Memory>
+    ensures { OnOk result (map pipe_view pipes.new.items
+        ≡ map pipe_view pipes.old.items
+        ++ pipe_of (site_view site.now) next (target_view target.entry) (node_view node.now) ∷ []) }
+{
+    pipes.push(pipe_of(alloc, site, next, target, node)?)?;
+    Ok(())
+}
+
+/// Those that begin below a node of the pipe `own`, from the place `next` on.
+fn push_sides<'p>(
+    alloc: Global,
+    site: &Site<'p>,
+    pipes: &mut Vec<Pipe<'p>>,
+    own: usize,
+    next: usize,
+    node: &'p Node,
+) -> Result<(), Memory>
+    ensures { OnOk result (map pipe_view pipes.new.items
+        ≡ map pipe_view pipes.old.items
+        ++ sides_of (site_view site.now) own next (node_view node.now)) }
+{
+    match node {
+        Node::Scan { .. } | Node::Values { .. } | Node::Remote { .. } => Ok(()),
+        Node::Join {
+            on,
+            left,
+            right,
+            ..
+        } => {
+            let at = sum_of(next, side_count(left)?)?;
+            let below = sum_of(at, 1)?;
+            push_sides(alloc, site, pipes, own, next, left)?;
+            push_pipe(alloc, site, pipes, below, PipeTarget::Cell(on), right)?;
+            push_sides(alloc, site, pipes, at, below, right)
+        }
+        Node::Union { left, right, .. } => {
+            let below_left = sum_of(next, 1)?;
+            let at = sum_of(below_left, side_count(left)?)?;
+            let below = sum_of(at, 1)?;
+            push_pipe(alloc, site, pipes, below_left, PipeTarget::Side(own), left)?;
+            push_sides(alloc, site, pipes, next, below_left, left)?;
+            push_pipe(alloc, site, pipes, below, PipeTarget::Side(own), right)?;
+            push_sides(alloc, site, pipes, at, below, right)
+        }
+        Node::Filter { input, .. }
+        | Node::Project { input, .. }
+        | Node::Aggregate { input, .. }
+        | Node::AggregateFinal { input, .. }
+        | Node::Sort { input, .. }
+        | Node::TopN { input, .. }
+        | Node::TopNFinal { input, .. }
+        | Node::Limit { input, .. }
+        | Node::LimitFinal { input, .. } => push_sides(alloc, site, pipes, own, next, input),
+    }
+}
+
+/// All of them, the first one at the place `at`.
+pub fn pipes_of<'p>(
+    alloc: Global,
+    site: &Site<'p>,
+    at: usize,
+    target: PipeTarget<'p>,
+    node: &'p Node,
+) -> Result<Vec<Pipe<'p>>, Memory>
+    ensures { IfOk result (λ pipes. map pipe_view pipes.items
+        ≡ pipes_of (site_view site.now) at (target_view target.entry) (node_view node.now)) }
+{
+    let mut pipes = Vec::new(alloc);
+    let next = sum_of(at, 1)?;
+    push_pipe(alloc, site, &mut pipes, next, target, node)?;
+    push_sides(alloc, site, &mut pipes, at, next, node)?;
+    Ok(pipes)
+}

@@ -12,20 +12,33 @@ use std::fmt::Write;
 use std::sync::atomic::{AtomicU64, Ordering};
 use std::sync::{Mutex, Wait};
 use std::thread::Threads;
-use worker_pool::{Turn, Turning};
+use worker_pool::{TakesTurns, Turn};
 
 /// What the actors of one run share.
 #[derive(Drop)]
 pub(crate) struct Scene {
     opened: AtomicU64,
+    opened_other: AtomicU64,
     turns: Mutex<String>,
+    is_noted: bool,
 }
 
 impl Scene {
-    pub(crate) fn new(alloc: Global) -> Scene {
+    /// One in which the order of turns is noted, or not.
+    pub(crate) fn new(alloc: Global, is_noted: bool) -> Scene {
         Scene {
             opened: AtomicU64::new(0),
+            opened_other: AtomicU64::new(0),
             turns: Mutex::new(String::new(alloc)),
+            is_noted,
+        }
+    }
+
+    /// How often it was opened at this bell.
+    fn opened_at(&self, bell: u32) -> &AtomicU64 {
+        match bell {
+            0 => &self.opened,
+            _ => &self.opened_other,
         }
     }
 
@@ -35,8 +48,10 @@ impl Scene {
     }
 
     fn note<R: Wait>(&self, rt: &R, number: usize) {
-        let mut turns = self.turns.lock(rt);
-        let _ = write!(turns, "{number}");
+        if self.is_noted {
+            let mut turns = self.turns.lock(rt);
+            let _ = write!(turns, "{number}");
+        }
     }
 }
 
@@ -45,9 +60,9 @@ impl Scene {
 enum Part {
     /// Counts them.
     Count,
-    /// Waits at bell 0 until the scene was opened so often.
+    /// Waits at its bell until the scene was opened there so often.
     Wait,
-    /// Opens the scene in each, and rings bell 0.
+    /// Opens the scene at its bell in each, and rings it.
     Open,
     /// Fails in its last one.
     Fail,
@@ -57,6 +72,7 @@ enum Part {
 pub(crate) struct Actor<'s> {
     pub(crate) number: usize,
     part: Part,
+    bell: u32,
     left: u32,
     work: u64,
     is_finished: bool,
@@ -120,15 +136,17 @@ impl Actor<'_> {
         ensures state { IsLeftBy result self.new.is_finished self.new.has_failed }
         ensures blocked { IfBlocked result (λ _. ⊥) }
     {
-        self.scene.opened.fetch_add(1, Ordering::SeqCst);
-        if bells.ring(rt, Due::of(0)).is_err() {
+        self.scene
+            .opened_at(self.bell)
+            .fetch_add(1, Ordering::SeqCst);
+        if bells.ring(rt, Due::of(self.bell)).is_err() {
             return self.fail();
         }
         self.count()
     }
 
     fn is_open(&self) -> bool {
-        self.scene.opened.load(Ordering::SeqCst) >= u64::from(self.left)
+        self.scene.opened_at(self.bell).load(Ordering::SeqCst) >= u64::from(self.left)
     }
 
     fn fail_at_last(&mut self) -> Turn
@@ -155,7 +173,7 @@ fn hear(seen: Seen, cx: &mut Context<'_>) -> BlockedOn
     on
 }
 
-impl Turning for Actor<'_> {
+impl TakesTurns for Actor<'_> {
     ghost use Rattle.std.proofs.Common.{refl, ◌∙◌};
 
     ghost work = { λ actor. actor.work };
@@ -166,7 +184,7 @@ impl Turning for Actor<'_> {
 
     ghost follows = { λ before after. after.number ≡ before.number };
 
-    ghost waits_at = { λ _ bell _. bell ≡ 0 };
+    ghost waits_at = { λ actor bell _. bell ≡ actor.bell };
 
     fn work(&self) -> u64 {
         self.work
@@ -194,7 +212,7 @@ impl Turning for Actor<'_> {
             Part::Open => self.open(rt, bells),
             Part::Fail => self.fail_at_last(),
             Part::Wait => {
-                let seen = Seen::read(rt, bells, 0);
+                let seen = Seen::read(rt, bells, self.bell);
                 if self.is_open() {
                     return self.finish();
                 }
@@ -208,16 +226,16 @@ impl Turning for Actor<'_> {
     ghost goes_on = { λ x y z first _ _ then. then ∙ first };
 }
 
-/// The part that a word names, its number, and the work that was done before.
-fn part_of(word: &str) -> (Part, u32, u64) {
-    let (name, turns) = word.split_once(':').unwrap_or((word, ""));
-    let turns = turns.parse::<u32>().unwrap_or(0);
+/// The part that a word names, its bell, and the work that was done before.
+fn part_of(name: &str) -> (Part, u32, u64) {
     match name {
-        "long" => (Part::Count, turns, 2_000_000),
-        "wait" => (Part::Wait, turns, 0),
-        "open" => (Part::Open, turns, 0),
-        "fail" => (Part::Fail, turns, 0),
-        _ => (Part::Count, turns, 0),
+        "long" => (Part::Count, 0, 2_000_000),
+        "wait" => (Part::Wait, 0, 0),
+        "wait1" => (Part::Wait, 1, 0),
+        "open" => (Part::Open, 0, 0),
+        "open1" => (Part::Open, 1, 0),
+        "fail" => (Part::Fail, 0, 0),
+        _ => (Part::Count, 0, 0),
     }
 }
 
@@ -229,11 +247,13 @@ pub(crate) fn cast_of<'s>(
 ) -> Result<Vec<Actor<'s>>, Memory> {
     let mut cast = Vec::new(alloc);
     for word in words.split(' ') {
-        let (part, left, work) = part_of(word);
+        let (name, turns) = word.split_once(':').unwrap_or((word, ""));
+        let (part, bell, work) = part_of(name);
         let actor = Actor {
             number: cast.len(),
             part,
-            left,
+            bell,
+            left: turns.parse::<u32>().unwrap_or(0),
             work,
             is_finished: false,
             has_failed: false,

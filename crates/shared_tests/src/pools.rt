@@ -6,7 +6,7 @@ use std::fmt::Write;
 use std::random::RandomSource;
 use std::sync::Wait;
 use std::thread::Threads;
-use worker_pool::{Done, End, run_on_workers};
+use worker_pool::{Done, RunEnd, run_on_workers};
 
 /// A cast, how many bells there are, and how its run ends: the end, and each actor that comes back with its place in the
 /// cast and whether it is finished (`f`), has failed (`x`), or neither (`-`).
@@ -15,16 +15,18 @@ count:1|0|finished 0f\n\
 count:3 count:1 count:5 count:2 count:4 count:1 count:7 count:1 count:9|0|finished 0f 1f 2f 3f 4f 5f 6f 7f 8f\n\
 wait:5 wait:1 wait:3 wait:5 open:5|1|finished 0f 1f 2f 3f 4f\n\
 wait:40 open:20 wait:20 open:20 wait:30|1|finished 0f 1f 2f 3f 4f\n\
+open1:3 wait:1 open:1 wait1:3|2|finished 0f 1f 2f 3f\n\
+wait1:2 wait:2 open:2 open1:2 wait1:1|2|finished 0f 1f 2f 3f 4f\n\
 wait:1 fail:3|1|failed1 0- 1x\n\
 count:4000000000 wait:1 fail:3 count:4000000000|1|failed2 0- 1- 2x 3-\n\
 wait:1 count:3 wait:1|1|stuck0 0- 1f 2-\n\
 count:2 wait:1 count:1|0|stuck1 0f 1- 2f\n";
 
-fn write_end(text: &mut String, end: &End) -> Result<(), Memory> {
+fn write_end(text: &mut String, end: &RunEnd) -> Result<(), Memory> {
     match end {
-        End::Finished => text.push_str("finished")?,
-        End::Failed(place) => write!(text, "failed{place}")?,
-        End::Stuck(place) => write!(text, "stuck{place}")?,
+        RunEnd::Finished => text.push_str("finished")?,
+        RunEnd::Failed(place) => write!(text, "failed{place}")?,
+        RunEnd::Stuck(place) => write!(text, "stuck{place}")?,
     }
     Ok(())
 }
@@ -48,7 +50,7 @@ fn play<R>(rt: &R, alloc: Global, cast: &str, bells: u32, workers: usize) -> Res
 where
     R: Threads + Wait + Sync + RandomSource + AllocGlobal,
 {
-    let scene = Scene::new(alloc);
+    let scene = Scene::new(alloc, false);
     let actors = cast_of(alloc, &scene, cast)?;
     let done = run_on_workers(rt, alloc, actors, workers, 10, bells)?;
     text_of(alloc, &done)
@@ -93,7 +95,7 @@ fn turns_of<R>(rt: &R, alloc: Global, cast: &str) -> Result<String, Memory>
 where
     R: Threads + Wait + Sync + RandomSource + AllocGlobal,
 {
-    let scene = Scene::new(alloc);
+    let scene = Scene::new(alloc, true);
     let actors = cast_of(alloc, &scene, cast)?;
     let _ = run_on_workers(rt, alloc, actors, 1, 10, 1)?;
     Ok(scene.into_turns())

@@ -4,13 +4,13 @@ ghost use Rattle.std.specs.List.{AllZip};
 ghost use Rattle.worker_pool.specs.Gathered.{AreFirst};
 
 use crate::runner::{Returned, Roster};
-use crate::turning::Turning;
+use crate::turning::TakesTurns;
 use sql_values::Memory;
 use std::alloc::Global;
 
 /// Puts each at its place. One that is missing was given up for want of memory.
 #[tactic(auto, using(crate::proofs::GatherLemmas::all_first))]
-pub(crate) fn gather<T: Turning, J: Roster<T>>(
+pub(crate) fn gather<T: TakesTurns, J: Roster<T>>(
     alloc: Global,
     mut returned: Vec<Returned<T, J>>,
     count: usize,
@@ -28,7 +28,7 @@ pub(crate) fn gather<T: Turning, J: Roster<T>>(
 
 /// Takes off the places, where they go up from 0 by one.
 #[tactic(auto, using(crate::proofs::GatherLemmas::first_more))]
-fn in_order<T: Turning, J: Roster<T>>(
+fn in_order<T: TakesTurns, J: Roster<T>>(
     alloc: Global,
     returned: Vec<Returned<T, J>>,
 ) -> Result<Vec<T>, Memory>

@@ -1,6 +1,6 @@
 //! Items that are given turns by several workers, who share them.
 //!
-//! An item (`Turning`) works a turn at a time, and says what a turn came to. `run_on_workers` takes items, and gives
+//! An item (`TakesTurns`) works a turn at a time, and says what a turn came to. `run_on_workers` takes items, and gives
 //! turns until all are finished or one has failed; then all come back, each at the place at which it came. What runs
 //! is up to the item's type: `follows` says what stays of an item over its turns, and what comes back follows what came.
 //!
@@ -8,7 +8,7 @@
 //! the queue, at a bell, or to those that have no more turns. A ring of a bell makes those ready who are parked there. A
 //! worker that finds none ready sleeps, and is over where nobody can make one ready. After a fault no turn begins.
 //!
-//! - `turning`: the trait `Turning`, and what a turn comes to (`specs/Turns.antt`)
+//! - `turning`: the trait `TakesTurns`, and what a turn comes to (`specs/Turns.antt`)
 //! - `runner`: items as they go through the pool. Of what lies behind a lock only its type is known, so each is
 //!   tied by its type to the one that came: `Roster` names the items that came, and each run picks them
 //! - `turned`: one turn, with what becomes of the item
@@ -31,6 +31,6 @@ mod shared;
 mod turned;
 mod turning;
 
-pub use end::End;
+pub use end::RunEnd;
 pub use run::{Done, run_on_workers};
-pub use turning::{Turn, Turning};
+pub use turning::{TakesTurns, Turn};

@@ -5,7 +5,7 @@ ghost use Rattle.worker_pool.specs.Items.{Placed};
 ghost use Rattle.worker_pool.specs.Pools.{IsPicked, admitted, all_admitted, all_offered, all_returned, fell_short, first_of, left_work, offered, stops, weigh, with_returned};
 
 use crate::runner::{Returned, Roster, Runner, Waiter};
-use crate::turning::Turning;
+use crate::turning::TakesTurns;
 use blocked::Waiters;
 use feedback_queue::Feedback;
 use sql_values::Memory;
@@ -26,7 +26,7 @@ pub(crate) enum Next<W> {
 }
 
 #[derive(Drop)]
-pub(crate) struct Pool<T: Turning, J: Roster<T>> {
+pub(crate) struct Pool<T: TakesTurns, J: Roster<T>> {
     ready: Feedback<Runner<T, J>>,
     returned: Vec<Returned<T, J>>,
     at_work: u64,
@@ -34,7 +34,7 @@ pub(crate) struct Pool<T: Turning, J: Roster<T>> {
     is_short: bool,
 }
 
-impl<T: Turning, J: Roster<T>> Model for Pool<T, J> {
+impl<T: TakesTurns, J: Roster<T>> Model for Pool<T, J> {
     ghost use Rattle.worker_pool.specs.Pools.{PoolState};
 
     ghost Value = { PoolState T };
@@ -48,7 +48,7 @@ impl<T: Turning, J: Roster<T>> Model for Pool<T, J> {
     } };
 }
 
-impl<T: Turning, J: Roster<T>> Pool<T, J> {
+impl<T: TakesTurns, J: Roster<T>> Pool<T, J> {
     pub(crate) fn new(alloc: Global) -> Pool<T, J>
         ensures { result ≡ record { ready = empty_queue; returned = []; at_work = 0; first_failed = None; is_short = false } }
     {

@@ -4,7 +4,7 @@ ghost use Rattle.blocked.specs.Counts.{most_count};
 
 use crate::runner::Roster;
 use crate::shared::Shared;
-use crate::turning::Turning;
+use crate::turning::TakesTurns;
 use blocked::{Bell, Bells, Due};
 use sql_values::Memory;
 use std::alloc::Global;
@@ -13,7 +13,7 @@ use std::thread::Threads;
 
 /// The bells during one turn. A ring makes those ready who waited for it.
 #[derive(Drop)]
-pub(crate) struct PoolBells<'p, T: Turning, J: Roster<T>> {
+pub(crate) struct PoolBells<'p, T: TakesTurns, J: Roster<T>> {
     shared: &'p Shared<T, J>,
     alloc: Global,
     // The greatest count that was read, and how many dues were taken.
@@ -21,7 +21,7 @@ pub(crate) struct PoolBells<'p, T: Turning, J: Roster<T>> {
     rings: u64,
 }
 
-impl<'p, T: Turning, J: Roster<T>> PoolBells<'p, T, J> {
+impl<'p, T: TakesTurns, J: Roster<T>> PoolBells<'p, T, J> {
     pub(crate) fn new(alloc: Global, shared: &'p Shared<T, J>) -> PoolBells<'p, T, J> {
         PoolBells {
             shared,
@@ -32,7 +32,7 @@ impl<'p, T: Turning, J: Roster<T>> PoolBells<'p, T, J> {
     }
 }
 
-impl<T: Turning, J: Roster<T>> Bells for PoolBells<'_, T, J> {
+impl<T: TakesTurns, J: Roster<T>> Bells for PoolBells<'_, T, J> {
     ghost shown = { λ bells _ count. count ≤ bells.greatest };
 
     ghost rang = { λ bells _ times. min times most_count ≤ bells.rings };

@@ -3,14 +3,14 @@ ghost use Rattle.std.specs.Prelude.{◌≡◌, IfOk};
 ghost use Rattle.std.specs.List.{AllZip};
 ghost use Rattle.worker_pool.specs.Gathered.{IsEnd};
 
-use crate::end::{End, end_of};
+use crate::end::{RunEnd, end_of};
 use crate::gather::gather;
 use crate::pool::Pool;
 use crate::pool_bells::PoolBells;
 use crate::runner::{Returned, Roster, Runner, Waiter};
 use crate::shared::Shared;
-use crate::turned::{Turned, turn};
-use crate::turning::Turning;
+use crate::turned::{AfterTurn, turn};
+use crate::turning::TakesTurns;
 use futures::task::{Doorbell, Solo};
 use sql_values::Memory;
 use std::alloc::Global;
@@ -20,17 +20,18 @@ use std::sync::Wait;
 use std::thread;
 use std::thread::Threads;
 
-/// Items that had their turns, each at the place at which it came, and how the run ended.
+/// Items that had their turns, each at the place at which it came, and how the run ended. Of several that failed the
+/// end names one; whoever has to know all of them looks at the items.
 #[derive(Drop)]
 pub struct Done<T> {
     pub items: Vec<T>,
-    pub end: End,
+    pub end: RunEnd,
 }
 
 /// Gives turns to items until all are finished or one has failed, on so many workers, at least one. Each worker gives one
 /// turn after the other, to the item that `Feedback` picks. An item that waits at one of these bells is ready once
 /// that bell rings; one that waits at a bell of another number is never ready again. Want of memory drops all items.
-pub fn run_on_workers<T: Turning + Send, R>(
+pub fn run_on_workers<T: TakesTurns + Send, R>(
     rt: &R,
     alloc: Global,
     items: Vec<T>,
@@ -49,7 +50,7 @@ where
 }
 
 /// Hands back all items, and the place of the one that failed first.
-fn run_listed<T: Turning + Send, J: Roster<T> + Send + Sync, R>(
+fn run_listed<T: TakesTurns + Send, J: Roster<T> + Send + Sync, R>(
     rt: &R,
     alloc: Global,
     items: Vec<T>,
@@ -77,7 +78,7 @@ where
 }
 
 /// One worker: gives turns until it is over.
-fn work<T: Turning, J: Roster<T>, R>(rt: &R, alloc: Global, shared: &Shared<T, J>, quantum: u32)
+fn work<T: TakesTurns, J: Roster<T>, R>(rt: &R, alloc: Global, shared: &Shared<T, J>, quantum: u32)
 where
     R: Threads + Wait + Sync + RandomSource + AllocGlobal,
 {
@@ -93,14 +94,14 @@ where
     }
 }
 
-fn give_turn<T: Turning, J: Roster<T>, R: Threads + Wait + Sync>(
+fn give_turn<T: TakesTurns, J: Roster<T>, R: Threads + Wait + Sync>(
     rt: &R,
     alloc: Global,
     shared: &Shared<T, J>,
     solo: &Solo,
     runner: Runner<T, J>,
     quantum: u32,
-) -> Turned<Runner<T, J>, Waiter<T, J>, Returned<T, J>> {
+) -> AfterTurn<Runner<T, J>, Waiter<T, J>, Returned<T, J>> {
     let mut bells = PoolBells::new(alloc, shared);
     let mut cx = solo.begin();
     let turned = turn(rt, runner, quantum, &mut cx, &mut bells);

@@ -2,7 +2,7 @@
 ghost use Rattle.std.specs.Prelude.{◌≡◌, ◌||◌, List, [], Some, slice_get};
 ghost use Rattle.worker_pool.specs.Items.{CanTurn, CameAs, IsRunner};
 
-use crate::turning::Turning;
+use crate::turning::TakesTurns;
 use blocked::BlockedOn;
 use std::marker::{Brand, Model, PhantomData};
 
@@ -17,13 +17,13 @@ impl<T> Roster<T> for Brand {
 
 /// An item that can have a turn.
 #[derive(Drop)]
-pub(crate) struct Runner<T: Turning, J: Roster<T>> {
+pub(crate) struct Runner<T: TakesTurns, J: Roster<T>> {
     pub(crate) place: usize,
     pub(crate) item: T,
     of: PhantomData<J>,
 }
 
-impl<T: Turning, J: Roster<T>> Model for Runner<T, J> {
+impl<T: TakesTurns, J: Roster<T>> Model for Runner<T, J> {
     ghost use Rattle.worker_pool.specs.Items.{Placed, IsRunner};
 
     ghost Value = { Placed T };
@@ -34,7 +34,7 @@ impl<T: Turning, J: Roster<T>> Model for Runner<T, J> {
         (record { place = r.place; item = r.item }) };
 }
 
-impl<T: Turning, J: Roster<T>> Runner<T, J> {
+impl<T: TakesTurns, J: Roster<T>> Runner<T, J> {
     pub(crate) fn new(place: usize, item: T) -> Runner<T, J>
         requires came { CameAs T.follows J.came (record { place = place; item = item }) }
         requires can_turn { CanTurn T.is_finished T.has_failed item }
@@ -72,13 +72,13 @@ impl<T: Turning, J: Roster<T>> Runner<T, J> {
 
 /// An item that has no more turns.
 #[derive(Drop)]
-pub(crate) struct Returned<T: Turning, J: Roster<T>> {
+pub(crate) struct Returned<T: TakesTurns, J: Roster<T>> {
     pub(crate) place: usize,
     item: T,
     of: PhantomData<J>,
 }
 
-impl<T: Turning, J: Roster<T>> Model for Returned<T, J> {
+impl<T: TakesTurns, J: Roster<T>> Model for Returned<T, J> {
     ghost use Rattle.worker_pool.specs.Items.{Placed, CameAs};
 
     ghost Value = { Placed T };
@@ -88,7 +88,7 @@ impl<T: Turning, J: Roster<T>> Model for Returned<T, J> {
     ghost invariant = { λ r. CameAs T.follows J.came (record { place = r.place; item = r.item }) };
 }
 
-impl<T: Turning, J: Roster<T>> Returned<T, J> {
+impl<T: TakesTurns, J: Roster<T>> Returned<T, J> {
     pub(crate) fn new(place: usize, item: T) -> Returned<T, J>
         requires { CameAs T.follows J.came (record { place = place; item = item }) }
         ensures { result ≡ record { place = place; item = item } }
@@ -146,12 +146,12 @@ impl<T: Turning, J: Roster<T>> Returned<T, J> {
 
 /// An item that waits at a bell, with the future that its last turn answered.
 #[derive(Drop)]
-pub(crate) struct Waiter<T: Turning, J: Roster<T>> {
+pub(crate) struct Waiter<T: TakesTurns, J: Roster<T>> {
     runner: Runner<T, J>,
     on: BlockedOn,
 }
 
-impl<T: Turning, J: Roster<T>> Model for Waiter<T, J> {
+impl<T: TakesTurns, J: Roster<T>> Model for Waiter<T, J> {
     ghost use Rattle.worker_pool.specs.Items.{Waiting};
 
     ghost Value = { Waiting T };
@@ -161,7 +161,7 @@ impl<T: Turning, J: Roster<T>> Model for Waiter<T, J> {
     ghost invariant = { λ w. T.waits_at w.runner.item w.on.bell w.on.seen };
 }
 
-impl<T: Turning, J: Roster<T>> Waiter<T, J> {
+impl<T: TakesTurns, J: Roster<T>> Waiter<T, J> {
     pub(crate) fn new(runner: Runner<T, J>, on: BlockedOn) -> Waiter<T, J>
         requires { T.waits_at runner.item on.bell on.seen }
         ensures { result ≡ record { runner = runner; bell = on.bell; seen = on.seen } }

@@ -3,22 +3,22 @@ ghost use Rattle.std.specs.Prelude.{◌≡◌, ◌<◌, nat_lt, IfOk};
 
 use crate::pool::{AtWork, Next, Pool};
 use crate::runner::{Returned, Roster, Runner, Waiter};
-use crate::turned::Turned;
-use crate::turning::Turning;
+use crate::turned::AfterTurn;
+use crate::turning::TakesTurns;
 use blocked::{Board, Due, NotParked};
 use sql_values::Memory;
 use std::alloc::Global;
 use std::sync::{Condvar, Mutex, Wait};
 
 #[derive(Drop)]
-pub(crate) struct Shared<T: Turning, J: Roster<T>> {
+pub(crate) struct Shared<T: TakesTurns, J: Roster<T>> {
     pool: Mutex<Pool<T, J>>,
     bells: Board<Waiter<T, J>>,
     // Notified when one becomes ready in the turn of another, and when it is over.
     moved: Condvar,
 }
 
-impl<T: Turning, J: Roster<T>> Shared<T, J> {
+impl<T: TakesTurns, J: Roster<T>> Shared<T, J> {
     pub(crate) fn new(alloc: Global, pool: Pool<T, J>, bells: u32) -> Result<Shared<T, J>, Memory>
         ensures { IfOk result (λ shared. shared.bells ≡ bells) }
     {
@@ -48,12 +48,12 @@ impl<T: Turning, J: Roster<T>> Shared<T, J> {
         &self,
         rt: &R,
         turn: AtWork,
-        turned: Turned<Runner<T, J>, Waiter<T, J>, Returned<T, J>>,
+        turned: AfterTurn<Runner<T, J>, Waiter<T, J>, Returned<T, J>>,
     ) {
         match turned {
-            Turned::Ready(runner) => self.put_back(rt, turn, runner),
-            Turned::Waits(waiter) => self.park(rt, turn, waiter),
-            Turned::Over(returned) => self.take_back(rt, turn, returned),
+            AfterTurn::Ready(runner) => self.put_back(rt, turn, runner),
+            AfterTurn::Waits(waiter) => self.park(rt, turn, waiter),
+            AfterTurn::Over(returned) => self.take_back(rt, turn, returned),
         }
     }
 

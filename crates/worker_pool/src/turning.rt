@@ -22,7 +22,7 @@ pub enum Turn {
 }
 
 /// What is given turns until it is finished.
-pub trait Turning: Drop {
+pub trait TakesTurns: Drop {
     // How much was done for it.
     ghost work: { Self → ℕ };
 

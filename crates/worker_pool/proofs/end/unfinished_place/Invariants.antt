@@ -2,4 +2,4 @@ use Rattle.std.proofs.Common.{◌≡◌, ℕ, ◌<◌, slice_index_or, true}
 use Rattle.worker_pool.proofs.end.unfinished_place.Given as goal
 
 abbrev pub invariant-loop-place : goal.invariant-loop-place
-invariant-loop-place g l = (k : ℕ) (d : g.row.T.Denot) → k < l.place → g.T.Turning.is_finished (slice_index_or l.items k d) ≡ true
+invariant-loop-place g l = (k : ℕ) (d : g.row.T.Denot) → k < l.place → g.T.TakesTurns.is_finished (slice_index_or l.items k d) ≡ true

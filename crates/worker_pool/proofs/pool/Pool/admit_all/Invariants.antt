@@ -7,6 +7,6 @@ abbrev pub invariant-loop-item : goal.invariant-loop-item
 invariant-loop-item g l = record {
   rest : drop l.place l.fn.items.items ≡ into_iter_items l.item-iterator;
   within : l.place + length (into_iter_items l.item-iterator) ≡ length l.fn.items.items;
-  pool : all_admitted g.T.Turning.work g.T.Turning.is_finished g.T.Turning.has_failed l.place (into_iter_items l.item-iterator) l.self
-      ≡ all_admitted g.T.Turning.work g.T.Turning.is_finished g.T.Turning.has_failed 0 l.fn.items.items l.fn.self;
+  pool : all_admitted g.T.TakesTurns.work g.T.TakesTurns.is_finished g.T.TakesTurns.has_failed l.place (into_iter_items l.item-iterator) l.self
+      ≡ all_admitted g.T.TakesTurns.work g.T.TakesTurns.is_finished g.T.TakesTurns.has_failed 0 l.fn.items.items l.fn.self;
 }

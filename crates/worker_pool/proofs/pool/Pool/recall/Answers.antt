@@ -15,5 +15,5 @@ loop-work-preserved g c h =
       is_short = c.self.inside.is_short;
     } in
     let pool : PoolState g.row.T.Denot = record old { ready = c.take.new.self } in
-    ap (weigh h) c.in_ok-keep.ensures ∙ (ap (λ x. weigh h (with_returned g.T.Turning.has_failed x pool)) c.give_back.ensures
-    ∙ (kept_weighs g.T.Turning.has_failed old c.take.new.self taken c.in-Some.ensures h ∙ (ap (weigh h) c.self.view_is ∙ c.loop-work.invariant h)))
+    ap (weigh h) c.in_ok-keep.ensures ∙ (ap (λ x. weigh h (with_returned g.T.TakesTurns.has_failed x pool)) c.give_back.ensures
+    ∙ (kept_weighs g.T.TakesTurns.has_failed old c.take.new.self taken c.in-Some.ensures h ∙ (ap (weigh h) c.self.view_is ∙ c.loop-work.invariant h)))

@@ -110,8 +110,8 @@ pub record WorkedFrom (d e : DriverState) (Y : List Row) (units : ℕ) : Type 0 
   pub went : WentOn ghosts d.stages e.stages (rows_taken d.source) (rows_taken e.source) Y rows (has_ended d.source) (has_ended e.source)
   pub counts : Counted ghosts d.stages e.stages (rows_taken d.source) (rows_taken e.source) Y rows units
 
--- it went on from whatever its target was given, its stages came from what they came from, and its work is so much more as rows entered its stages and its target,
--- up to the most that the count holds
+-- it went on from whatever its target was given, its stages came from what they came from, and its work is as much more
+-- as rows entered its stages and its target, up to the most that the count holds
 pub record HasWorked (d e : DriverState) : Type 0 where
   pub units : ℕ
   pub went : (Y : List Row) → was_given d.target Y → WorkedFrom d e Y units

@@ -58,6 +58,13 @@ IsOut (Rows rows) = rows.is_ended ≡ true
 IsOut (Local local) = local.inbox ≡ None
 IsOut (Remote remote) = remote.inbox ≡ None
 
+-- where it gives a page: a scan, and rows of its own, have ended as before
+abbrev pub EndsAsBefore : Bool → Source → Type 0
+EndsAsBefore ended (Scan scan) = scan.seat.is_ended ≡ ended
+EndsAsBefore ended (Rows rows) = rows.is_ended ≡ ended
+EndsAsBefore ended (Local local) = Unit {0}
+EndsAsBefore ended (Remote remote) = Unit {0}
+
 -- no row is left: of an edge every End was taken, or its own, and every page was handed on
 abbrev pub IsDrained : Source → Type 0
 IsDrained (Scan scan) = scan.left ≡ 0

@@ -149,7 +149,7 @@ impl<'w> Driver<'w> {
     }
 
     /// Moves rows until its target is finished, `quantum` of them entered a stage or the target, or nothing
-    /// moves and a stage or the target waits. The future of one who waits has then registered with the context.
+    /// moves and a stage, the source or the target waits. The future of one who waits has then registered with the context.
     /// Where the last stage is finished, the target is told, and ends: a build is published, and the bell of its
     /// cell is rung.
     pub fn turn<R: Threads + Wait + Sync, B: Bells>(

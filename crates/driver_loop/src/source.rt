@@ -1,6 +1,6 @@
 //! Where the pages of a driver come from, one variant each.
 ghost use Rattle.std.specs.Prelude.{◌≡◌, ◌++◌, ℕ, true, IfOk, MatchOption};
-ghost use Rattle.driver_loop.specs.Ends.{has_ended, claim_of, rows_taken, source_dues, source_looks, source_made, IsBegun, IsDrained, IsOut};
+ghost use Rattle.driver_loop.specs.Ends.{has_ended, claim_of, rows_taken, source_dues, source_looks, source_made, EndsAsBefore, IsBegun, IsDrained, IsOut};
 ghost use Rattle.driver_loop.specs.Seats.{gather_take_of, spread_take_of};
 
 use crate::rows_source::RowsSource;
@@ -75,12 +75,14 @@ impl<'w> PageSource for Source<'w> {
 }
 
 impl<'w> Source<'w> {
-    /// The next page. Where there is none, a scan and rows of the plan have ended; an edge may give one later.
+    /// The next page. Where there is none, and only there, a scan and rows of the plan have ended; an edge may give one
+    /// later.
     fn next(&mut self) -> Result<Option<Page>, Memory>
         ensures made { source_made self.new ≡ source_made self.old }
         ensures page { IfOk result (λ o. MatchOption o
             ((rows_taken self.new ≡ rows_taken self.old) × IsOut self.new)
-            (λ page. rows_taken self.new ≡ rows_taken self.old ++ page.rows)) }
+            (λ page. (rows_taken self.new ≡ rows_taken self.old ++ page.rows)
+            × EndsAsBefore (has_ended self.old) self.new)) }
         ensures looks { source_looks self.new ≡ source_looks self.old }
         ensures dues { (bell : ℕ) → source_dues self.new bell ≡ source_dues self.old bell }
     {

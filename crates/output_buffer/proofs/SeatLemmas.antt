@@ -2,7 +2,7 @@
 use Rattle.std.proofs.Common.{◌≡◌, ℕ, zero, suc, ◌+◌, ◌-◌, ◌<◌, ◌≤◌, length, List, [], ◌∷◌, ◌++◌, refl, sym, ap, ◌∙◌, arith}
 use Rattle.std.specs.Prelude.{flat_map, sum_by, All}
 use Rattle.std.proofs.lemmas.List.{length_push}
-use Rattle.std.proofs.lemmas.List.Elements.{All-push}
+use Rattle.std.proofs.lemmas.List.Elements.{All-cons, All-nil, All-push, All-tail}
 use Rattle.std.proofs.lemmas.List.Sums.{sum_by-append, sum_by_push}
 use Rattle.bag_laws.proofs.BagLemmas.{weight-flat_map}
 use Rattle.bag_laws.specs.Weights.{SameWeights, Within}
@@ -63,12 +63,13 @@ may_spread_pages seat (Rows page) going = omega (arith, going)
 may_spread_pages seat (End number) few = omega arith
 
 pub joined_none : (v : EdgeView) → JoinedPuts v [] v
-joined_none v = record { parts = omega arith; once = omega arith; putting = omega arith; put = λ weight. omega arith; took = λ weight. refl }
+joined_none v = record { parts = omega arith; once = omega arith; each = All-nil (λ (s : GatherPutState). end_count s.put ≤ 1); putting = omega arith; put = λ weight. omega arith; took = λ weight. refl }
 
 pub joined_one : (before : EdgeView) (front : List GatherPutState) (last : GatherPutState) (after : EdgeView) → end_count last.put ≤ 1 → JoinedPuts (together before (view_of_gather_put last)) front after → JoinedPuts before (front ++ last ∷ []) after
 joined_one before front last after once j = record {
   parts = omega (arith, j.parts, length_push front last);
   once = omega (arith, j.once, once, length_push front last, more ends_in);
+  each = All-push (λ (s : GatherPutState). end_count s.put ≤ 1) front last j.each once;
   putting = omega (arith, j.putting, once, length_push front last, more ends_in);
   put = λ weight. omega (arith, j.put weight, sum_by-append weight before.put last.put, more weight);
   took = λ weight. omega (arith, j.took weight, sum_by-append weight before.took []);
@@ -97,6 +98,24 @@ within took items put same = record { rest = items; whole = same }
 
 pub settled : (took items put : List Piece) → items ≡ [] → SameWeights (took ++ items) put → SameWeights took put
 settled took items put none same = record { weighs = λ weight. omega (arith, same.weighs weight, sum_by-append weight took items, ap (sum_by weight) none) }
+
+-- where as many Ends were put as there are putters, and none put two, each put one
+each_ended : (puts : List GatherPutState) → All (λ s. end_count s.put ≤ 1) puts → length puts ≤ end_count (put_by puts) → All (λ s. 0 < end_count s.put) puts
+each_ended [] few ended = All-nil (λ (s : GatherPutState). 0 < end_count s.put)
+each_ended (s ∷ puts) few ended =
+    let rest : All (λ s. end_count s.put ≤ 1) puts = All-tail (λ (s : GatherPutState). end_count s.put ≤ 1) s puts few in
+    let here : end_count s.put ≤ 1 = few 0 s (omega arith) in
+    let both : end_count (put_by (s ∷ puts)) ≡ end_count s.put + end_count (put_by puts) = sum_by-append ends_in s.put (put_by puts) in
+    All-cons (λ (s : GatherPutState). 0 < end_count s.put) s puts (omega (arith, ended, both, most_ends puts rest)) (each_ended puts rest (omega (arith, ended, both, here)))
+  where
+    most_ends : (all : List GatherPutState) → All (λ s. end_count s.put ≤ 1) all → end_count (put_by all) ≤ length all
+    most_ends [] none = omega arith
+    most_ends (x ∷ xs) each = omega (arith, each 0 x (omega arith), most_ends xs (All-tail (λ (s : GatherPutState). end_count s.put ≤ 1) x xs each), sum_by-append ends_in x.put (put_by xs))
+
+-- where every End was taken, each putter put its own
+pub gather_ends : (take : GatherTakeState) (puts : List GatherPutState) (before after : EdgeView) → length puts ≡ take.putters → JoinedPuts before puts after
+    → (HasEnded take → SameWeights take.took (put_by puts)) → HasEnded take → All (λ s. 0 < end_count s.put) puts
+gather_ends take puts before after all j same ended = each_ended puts j.each (omega (arith, all, ended, (same ended).weighs ends_in))
 
 -- at a stop, and where every End was taken
 pub gather_stopped : (take : GatherTakeState) (puts : List GatherPutState) (before after : EdgeView) (items : List Piece) → take.putters < all_parts → length puts ≡ take.putters

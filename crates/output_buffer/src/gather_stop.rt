@@ -23,7 +23,7 @@ pub fn settle_gather(puts: Vec<GatherPut<'_>>, take: GatherTake<'_>)
 }
 
 /// Gives back all seats of an edge, wherever they stand: what was taken is part of what was put, and all of it
-/// where every End was taken.
+/// where every End was taken; each putter then put its End.
 pub fn stop_gather(puts: Vec<GatherPut<'_>>, take: GatherTake<'_>)
     requires edge { AreGatherPutsOf take.edge puts.items }
     requires all { length puts.items ≡ take.putters }
@@ -32,6 +32,7 @@ pub fn stop_gather(puts: Vec<GatherPut<'_>>, take: GatherTake<'_>)
     ensures ended { HasEnded take.entry → SameWeights take.entry.took (put_by puts.entry.items) }
     ensures rows { HasEnded take.entry
         → SameWeights (rows_of_pieces take.entry.took) (rows_of_pieces (put_by puts.entry.items)) }
+    ensures ends { HasEnded take.entry → All (λ s. 0 < end_count s.put) puts.entry.items }
 {
     let GatherTake {
         queue,

@@ -1,8 +1,8 @@
 ghost use Rattle.std.specs.Prelude.{◌≡◌, ◌⊎◌, ◌↔◌, ◌<◌, ◌≤◌, ◌++◌, ◌∷◌, [], List, false, true, Some, option_map, IsTrue, IfOk, IfErr, OnOk, OnErr, IfSome};
 ghost use Rattle.col_pages.specs.Pages.{TypedPage};
-ghost use Rattle.page_window.specs.Windows.{pushed, acknowledged};
+ghost use Rattle.page_window.specs.Windows.{pushed, acknowledged, end_of};
 ghost use Rattle.exchange_client.specs.Clients.{kept_as, pages_given};
-ghost use Rattle.exchange_client.specs.Fetches.{Carries, HasRoom, MayArrive, rest, prepared, begun_anew, is_used_up, fresh_of, KeepsRest, GivesWhatIsLeft};
+ghost use Rattle.exchange_client.specs.Fetches.{Carries, HasRoom, MayArrive, rest, prepared, begun_anew, is_used_up, last_token, fresh_of, KeepsRest, GivesWhatIsLeft};
 ghost use Rattle.exchange_client.specs.Steps.{IsDelivered, HasArrived, HasStepped, HasMissed, is_due, begun, taken, arriving};
 
 use crate::client::PageClient;
@@ -126,8 +126,8 @@ impl<C: Courier> Fetch<C> {
     }
 
     /// Asks for the next pages, and gives those that arrive. It gives none only where none was left, or where the
-    /// courier missed a turn before 64 steps in a row had none accepted. After Memory the pages still to be given
-    /// are as before.
+    /// courier missed a turn before 64 steps in a row had none accepted. Where none was left, and more may come, there is
+    /// room for one. After Memory the pages still to be given are as before.
     pub fn step(&mut self) -> Result<PageList, Memory>
         ensures step { IfOk result (λ pages. HasStepped (is_due self.old) (begun self.old) pages self.new) }
         ensures rest { IfOk result (λ pages. rest self.old ≡ pages ++ rest self.new) }
@@ -140,6 +140,7 @@ impl<C: Courier> Fetch<C> {
         ensures later { self.old.missed ≤ self.new.missed }
         ensures unasked { is_due self.old ≡ true → self.new.missed ≡ self.old.missed }
         ensures ended { self.new.window.is_ended ≡ self.old.window.is_ended }
+        ensures room { OnOk result (self.old.window.is_ended ≡ false → rest self.old ≡ [] → HasRoom self.new) }
         ensures err { OnErr result (self.new ≡ record (begun self.old) { missed = self.new.missed }) }
         ensures same_rest { OnErr result (rest self.new ≡ rest self.old) }
     {
@@ -153,6 +154,7 @@ impl<C: Courier> Fetch<C> {
         ensures due { result ≡ is_due self.old }
         ensures begun { self.new ≡ begun self.old }
         ensures same { KeepsRest self.old self.new }
+        ensures room { self.old.window.is_ended ≡ false → rest self.old ≡ [] → HasRoom self.new }
     {
         self.prepare();
         let due = MOST_FRUITLESS <= self.fruitless;
@@ -164,6 +166,7 @@ impl<C: Courier> Fetch<C> {
     fn prepare(&mut self)
         ensures prepared { self.new ≡ prepared self.old }
         ensures same { KeepsRest self.old self.new }
+        ensures room { self.old.window.is_ended ≡ false → rest self.old ≡ [] → HasRoom self.new }
     {
         if self.is_used_up() {
             self.begin_anew();
@@ -173,7 +176,8 @@ impl<C: Courier> Fetch<C> {
     }
 
     fn is_used_up(&self) -> bool
-        ensures { result ≡ is_used_up self.now }
+        ensures used { result ≡ is_used_up self.now }
+        ensures few { end_of self.now.window ≤ last_token }
     {
         let end = self.window.end_token();
         !self.window.is_ended() && end == u64::MAX && self.client.next_token() == end
@@ -194,6 +198,8 @@ impl<C: Courier> Fetch<C> {
           window = acknowledged self.old.window self.old.client.next;
         } }
         ensures same { KeepsRest self.old self.new }
+        ensures room { is_used_up self.old ≡ false → end_of self.old.window ≤ last_token
+            → self.old.window.is_ended ≡ false → rest self.old ≡ [] → HasRoom self.new }
     {
         let Ok(()) = self.window.ack(self.client.next_token()) else {
             unreachable!()

@@ -22,7 +22,7 @@ length-set [] i x = refl
 length-set (y ∷ xs) zero x = refl
 length-set (y ∷ xs) (suc i) x = ap suc (length-set xs i x)
 
-get-set : {A : Type 0} (xs : List A) (i : ℕ) (x : A) → i < length xs → x ≡ get_or (set xs i x) i x
+pub get-set : {A : Type 0} (xs : List A) (i : ℕ) (x : A) → i < length xs → x ≡ get_or (set xs i x) i x
 get-set [] i x h = absurd (omega arith)
 get-set (y ∷ xs) zero x h = refl
 get-set (y ∷ xs) (suc i) x h = get-set xs i x (omega arith)

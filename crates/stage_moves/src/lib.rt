@@ -10,6 +10,8 @@
 //! - the rows that it answers are those that entered a stage or the target, no more and no fewer, also where a
 //!   stage failed on them: `LinkedBy` counts them, and `Counted` says that the count rose by the answer
 //!   (`specs/Counts.antt`)
+//! - where a pass moved no row and has no page for the target, nothing could move: no stage holds a row that the next
+//!   one would take, nor the last one a row for a target that wants a page (`IsQuiet`, `specs/Quiet.antt`)
 //! - a failure is one of a stage here, whatever rows still come to it (`specs/Moves.antt`)
 //!
 //! After want of memory nothing is said of the stages. A page of other types than a stage expects counts as want

@@ -1,5 +1,5 @@
 //! The moves of a driver. A driver keeps `Linked` and `ToldInTurn` of its stages over each of them.
-ghost use Rattle.std.specs.Prelude.{◌≡◌, ◌+◌, ◌<◌, ◌≤◌, ◌++◌, ℕ, List, [], true, false, None, length, map, IfOk};
+ghost use Rattle.std.specs.Prelude.{◌≡◌, ◌+◌, ◌<◌, ◌≤◌, ◌++◌, ℕ, List, [], true, false, None, length, map, IfOk, IfSome, IsOk};
 ghost use Rattle.sql_values.specs.declared.fail.Fail.{Fail as Kind};
 ghost use Rattle.col_pages.specs.Pages.{most_rows};
 ghost use Rattle.operator_core.specs.Answers.{NotMemory, gave};
@@ -8,11 +8,13 @@ ghost use Rattle.operator_core.specs.Stages.{Linked, ToldInTurn, last_finished, 
 ghost use Rattle.stage_moves.specs.Counts.{Counted};
 ghost use Rattle.stage_moves.specs.Moves.{Moved, SomeFails, first_needs, takes_page};
 ghost use Rattle.stage_moves.specs.Places.{AllStay};
+ghost use Rattle.stage_moves.specs.Quiet.{AreStill, IsQuiet, NeedsLaws};
 
 use crate::typed_operator::TypedOperator;
 use col_pages::Page;
-use operator_core::OpFault;
 use operator_core::stage::{give_out, take_in, tell};
+use operator_core::{OpFault, Operator, laws};
+use std::marker::PhantomData;
 
 /// What a move came to.
 #[derive(Drop)]
@@ -21,6 +23,11 @@ pub struct Moving {
     pub rows: u32,
     pub outcome: Result<(), OpFault>,
 }
+
+/// The laws of an operator of the rows that it holds and the pages that it takes, as one fact.
+fn needs_laws<O: Operator>(_of: PhantomData<O>)
+    ensures { NeedsLaws O.Operator }
+{}
 
 /// Whether a page of the source can be taken now: the first stage takes one or, where there is no stage, the
 /// target wants one.
@@ -65,6 +72,7 @@ pub fn feed<S: TypedOperator>(stages: &mut Vec<S>, page: Page) -> Result<Option<
     ensures counts { NotMemory result → (X Y : List Row) → Counted S.Operator stages.old.items
         stages.new.items X (X ++ page.rows) Y (Y ++ gave result) (length page.rows) }
     ensures none { 0 < length stages.old.items → IfOk result (λ o. o ≡ None) }
+    ensures past { IfOk result (λ o. IfSome o (λ _. length stages.new.items ≡ 0)) }
     ensures fault { (node : ℕ) (kind : Kind) → result ≡ Err (OpFault.Expr node kind)
         → SomeFails S.Operator stages.new.items node kind }
 {
@@ -90,9 +98,14 @@ pub fn move_page<S: TypedOperator>(stages: &mut Vec<S>, place: usize) -> Moving
         → Counted S.Operator stages.old.items stages.new.items X X Y Y result.rows }
     ensures len { length stages.new.items ≡ length stages.old.items }
     ensures few { result.rows ≤ most_rows }
+    ensures still { IsOk result.outcome → result.rows ≡ 0
+        → AreStill S.Operator place stages.old.items
+        → AreStill S.Operator (place + 1) stages.new.items }
     ensures fault { (node : ℕ) (kind : Kind) → result.outcome ≡ Err (OpFault.Expr node kind)
         → SomeFails S.Operator stages.new.items node kind }
 {
+    laws::laws::<S>(PhantomData);
+    needs_laws::<S>(PhantomData);
     if !stages[place + 1].needs_input() {
         return Moving {
             rows: 0,
@@ -133,7 +146,10 @@ pub fn pass_end<S: TypedOperator>(stages: &mut Vec<S>, place: usize, ended: bool
     ensures made { map S.as_made stages.new.items ≡ map S.as_made stages.old.items }
     ensures same { AllStay S.Operator stages.old.items stages.new.items }
     ensures len { length stages.new.items ≡ length stages.old.items }
+    ensures still { AreStill S.Operator place stages.old.items
+        → AreStill S.Operator place stages.new.items }
 {
+    needs_laws::<S>(PhantomData);
     if is_giver_finished(stages, place, ended) {
         tell(&mut stages[place]);
     }
@@ -145,6 +161,9 @@ pub fn drain<S: TypedOperator>(stages: &mut Vec<S>) -> Result<Option<Page>, OpFa
         → Moved S.Operator stages.old.items stages.new.items [] (gave result) }
     ensures counts { NotMemory result → (X Y : List Row) → Counted S.Operator stages.old.items
         stages.new.items X X Y (Y ++ gave result) (length (gave result)) }
+    ensures quiet { IsOk result → length (gave result) ≡ 0
+        → AreStill S.Operator (length stages.old.items) stages.old.items
+        → IsQuiet S.Operator true stages.new.items }
     ensures fault { (node : ℕ) (kind : Kind) → result ≡ Err (OpFault.Expr node kind)
         → SomeFails S.Operator stages.new.items node kind }
 {
@@ -152,5 +171,7 @@ pub fn drain<S: TypedOperator>(stages: &mut Vec<S>) -> Result<Option<Page>, OpFa
     if count == 0 {
         return Ok(None);
     }
+    laws::laws::<S>(PhantomData);
+    needs_laws::<S>(PhantomData);
     give_out(&mut stages[count - 1])
 }

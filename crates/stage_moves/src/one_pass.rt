@@ -1,6 +1,6 @@
 //! One pass over the stages of a driver: a page comes from the source, pages move on, and one comes out for
 //! the target.
-ghost use Rattle.std.specs.Prelude.{◌≡◌, ◌↔◌, ◌+◌, ◌++◌, ◌<◌, ◌≤◌, ℕ, List, Bool, true, false, None, Ok, length, IfOk, IsTrue};
+ghost use Rattle.std.specs.Prelude.{◌≡◌, ◌↔◌, ◌+◌, ◌++◌, ◌<◌, ◌≤◌, ℕ, List, Bool, true, false, None, Ok, length, IfOk, IfSome, IsOk, IsTrue};
 ghost use Rattle.sql_values.specs.declared.fail.Fail.{Fail as Kind};
 ghost use Rattle.col_pages.specs.Pages.{most_rows};
 ghost use Rattle.operator_core.specs.Rows.{Row};
@@ -9,6 +9,7 @@ ghost use Rattle.stage_moves.specs.Counts.{Counted};
 ghost use Rattle.stage_moves.specs.Moves.{SomeFails};
 ghost use Rattle.stage_moves.specs.Passes.{Passed};
 ghost use Rattle.stage_moves.specs.Outs.{rows_out};
+ghost use Rattle.stage_moves.specs.Quiet.{AreStill, IsQuiet};
 
 use crate::ends::PageSource;
 use crate::moves::{Moving, drain, feed, move_page, pass_end, takes_input};
@@ -53,6 +54,7 @@ pub fn take_page<I: PageSource, S: TypedOperator>(
     ensures dues { (bell : ℕ) → I.dues source.new bell ≡ I.dues source.old bell }
     ensures few { result.rows ≤ most_rows }
     ensures out { wants ≡ false → IfOk result.outcome (λ o. o ≡ None) }
+    ensures past { IfOk result.outcome (λ o. IfSome o (λ _. length stages.new.items ≡ 0)) }
     ensures fault { (node : ℕ) (kind : Kind) → result.outcome ≡ Err (OpFault.Expr node kind)
         → SomeFails S.Operator stages.new.items node kind }
 {
@@ -94,6 +96,9 @@ fn serve_stage<S: TypedOperator>(
         → SomeFails S.Operator stages.new.items node kind }
     ensures len { length stages.new.items ≡ length stages.old.items }
     ensures few { result.rows ≤ most_rows }
+    ensures still { has_room ≡ true → IsOk result.outcome → result.rows ≡ 0
+        → AreStill S.Operator place stages.old.items
+        → AreStill S.Operator (place + 1) stages.new.items }
     ensures none { has_room ≡ false → result.rows ≡ 0 }
 {
     pass_end(stages, place, ended);
@@ -116,6 +121,8 @@ pub fn move_pages<S: TypedOperator>(stages: &mut Vec<S>, ended: bool, room: u32)
     ensures fault { (node : ℕ) (kind : Kind) → result.outcome ≡ Err (OpFault.Expr node kind)
         → SomeFails S.Operator stages.new.items node kind }
     ensures few { result.rows < room + most_rows }
+    ensures still { 0 < room → IsOk result.outcome → result.rows ≡ 0
+        → AreStill S.Operator (length stages.new.items) stages.new.items }
     ensures out { IfOk result.outcome (λ o. o ≡ None) }
 {
     let mut moved: u64 = 0;
@@ -156,6 +163,9 @@ pub fn give_page<S: TypedOperator>(stages: &mut Vec<S>, wants: bool) -> Passing
         stages.new.items X X Y (Y ++ rows_out result) result.rows }
     ensures few { result.rows ≤ most_rows }
     ensures out { wants ≡ false → IfOk result.outcome (λ o. o ≡ None) }
+    ensures quiet { IsOk result.outcome → result.rows ≡ 0
+        → AreStill S.Operator (length stages.old.items) stages.old.items
+        → IsQuiet S.Operator wants stages.new.items }
     ensures fault { (node : ℕ) (kind : Kind) → result.outcome ≡ Err (OpFault.Expr node kind)
         → SomeFails S.Operator stages.new.items node kind }
 {
@@ -192,6 +202,8 @@ pub fn pass<I: PageSource, S: TypedOperator>(
     ensures dues { (bell : ℕ) → I.dues source.new bell ≡ I.dues source.old bell }
     ensures few { 0 < room → result.rows < room + most_rows }
     ensures out { wants ≡ false → IfOk result.outcome (λ o. o ≡ None) }
+    ensures quiet { 0 < room → IsOk result.outcome → result.rows ≡ 0
+        → IsQuiet S.Operator wants stages.new.items }
     ensures fault { (node : ℕ) (kind : Kind) → result.outcome ≡ Err (OpFault.Expr node kind)
         → SomeFails S.Operator stages.new.items node kind }
 {

@@ -1,7 +1,8 @@
-use Rattle.std.proofs.Common.{◌+◌, Option, set, refl, sym, arith}
+use Rattle.std.proofs.Common.{rules, ◌≡◌, false, ◌+◌, Option, Ok, set, refl, sym, ap, arith}
 use Rattle.col_pages.specs.Pages.{TypedPage}
 use Rattle.stage_moves.proofs.MoveLemmas.{none-gave, some-gave, Moved-none, Moved-gave_none, Moved-page, SomeFails-at, length-set, not-memory_err, err-err}
 use Rattle.stage_moves.proofs.CountLemmas.{Counted-gave_none, Counted-page, Counted-is}
+use Rattle.stage_moves.proofs.QuietLemmas.{Still-gave, Still-full, fit-some}
 use Rattle.stage_moves.proofs.moves.move_page.Goals as goal
 
 pub returns-in-Ok-None-clause-moved : goal.returns-in-Ok-None-clause-moved
@@ -42,3 +43,21 @@ returns-clause-fault g c = λ node kind e. SomeFails-at g.S.Operator (set c.args
 
 pub returns-then-not-needs_input-clause-moved : goal.returns-then-not-needs_input-clause-moved
 returns-then-not-needs_input-clause-moved g c = λ _. Moved-none g.S.Operator c.args.stages.now.items
+
+pub returns-in-Ok-None-clause-still : goal.returns-in-Ok-None-clause-still
+returns-in-Ok-None-clause-still g c = λ _ _ still. Still-gave g.S.Operator c.laws.ensures c.needs_laws.ensures c.args.stages.now.items c.args.place c.index_mut.result.now c.give_out.new.op
+    (omega (arith, c.requires)) c.index_mut.ensures.value (none-gave g.S.Operator _ _ c.in-Ok-None.field-0 c.in-Ok-None.field-0-is ((c.in-Ok-None.ensures).gave tt))
+    (((c.in-Ok-None.ensures).none tt).0 (ap Ok c.in-Ok-None.field-0-is)).0 still
+
+pub returns-then-not-needs_input-clause-still : goal.returns-then-not-needs_input-clause-still
+returns-then-not-needs_input-clause-still g c = λ _ _ still.
+    let none : g.S.Operator.needs_input c.index.result.now ≡ false = search rules in
+    Still-full g.S.Operator c.args.stages.now.items c.args.place c.index.result.now c.index.ensures none still
+
+pub returns-clause-still : goal.returns-clause-still
+returns-clause-still g c = λ _ none still. absurd (omega (
+  arith,
+  none,
+  (c.len-rows.ensures).len,
+  fit-some _ c.in-Ok-Some.field-0 c.in-Ok-Some.page _ c.in-Ok-Some.is c.in-Ok-Some.field-0-is c.give_out.ensures.size,
+))

@@ -3,6 +3,7 @@ use Rattle.stage_moves.proofs.MoveLemmas.{Told-links, Told-turns, Told-made, Tol
 use Rattle.operator_core.specs.Stages.{giver_finished}
 use Rattle.stage_moves.proofs.CountLemmas.{Counted-told}
 use Rattle.stage_moves.proofs.PlaceLemmas.{AllStay-same}
+use Rattle.stage_moves.proofs.QuietLemmas.{Still-told}
 use Rattle.stage_moves.proofs.moves.pass_end.Goals as goal
 
 pub returns-then-is_giver_finished-clause-links : goal.returns-then-is_giver_finished-clause-links
@@ -27,3 +28,7 @@ returns-then-is_giver_finished-clause-same g c = Told-same g.S.Operator c.args.s
 
 pub returns-else-is_giver_finished-clause-same : goal.returns-else-is_giver_finished-clause-same
 returns-else-is_giver_finished-clause-same g c = AllStay-same g.S.Operator c.args.stages.now.items
+
+pub returns-then-is_giver_finished-clause-still : goal.returns-then-is_giver_finished-clause-still
+returns-then-is_giver_finished-clause-still g c = λ still. Still-told g.S.Operator c.needs_laws.ensures c.args.stages.now.items c.args.place c.index_mut.result.now c.tell.new.op
+    c.requires c.index_mut.ensures.value c.tell.ensures still

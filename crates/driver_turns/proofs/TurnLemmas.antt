@@ -21,7 +21,8 @@ use Rattle.stage_moves.specs.Passes.{Passed}
 use Rattle.stage_moves.specs.Places.{AllStay, IsLater, AllLater}
 use Rattle.stage_moves.specs.Counts.{Counted}
 use Rattle.stage_moves.specs.Looks.{Looks, HasWaited}
-use Rattle.driver_turns.specs.Turns.{WentOn, WorkedTo, StageBlocked, StageFailed, IsHeldUp, IsBlocked, RangDues}
+use Rattle.stage_moves.specs.Quiet.{IsQuiet}
+use Rattle.driver_turns.specs.Turns.{WentOn, WorkedTo, StageBlocked, StageFailed, IsHeldUp, IsBlocked, IsHalted, RangDues}
 use Rattle.stage_moves.proofs.CountLemmas.{Counted-none, Counted-then}
 use Rattle.stage_moves.proofs.PlaceLemmas.{AllLater-same, AllLater-then, AllLater-looked, AllLater-stay, AllCameFrom-stay, each-at, each-length, item-is}
 
@@ -254,6 +255,24 @@ module _ {S : Type 0} (g : Ghosts S) where
   Blocked-who old mid new told wanted is_told su sl sn tu tm tn shown later full waits (Some on) none (inr is) stay e t same more held waited =
       inl (HeldUp-later old mid new su sl sn shown later on stay e more (some-held waits (λ on. IsHeldUp g old mid su sl shown on) on is.2 held), sym same ∙ is.0)
 
+  Halted-quiet : (ss : List S) (wants : Bool) (waits : Type 0) → IsQuiet g wants ss → (wants ≡ true) ⊎ waits → IsHalted g ss waits
+  Halted-quiet ss wants waits q (inl wanted) = record { stages = q.stages; last = inl (q.last wanted) }
+  Halted-quiet ss wants waits q (inr w) = record { stages = q.stages; last = inr w }
+
+  -- the target waits, or it had wanted a page, and nothing was left for it
+  pub Halted-who : (ss : List S) (wants : Bool) (tu tn : Looks) (shown : ℕ → ℕ → Type 0) (who : Option BlockedOn) → IsQuiet g wants ss
+      → IfSome who (λ on. (wants ≡ true) ⊎ HasWaited tu tn shown on) → IfSome who (λ on. IsHalted g ss (HasWaited tu tn shown on))
+  Halted-who ss wants tu tn shown None q h = tt
+  Halted-who ss wants tu tn shown (Some on) q h = Halted-quiet ss wants (HasWaited tu tn shown on) q h
+
+  pub Halted-since : (ss : List S) (ta tb tc : Looks) (shown : ℕ → ℕ → Type 0) (on : BlockedOn) → ta.in_vain ≤ tb.in_vain → IsHalted g ss (HasWaited tb tc shown on)
+      → IsHalted g ss (HasWaited ta tc shown on)
+  Halted-since ss ta tb tc shown on t h = record { stages = h.stages; last = since h.last }
+    where
+      since : {P : Type 0} → P ⊎ HasWaited tb tc shown on → P ⊎ HasWaited ta tc shown on
+      since (inl p) = inl p
+      since (inr w) = inr (Waited-since ta tb tc shown on t w)
+
   -- a failure is one of a stage, as it was made, on what came to it
   pub SomeFails-after : (ss : List S) (ended : Bool) (X Y : List Row) (node : ℕ) (kind : Fail) → SomeFails g ss node kind → Linked g ss X Y → ToldInTurn g ended ss
       → StageFailed g ss ended X node kind
@@ -276,6 +295,17 @@ wanted-who told wanted wants tu tm tn later full waits (Some on) none (inl is) t
     since : (a b c : ℕ) → a ≤ b → Rose b c → HasWaited tm tn later on → HasWaited tu tn later on
     since a b c h rose w = record { looked = omega (arith, t, w.looked); bell = w.bell; seen = w.seen; handed = w.handed; unrung = w.unrung }
 wanted-who told wanted wants tu tm tn later full waits (Some on) none (inr is) t same waited = inl (sym same ∙ is.1)
+
+-- what holds of who waits holds of it also where more is known
+pub all-told : (r : Result (Option BlockedOn) OpFault) (Q : Type 0) (P : BlockedOn → Type 0) → IfOk r (λ waits. IfSome waits P) → IfOk r (λ waits. IfSome waits (λ on. Q → P on))
+all-told (Ok None) Q P h = tt
+all-told (Ok (Some on)) Q P h = λ _. h
+all-told (Err fault) Q P h = tt
+
+-- who was told is not untold
+pub none-untold : (told : Bool) (o : Option BlockedOn) (P : BlockedOn → Type 0) → told ≡ true → IfSome o (λ on. told ≡ false → P on)
+none-untold told None P is = tt
+none-untold told (Some on) P is = λ not. absurd (let clash : true ≡ false = sym is ∙ not in cc)
 
 -- what holds of who waits holds of this one
 pub in-some : (r : Result (Option BlockedOn) OpFault) (o : Option BlockedOn) (on : BlockedOn) (P : BlockedOn → Type 0) → r ≡ Ok o → o ≡ Some on → IfOk r (λ waits. IfSome waits P) → P on

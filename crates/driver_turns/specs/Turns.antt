@@ -9,6 +9,7 @@ use Rattle.operator_core.specs.Stages.{Linked, ToldInTurn, AllCameFrom, FailsAft
 use Rattle.stage_moves.specs.Places.{AllLater}
 use Rattle.stage_moves.specs.Counts.{Counted}
 use Rattle.stage_moves.specs.Looks.{Looks, HasWaited}
+use Rattle.stage_moves.specs.Quiet.{AreStill, last_holds}
 use Rattle.driver_turns.specs.declared.turns.Turned.{Turned}
 use Rattle.driver_turns.specs.declared.turns.Turned.TheVariants.{Yield, Blocked, Finished}
 
@@ -63,6 +64,18 @@ abbrev pub TurnedSo : (BlockedOn → Type 0) → Bool → Bool → ℕ → ℕ �
 TurnedSo blocked told finished quantum units Yield = (quantum ≤ units) × (told ≡ false) × (finished ≡ false)
 TurnedSo blocked told finished quantum units (Blocked on) = blocked on × (finished ≡ false)
 TurnedSo blocked told finished quantum units Finished = finished ≡ true
+
+-- no stage holds a row that the next one would take, nor the last one any that it may give, unless it is the target
+-- that waits
+pub record IsHalted {S : Type 0} (g : Ghosts S) (ss : List S) (target_waits : Type 0) : Type 0 where
+  pub stages : AreStill g (length ss) ss
+  pub last : (last_holds g ss ≡ false) ⊎ target_waits
+
+-- what holds where a turn waits
+abbrev pub WhereBlocked : (BlockedOn → Type 0) → Turned → Type 0
+WhereBlocked holds Yield = Unit {0}
+WhereBlocked holds (Blocked on) = holds on
+WhereBlocked holds Finished = Unit {0}
 
 -- each bell was rung as much more often as more dues of it came
 abbrev pub RangDues : (old new : ℕ → ℕ → Type 0) (was is : ℕ → ℕ) → Type 0

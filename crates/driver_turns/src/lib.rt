@@ -13,6 +13,8 @@
 //!   quantum and while the target was not told, and waits only where somebody looked in this turn, in vain
 //!   (`IsBlocked`): once the target was told, only the target. The bell that it names is the one at which this one
 //!   waits, with the count that the look was handed and that the bell showed
+//! - `IsHalted`: where it waits and the target was not told, no stage holds a row that the next one would take, nor
+//!   the last one any that it may give, unless it is the target that waits. What the source has is not told
 //! - `RangDues`: each bell was rung, of those that the turn was given, as much more often as more dues of it came
 //! - `StageFailed`: a failure is one of a stage, as it was made, on what the stages before it gave of the rows
 //!   that came, whatever rows still come

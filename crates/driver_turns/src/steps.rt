@@ -8,7 +8,8 @@ ghost use Rattle.operator_core.specs.Stages.{last_finished};
 ghost use Rattle.stage_moves.specs.Looks.{HasWaited};
 ghost use Rattle.stage_moves.specs.Moves.{SomeFails};
 ghost use Rattle.stage_moves.specs.Places.{AllStay, AllLater};
-ghost use Rattle.driver_turns.specs.Turns.{WorkedTo, IsBlocked, RangDues};
+ghost use Rattle.stage_moves.specs.Quiet.{IsQuiet};
+ghost use Rattle.driver_turns.specs.Turns.{WorkedTo, IsBlocked, IsHalted, RangDues};
 
 use crate::looks::{Ahead, look_ahead};
 use blocked::{Bells, BlockedOn};
@@ -93,6 +94,8 @@ fn move_on<I: PageSource, S: TypedOperator, T: PageTarget>(
         → T.is_told target.new ≡ true }
     ensures untold { NotMemory result.outcome → T.is_told target.new ≡ false
         → T.is_finished target.new ≡ T.is_finished target.old }
+    ensures quiet { IsOk result.outcome → result.units ≡ 0
+        → IsQuiet S.Operator (T.wants target.old) stages.new.items }
     ensures none { IfOk result.outcome (λ waits. waits ≡ None) }
     ensures few { result.units < room + most_rows }
     ensures failed { (node : ℕ) (kind : Kind) → result.outcome ≡ Err (OpFault.Expr node kind)
@@ -174,6 +177,8 @@ fn work<I: PageSource, S: TypedOperator, T: PageTarget, R: Threads + Wait + Sync
         (T.looks target.old) (T.looks target.new) (B.shown bells.new) on)) }
     ensures wanted { IfOk result.outcome (λ waits. IfSome waits (λ on. (T.wants target.old ≡ true)
         ⊎ HasWaited (T.looks target.old) (T.looks target.new) (B.shown bells.new) on)) }
+    ensures quiet { IfOk result.outcome (λ waits. IfSome waits (λ on. IsHalted S.Operator stages.new.items
+        (HasWaited (T.looks target.old) (T.looks target.new) (B.shown bells.new) on))) }
     ensures unfinished { IfOk result.outcome (λ waits. IfSome waits
         (λ _. T.is_finished target.new ≡ false)) }
     ensures few { result.units < room + most_rows }
@@ -274,6 +279,9 @@ pub(crate) fn take_step<
     ensures blocked { IfOk result.outcome (λ waits. IfSome waits (λ on. IsBlocked S.Operator
         stages.old.items stages.new.items (T.is_told target.new) (I.looks source.old) (I.looks source.new)
         (T.looks target.old) (T.looks target.new) (B.shown bells.new) on)) }
+    ensures quiet { IfOk result.outcome (λ waits. IfSome waits (λ on. T.is_told target.new ≡ false
+        → IsHalted S.Operator stages.new.items
+        (HasWaited (T.looks target.old) (T.looks target.new) (B.shown bells.new) on))) }
     ensures unfinished { IfOk result.outcome (λ waits. IfSome waits
         (λ _. T.is_finished target.new ≡ false)) }
     ensures still { room ≡ 0 → result.units ≡ 0 }

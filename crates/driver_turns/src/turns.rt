@@ -5,9 +5,10 @@ ghost use Rattle.col_pages.specs.Pages.{most_rows};
 ghost use Rattle.operator_core.specs.Rows.{Row};
 ghost use Rattle.operator_core.specs.Answers.{NotMemory};
 ghost use Rattle.operator_core.specs.Stages.{Linked, ToldInTurn, last_finished};
+ghost use Rattle.stage_moves.specs.Looks.{HasWaited};
 ghost use Rattle.stage_moves.specs.Moves.{SomeFails};
 ghost use Rattle.stage_moves.specs.Places.{AllLater};
-ghost use Rattle.driver_turns.specs.Turns.{WorkedTo, StageFailed, TurnedSo, IsBlocked, RangDues};
+ghost use Rattle.driver_turns.specs.Turns.{WorkedTo, StageFailed, TurnedSo, IsBlocked, IsHalted, RangDues, WhereBlocked};
 
 use crate::steps::{Step, take_step, tell};
 use blocked::{Bells, BlockedOn};
@@ -59,6 +60,9 @@ pub fn turn<I: PageSource, S: TypedOperator, T: PageTarget, R: Threads + Wait + 
         stages.new.items (T.is_told target.new) (I.looks source.old) (I.looks source.new)
         (T.looks target.old) (T.looks target.new) (B.shown bells.new)) (T.is_told target.new)
         (T.is_finished target.new) quantum result.units turned) }
+    ensures quiet { IfOk result.outcome (WhereBlocked (λ on. T.is_told target.new ≡ false
+        → IsHalted S.Operator stages.new.items
+        (HasWaited (T.looks target.old) (T.looks target.new) (B.shown bells.new) on))) }
     ensures made { I.as_made source.new ≡ I.as_made source.old }
     ensures target { NotMemory result.outcome → T.as_made target.new ≡ T.as_made target.old }
     ensures told { NotMemory result.outcome → (T.is_told target.old ≡ true

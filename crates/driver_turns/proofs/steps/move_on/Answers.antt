@@ -1,7 +1,9 @@
-use Rattle.std.proofs.Common.{Option, [], ap, refl, subst, sym}
+use Rattle.std.proofs.Common.{Option, Result, Bool, IsOk, [], ap, refl, subst, sym}
 use Rattle.col_pages.specs.Pages.{TypedPage}
 use Rattle.blocked.specs.declared.blocked_on.BlockedOn.{BlockedOn}
 use Rattle.operator_core.specs.Answers.{NotMemory, gave}
+use Rattle.operator_core.specs.declared.fault.OpFault.{OpFault}
+use Rattle.stage_moves.specs.Quiet.{IsQuiet}
 use Rattle.stage_moves.proofs.MoveLemmas.{not-memory_err}
 use Rattle.driver_turns.proofs.TurnLemmas.{WorkedTo-out, WorkedTo-still}
 use Rattle.driver_turns.proofs.steps.move_on.Goals as goal
@@ -23,3 +25,7 @@ returns-clause-worked g c = λ _ Y given.
 
 pub returns-clause-same : goal.returns-clause-same
 returns-clause-same g c = λ _. (c.pass-rows.ensures.passed (subst NotMemory (sym c.in-Ok.is) tt) []).same
+
+pub returns-clause-quiet : goal.returns-clause-quiet
+returns-clause-quiet g c = λ _ none. subst (λ (wants : Bool). IsQuiet g.S.Operator wants c.pass-rows.new.stages.items) c.wants-wants.ensures
+    (c.pass-rows.ensures.quiet c.requires.room (subst (λ (r : Result (Option TypedPage) OpFault). IsOk r) (sym c.in-Ok.is) refl) none)

@@ -1,6 +1,6 @@
 use Rattle.std.proofs.Common.{refl, sym, ◌∙◌}
 use Rattle.stage_moves.proofs.PlaceLemmas.{AllLater-same}
-use Rattle.driver_turns.proofs.TurnLemmas.{WorkedTo-none, RangDues-step}
+use Rattle.driver_turns.proofs.TurnLemmas.{WorkedTo-none, RangDues-step, all-told, none-untold}
 use Rattle.driver_turns.proofs.steps.take_step.Goals as goal
 
 pub returns-in-Ok-clause-worked : goal.returns-in-Ok-clause-worked
@@ -17,3 +17,9 @@ returns-in-Ok-clause-rang g c = λ _. RangDues-step (g.B.Bells.rang c.args.bells
     (g.I.PageSource.dues c.args.source.now) (g.I.PageSource.dues c.args.source.now) (g.I.PageSource.dues c.args.source.now)
     (g.T.PageTarget.dues c.args.target.now) (g.T.PageTarget.dues c.args.target.now) (g.T.PageTarget.dues c.ready.new.self)
     (λ bell times rang. rang) ((c.in-Ok.ensures).rang refl) (λ bell. refl) (λ bell. refl)
+
+pub returns-then-not-is_told-clause-quiet : goal.returns-then-not-is_told-clause-quiet
+returns-then-not-is_told-clause-quiet g c = all-told _ _ _ c.work.ensures.quiet
+
+pub returns-in-Ok-clause-quiet : goal.returns-in-Ok-clause-quiet
+returns-in-Ok-clause-quiet g c = none-untold _ c.in-Ok.full _ ((c.in-Ok.ensures).told refl ∙ sym c.if-not-is_told.ensures)

@@ -1,7 +1,9 @@
-use Rattle.std.proofs.Common.{[], refl, sym, subst, arith}
+use Rattle.std.proofs.Common.{Option, Result, IsOk, [], refl, sym, subst, arith}
 use Rattle.operator_core.specs.Answers.{NotMemory}
+use Rattle.operator_core.specs.declared.fault.OpFault.{OpFault}
+use Rattle.blocked.specs.declared.blocked_on.BlockedOn.{BlockedOn}
 use Rattle.stage_moves.proofs.PlaceLemmas.{AllLater-then, AllLater-stay}
-use Rattle.driver_turns.proofs.TurnLemmas.{WorkedTo-given, WorkedTo-looked, WorkedTo-then, Blocked-who, wanted-who, RangDues-step, RangDues-alone}
+use Rattle.driver_turns.proofs.TurnLemmas.{WorkedTo-given, WorkedTo-looked, WorkedTo-then, Blocked-who, wanted-who, Halted-who, RangDues-step, RangDues-alone}
 use Rattle.driver_turns.proofs.steps.work.Goals as goal
 
 pub returns-then-again-room-clause-worked : goal.returns-then-again-room-clause-worked
@@ -68,3 +70,11 @@ pub returns-clause-wanted : goal.returns-clause-wanted
 returns-clause-wanted g c = wanted-who c.is_told.result c.wants-wanted.result (g.T.PageTarget.wants c.args.target.now) (g.T.PageTarget.looks c.args.target.now) (g.T.PageTarget.looks c.move_on-units.new.target)
     (g.T.PageTarget.looks c.ready.new.self) (g.B.Bells.shown c.ready.new.bells) c.in-Ok-ready.full c.in-Ok.ahead.waits c.who_waits-who.result _ c.who_waits-who.ensures c.move_on-units.ensures.target_looks c.wants-wanted.ensures
     (c.in-Ok-ready.ensures).answer
+
+pub returns-clause-quiet : goal.returns-clause-quiet
+returns-clause-quiet g c = Halted-who g.S.Operator c.move_on-units.new.stages.items (g.T.PageTarget.wants c.args.target.now) (g.T.PageTarget.looks c.args.target.now) (g.T.PageTarget.looks c.ready.new.self)
+    (g.B.Bells.shown c.ready.new.bells) c.who_waits-who.result
+    (c.move_on-units.ensures.quiet (subst (λ (r : Result (Option BlockedOn) OpFault). IsOk r) (sym c.in-Ok-outcome.is) refl) (omega (arith, c.from-2.ensures, c.if-units-gt0.false)))
+    (wanted-who c.is_told.result c.wants-wanted.result (g.T.PageTarget.wants c.args.target.now) (g.T.PageTarget.looks c.args.target.now) (g.T.PageTarget.looks c.move_on-units.new.target)
+    (g.T.PageTarget.looks c.ready.new.self) (g.B.Bells.shown c.ready.new.bells) c.in-Ok-ready.full c.in-Ok.ahead.waits c.who_waits-who.result _ c.who_waits-who.ensures c.move_on-units.ensures.target_looks c.wants-wanted.ensures
+    (c.in-Ok-ready.ensures).answer)

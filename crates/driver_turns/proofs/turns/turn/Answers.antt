@@ -7,7 +7,7 @@ use Rattle.operator_core.specs.declared.fault.OpFault.{OpFault}
 use Rattle.operator_core.specs.declared.fault.OpFault.TheVariants.{Expr}
 use Rattle.stage_moves.proofs.MoveLemmas.{err-err, not-memory_err}
 use Rattle.stage_moves.proofs.PlaceLemmas.{AllLater-same, AllLater-then}
-use Rattle.driver_turns.proofs.TurnLemmas.{WorkedTo-given, WorkedTo-none, WorkedTo-then, Blocked-all_since, RangDues-alone, SomeFails-after, expr-not-memory, few-step, in-some, told-since}
+use Rattle.driver_turns.proofs.TurnLemmas.{WorkedTo-given, WorkedTo-none, WorkedTo-then, Blocked-all_since, Halted-since, RangDues-alone, SomeFails-after, expr-not-memory, few-step, in-some, told-since}
 use Rattle.driver_turns.proofs.turns.turn.Goals as goal
 
 pub loop-init : goal.loop-init
@@ -75,3 +75,8 @@ returns-in-Err-clause-failure g c = λ node kind e Y given linked turns.
     let to = WorkedTo-then g.S.Operator _ _ _ _ _ _ _ _ Y _ _ _ _ _ _ _ _ _ (c.loop.invariant.worked Y given)
     (c.take_step-more.ensures.worked (subst NotMemory (sym c.in-Err.is) (expr-not-memory c.in-Err.fault node kind same))) c.take_step-more.ensures.misses refl in
     SomeFails-after g.S.Operator _ _ _ _ node kind (c.take_step-more.ensures.fault node kind (c.in-Err.is ∙ err-err _ _ e)) (to.went.links linked) (to.went.turns turns)
+
+pub returns-in-Ok-Some-clause-quiet : goal.returns-in-Ok-Some-clause-quiet
+returns-in-Ok-Some-clause-quiet g c =
+    let halted = in-some _ _ c.in-Ok-Some.on _ c.in-Ok-Some.is c.in-Ok-Some.field-0-is c.take_step-more.ensures.quiet in
+    λ untold. Halted-since g.S.Operator _ _ _ _ _ c.in-Ok-Some.on c.loop.invariant.target_looks (halted untold)

@@ -14,7 +14,7 @@ use Rattle.output_buffer.specs.Edges.{end_count}
 use Rattle.output_buffer.specs.declared.piece.Piece.{Piece}
 use Rattle.output_buffer.specs.Seats.{GatherPutState, new_gather_put, rows_of_pieces}
 use Rattle.stage_moves.specs.Looks.{HasWaited}
-use Rattle.driver_ends.specs.Ends.{count_of, first_waiting, is_clear, is_through, outlet_as_made, space_of, target_as_made, target_finished, target_looks, target_wants}
+use Rattle.driver_ends.specs.Ends.{count_of, first_waiting, is_clear, is_through, outlet_as_made, space_of, put_as_made, put_finished, put_looks, put_wants}
 use Rattle.driver_ends.specs.Outlets.{IsClear, IsStuck, IsThrough, OutletKept, OutletState, new_outlet, outlet_kept}
 use Rattle.driver_ends.specs.Sources.{HoldsLast}
 use Rattle.driver_ends.specs.Targets.{HasStuckOutlet, IsFinished, TargetState, Wants, dues_of, fulls_of}
@@ -54,12 +54,12 @@ through_decides told outlet =
     let ends = end_count outlet.seat.put in
     (λ e. let t = through_from told outlet.held ends e in record { clear = t.0; ended = t.1 }, λ t. through_to told outlet.held ends t.clear t.ended)
 
-pub wants_decides : (t : TargetState) → Decides (target_wants t) (Wants t)
+pub wants_decides : (t : TargetState) → Decides (put_wants t) (Wants t)
 wants_decides t =
     let d = and_decides (not t.is_told) (list_all is_clear t.outlets) (not_decides t.is_told) (each_decides is_clear IsClear (λ o. none_decides o.held) t.outlets) in
     (λ e. let w = d.0 e in record { going = w.0; clear = w.1 }, λ w. d.1 (w.going, w.clear))
 
-pub finished_decides : (t : TargetState) → Decides (target_finished t) (IsFinished t)
+pub finished_decides : (t : TargetState) → Decides (put_finished t) (IsFinished t)
 finished_decides t =
     let d = and_decides t.is_told (list_all (is_through true) t.outlets) (λ e. e, λ e. e) (each_decides (is_through true) (IsThrough true) (through_decides true) t.outlets) in
     (λ e. let f = d.0 e in record { told = f.0; through = f.1 }, λ f. d.1 (f.told, f.through))
@@ -67,17 +67,17 @@ finished_decides t =
 -- ---- what a target tells
 
 -- a target is as it was made where its outlets are
-made_with : (old new : TargetState) → new ≡ record old { outlets = new.outlets } → map outlet_as_made new.outlets ≡ map outlet_as_made old.outlets → target_as_made new ≡ target_as_made old
+made_with : (old new : TargetState) → new ≡ record old { outlets = new.outlets } → map outlet_as_made new.outlets ≡ map outlet_as_made old.outlets → put_as_made new ≡ put_as_made old
 made_with old new rest each =
-    ap target_as_made rest ∙ ap (λ (outlets : List OutletState). record { kind = old.kind; outlets = outlets; is_told = false }) each
+    ap put_as_made rest ∙ ap (λ (outlets : List OutletState). record { kind = old.kind; outlets = outlets; is_told = false }) each
 
 pub kept_made : (told : Bool) (old new : TargetState) → new ≡ record old { outlets = new.outlets } → map (outlet_kept told) new.outlets ≡ map (outlet_kept told) old.outlets →
-    target_as_made new ≡ target_as_made old
+    put_as_made new ≡ put_as_made old
 kept_made told old new rest kept =
     made_with old new rest (same_by (λ (k : OutletKept). new_outlet (new_gather_put k.edge k.number)) (outlet_kept told) new.outlets old.outlets kept)
 
 pub seats_made : (old new : TargetState) → new ≡ record old { outlets = new.outlets } → map (λ (l : OutletState). l.seat) new.outlets ≡ map (λ (l : OutletState). l.seat) old.outlets →
-    target_as_made new ≡ target_as_made old
+    put_as_made new ≡ put_as_made old
 seats_made old new rest seats =
     made_with old new rest (same_by (λ (s : GatherPutState). new_outlet (new_gather_put s.edge s.number)) (λ (l : OutletState). l.seat) new.outlets old.outlets seats)
 
@@ -114,7 +114,7 @@ stuck_going told old new on stuck = going_at told new.held (end_count new.seat.p
 
 -- a target that is stuck looked in vain, with the count that it names
 pub stuck_waited : (old new : TargetState) (shown : ℕ → ℕ → Type 0) (on : BlockedOn) → HasStuckOutlet new.is_told old.outlets new.outlets on → shown on.bell on.seen →
-    HasWaited (target_looks old) (target_looks new) shown on
+    HasWaited (put_looks old) (put_looks new) shown on
 stuck_waited old new shown on s seen =
     let told = new.is_told in
     let going : is_through told (get_or new.outlets s.place s.after) ≡ false = ap (is_through told) (sym s.is) ∙ stuck_going told s.before s.after on s.stuck in

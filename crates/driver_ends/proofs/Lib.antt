@@ -1,2 +1,4 @@
 mod EndLemmas
+mod FetchLemmas
 mod TargetLemmas
+mod WaitLemmas

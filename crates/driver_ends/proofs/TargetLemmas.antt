@@ -76,7 +76,7 @@ map_each : {X Y : Type 0} (f g h : Y → List X) → ((y : Y) → f y ≡ g y ++
 map_each f g h each [] = refl
 map_each f g h each (y ∷ ys) = λ i. each y i ∷ map_each f g h each ys i
 
--- what a outlet has of some rows and of more is what it has of the first, and then of the others
+-- what an outlet has of some rows and of more is what it has of the first, and then of the others
 pub sent_more : (kind : PutKind) (n : ℕ) (a b : List (List Value)) → sent_to kind n (a ++ b) ≡ add_each (sent_to kind n a) (sent_to kind n b)
 sent_more One n a b = replicate_each n a b
 sent_more Each n a b = replicate_each n a b

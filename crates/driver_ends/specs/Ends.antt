@@ -18,18 +18,18 @@ abbrev pub is_through : Bool → OutletState → Bool
 is_through told outlet = is_none outlet.held && (not told || nat_lt 0 (end_count outlet.seat.put))
 
 -- `Wants` and `IsFinished`
-abbrev pub target_wants : TargetState → Bool
-target_wants t = not t.is_told && list_all is_clear t.outlets
+abbrev pub put_wants : TargetState → Bool
+put_wants t = not t.is_told && list_all is_clear t.outlets
 
-abbrev pub target_finished : TargetState → Bool
-target_finished t = t.is_told && list_all (is_through true) t.outlets
+abbrev pub put_finished : TargetState → Bool
+put_finished t = t.is_told && list_all (is_through true) t.outlets
 
 -- an outlet, and a target, as it was made
 abbrev pub outlet_as_made : OutletState → OutletState
 outlet_as_made outlet = new_outlet (new_gather_put outlet.seat.edge outlet.seat.number)
 
-abbrev pub target_as_made : TargetState → TargetState
-target_as_made t = record { kind = t.kind; outlets = map outlet_as_made t.outlets; is_told = false }
+abbrev pub put_as_made : TargetState → TargetState
+put_as_made t = record { kind = t.kind; outlets = map outlet_as_made t.outlets; is_told = false }
 
 -- the first of its outlets that is not through: that is the one at whose bell it waits
 abbrev pub first_waiting : TargetState → Option OutletState
@@ -44,8 +44,8 @@ count_of None = 0
 count_of (Some outlet) = outlet.seat.looked_at
 
 -- its looks in vain are the puts that found an edge full
-abbrev pub target_looks : TargetState → Looks
-target_looks t = record {
+abbrev pub put_looks : TargetState → Looks
+put_looks t = record {
   bell = space_of (first_waiting t);
   in_vain = fulls_of t.outlets;
   looked_at = count_of (first_waiting t);

@@ -1,4 +1,4 @@
--- What a `Outlet` keeps.
+-- What an `Outlet` keeps.
 use Rattle.std.specs.Prelude.{◌≡◌, ◌↔◌, ◌<◌, true}
 use Rattle.output_buffer.specs.Edges.{end_count}
 use Rattle.driver_ends.specs.Outlets.{IsInOrder, OutletState}

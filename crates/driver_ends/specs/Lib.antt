@@ -7,3 +7,4 @@ pub mod InDeal
 pub mod Sources
 pub mod InSources
 pub mod Ends
+pub mod Fetching

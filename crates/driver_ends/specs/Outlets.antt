@@ -21,7 +21,7 @@ abbrev pub rows_of_held : Option TypedPage → List (List Value)
 rows_of_held None = []
 rows_of_held (Some page) = page.rows
 
--- the rows that a outlet was given: those that went to its seat, and those that it still holds
+-- the rows that an outlet was given: those that went to its seat, and those that it still holds
 abbrev pub rows_sent : OutletState → List (List Value)
 rows_sent outlet = rows_of_pieces outlet.seat.put ++ rows_of_held outlet.held
 
@@ -51,11 +51,11 @@ pub record MayPutNow (outlet : OutletState) (piece : Piece) : Type 0 where
 abbrev pub HasPutEnd : OutletState → Type 0
 HasPutEnd outlet = 0 < end_count outlet.seat.put
 
--- how often this bell was to be rung for a outlet: once for each piece that it put, where it is the bell of its pieces
+-- how often this bell was to be rung for an outlet: once for each piece that it put, where it is the bell of its pieces
 abbrev pub outlet_dues : OutletState → ℕ → ℕ
 outlet_dues outlet bell = cond (nat_eq bell outlet.seat.edge.bells.piece) (length outlet.seat.put) 0
 
--- what a outlet keeps while it puts: its rows and its seat's place, and before it is told to end its Ends too
+-- what an outlet keeps while it puts: its rows and its seat's place, and before it is told to end its Ends too
 pub record OutletKept : Type 0 where
   pub rows : List (List Value)
   pub edge : EdgeId

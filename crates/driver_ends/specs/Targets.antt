@@ -1,5 +1,5 @@
 -- Targets over edges, as they are seen.
-use Rattle.std.specs.Prelude.{◌≡◌, ℕ, ◌<◌, ◌++◌, List, [], ◌∷◌, Bool, true, false, All, get_or, length, map, replicate, slice_index_or, sum_by, take}
+use Rattle.std.specs.Prelude.{◌≡◌, ℕ, ◌<◌, ◌⊎◌, ◌++◌, List, [], ◌∷◌, Bool, true, false, All, Option, Some, None, get_or, length, map, replicate, slice_index_or, sum_by, take}
 use Rattle.std.specs.List.{range_with_len}
 use Rattle.sql_values.specs.declared.value.Value.{Value}
 use Rattle.blocked.specs.Counts.{Rose}
@@ -81,6 +81,15 @@ pub record HasStuckOutlet (told : Bool) (old new : List OutletState) (on : Block
   pub first : All (IsThrough told) (take place new)
   pub stuck : IsStuck told before after on
   pub full : Rose (fulls_of old) (fulls_of new)
+
+-- each outlet put all that it may, or found its edge full
+abbrev pub HaveTried : Bool → List OutletState → List OutletState → Type 0
+HaveTried told old new = (place : ℕ) (d : OutletState) → place < length new
+    → IsThrough told (get_or new place d) ⊎ ((on : BlockedOn) × IsStuck told (get_or old place d) (get_or new place d) on)
+
+abbrev pub earlier : Option BlockedOn → Option BlockedOn → Option BlockedOn
+earlier None on = on
+earlier (Some first) on = Some first
 
 -- what a seat put is what it has of the first of some rows
 pub record HasPutFirst (kind : PutKind) (outlets place : ℕ) (given : List (List Value)) (seat : GatherPutState) : Type 0 where

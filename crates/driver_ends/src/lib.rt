@@ -14,6 +14,9 @@
 //! - For each piece that was put or taken the bell of its edge was rung once, of the bells that the call was given
 //! - The rows that a source handed on, with those of the page that it has, are what its seat took, in order
 //!   (`HasLocalTaken`, `HasRemoteTaken`). It is ended once every End that is meant for it was taken
+//! - One that fetches puts what it takes to a window with room, and hands on what arrives, whatever its courier does: what
+//!   is left to hand on is what arrived and what the fetch is still to give (`HasFetchTaken`). It is ended once its client
+//!   knows that no more comes. It answers that it missed only where the count of its courier's missed turns rose
 //! - A stop hands the seats back: what each put is what it has of the first of the rows that came, and of a target that
 //!   is finished all of them, and an End
 //!
@@ -21,6 +24,7 @@
 //! - `outlet`: one edge of a target (`specs/Outlets.antt`)
 //! - `put_target`: `PutTarget`, over one edge or several of many putters (`specs/Targets.antt`)
 //! - `deal_target`: `DealTarget`, over an edge of many takers, with an End for each of them (`specs/Deals.antt`)
+//! - `fetch_source`: `FetchSource`, a `LocalSource` with a courier behind it (`specs/Fetching.antt`)
 //! - `local_source`, `remote_source`: `LocalSource`, which ends with the End of the last putter, and `RemoteSource`, which
 //!   ends with its own End (`specs/Sources.antt`)
 //!
@@ -29,6 +33,7 @@
 
 mod at_edges;
 mod deal_target;
+mod fetch_source;
 mod local_source;
 mod outlet;
 mod put_target;
@@ -36,6 +41,7 @@ mod remote_source;
 
 pub use at_edges::EdgeEnd;
 pub use deal_target::DealTarget;
+pub use fetch_source::FetchSource;
 pub use local_source::LocalSource;
 pub use put_target::{PutKind, PutTarget};
 pub use remote_source::RemoteSource;

@@ -1,10 +1,10 @@
 //! What a driver takes its pages from where that is an edge of one taker.
-ghost use Rattle.std.specs.Prelude.{◌≡◌, ℕ, ◌+◌, ◌≤◌, ◌++◌, ◌↔◌, List, [], false, IsTrue, IfOk, OnOk, OnErr, IfErr, IfNone, IfSome, IsSome, MatchOption, None};
+ghost use Rattle.std.specs.Prelude.{◌≡◌, ℕ, ◌+◌, ◌≤◌, ◌++◌, ◌↔◌, List, [], false, IsTrue, IfOk, OnOk, OnErr, IfErr, IfNone, IfSome, IsSome, MatchOption, None, Some};
 ghost use Rattle.sql_values.specs.declared.value.Value.{Value};
 ghost use Rattle.output_buffer.specs.Seats.{HasEnded};
 ghost use Rattle.output_buffer.specs.declared.piece.Piece.{Piece};
 ghost use Rattle.driver_ends.specs.Ends.{local_ended, local_taken};
-ghost use Rattle.driver_ends.specs.Sources.{HasLocalTaken, IsLocalEnded, IsLocalServed, IsLocalStarved, local_dues, local_starved, local_took, new_local};
+ghost use Rattle.driver_ends.specs.Sources.{HasLocalTaken, HoldsLast, IsLocalEnded, IsLocalServed, IsLocalStarved, local_dues, local_starved, local_took, new_local};
 
 use crate::at_edges::{EdgeEnd, TakesPieces};
 use crate::outlet::page_of;
@@ -80,9 +80,19 @@ impl<'w> LocalSource<'w> {
             → HasLocalTaken self.new (taken ++ page.rows)) }
         ensures handed { IfSome result (λ page. local_taken self.new ≡ local_taken self.old ++ page.rows) }
         ensures none { IfNone result (self.old.inbox ≡ None) }
+        ensures page { result ≡ self.old.inbox }
         ensures rest { self.new ≡ record self.old { inbox = None } }
     {
         self.inbox.take()
+    }
+
+    /// Takes back the page that it handed on last.
+    pub(crate) fn take_back(&mut self, page: Page)
+        requires clear { self.old.inbox ≡ None }
+        requires last { HoldsLast self.old.seat.took (Some page) }
+        ensures { self.new ≡ record self.old { inbox = Some page } }
+    {
+        self.inbox = Some(page);
     }
 
     /// Whether the End of every putter was taken, and every page was handed on.

@@ -4,9 +4,9 @@ ghost use Rattle.sql_values.specs.declared.value.Value.{Value};
 ghost use Rattle.std.specs.Prelude.{List};
 ghost use Rattle.std.specs.Vec.{vec_capacity};
 ghost use Rattle.output_buffer.specs.Edges.{end_count};
-ghost use Rattle.driver_ends.specs.Ends.{target_finished, target_wants};
+ghost use Rattle.driver_ends.specs.Ends.{put_finished, put_wants};
 ghost use Rattle.driver_ends.specs.Outlets.{IsClear, IsThrough, OutletInOrder, outlet_kept, new_outlet, rows_sent};
-ghost use Rattle.driver_ends.specs.Targets.{AreThrough, FitsKind, HasSent, HasStuckOutlet, HavePutAll, HavePutFirst, IsFinished, KeepsTarget, Wants, add_each, dues, dues_of, fulls_of, sent_to};
+ghost use Rattle.driver_ends.specs.Targets.{AreThrough, FitsKind, HasSent, HasStuckOutlet, HavePutAll, HavePutFirst, HaveTried, IsFinished, KeepsTarget, Wants, add_each, dues, dues_of, earlier, fulls_of, sent_to};
 
 use crate::at_edges::EdgeEnd;
 use crate::outlet::{AdvanceAsTold, Outlet};
@@ -93,7 +93,7 @@ impl<'w> PutTarget<'w> {
     /// Whether it takes a page now.
     pub fn wants(&self) -> bool
         ensures wants { IsTrue result ↔ Wants self.now }
-        ensures is { result ≡ target_wants self.now }
+        ensures is { result ≡ put_wants self.now }
     {
         !self.is_told && are_clear(&self.outlets)
     }
@@ -129,7 +129,7 @@ impl<'w> PutTarget<'w> {
     /// Whether it was told to finish, and every edge has its pages and its End.
     pub fn is_finished(&self) -> bool
         ensures finished { IsTrue result ↔ IsFinished self.now }
-        ensures is { result ≡ target_finished self.now }
+        ensures is { result ≡ put_finished self.now }
     {
         self.is_told && have_put_ends(&self.outlets)
     }
@@ -153,9 +153,9 @@ impl<'w> PutTarget<'w> {
 }
 
 impl<'w> EdgeEnd for PutTarget<'w> {
-    /// Puts what it holds and, once told to finish, an End to each edge behind its pages. Where an edge has no room
-    /// it stops there: the answer names the bell of that edge's free places, with the count that was read before the
-    /// put. Each piece rings the bell of its edge's pieces.
+    /// Puts what it holds and, once told to finish, an End to each edge behind its pages, as far as each edge has room.
+    /// The answer names the bell of the free places of the first edge that had none, with the count that was read
+    /// before the put. Each piece rings the bell of its edge's pieces.
     fn advance<R: Threads + Wait + Sync, B: Bells>(
         &mut self,
         rt: &R,
@@ -169,6 +169,7 @@ impl<'w> EdgeEnd for PutTarget<'w> {
         ensures answer { IfOk result (λ on. MatchOption on (AreThrough self.new)
             (λ on. HasStuckOutlet self.new.is_told self.old.outlets self.new.outlets on
             × B.shown bells.new on.bell on.seen)) }
+        ensures tried { IfOk result (λ _. HaveTried self.new.is_told self.old.outlets self.new.outlets) }
         ensures bells { (bell count : ℕ) → B.shown bells.old bell count
             → B.shown bells.new bell count }
         ensures rang { OnOk result ((bell times : ℕ)
@@ -180,20 +181,20 @@ impl<'w> EdgeEnd for PutTarget<'w> {
 }
 
 impl<'w> PageTarget for PutTarget<'w> {
-    ghost use Rattle.driver_ends.specs.Ends.{target_as_made, target_finished, target_looks, target_wants};
+    ghost use Rattle.driver_ends.specs.Ends.{put_as_made, put_finished, put_looks, put_wants};
     ghost use Rattle.driver_ends.specs.Targets.{HasSent, dues};
 
     ghost was_given = { HasSent };
 
-    ghost wants = { target_wants };
+    ghost wants = { put_wants };
 
     ghost is_told = { λ t. t.is_told };
 
-    ghost is_finished = { target_finished };
+    ghost is_finished = { put_finished };
 
-    ghost as_made = { target_as_made };
+    ghost as_made = { put_as_made };
 
-    ghost looks = { target_looks };
+    ghost looks = { put_looks };
 
     ghost dues = { dues };
 
@@ -301,9 +302,19 @@ fn hold_all(outlets: &mut [Outlet<'_>], mut pages: Vec<Page>)
     }
 }
 
+/// The wait that came first.
+fn earlier(first: Option<BlockedOn>, on: Option<BlockedOn>) -> Option<BlockedOn>
+    ensures { result ≡ earlier first on }
+{
+    match first {
+        Some(first) => Some(first),
+        None => on,
+    }
+}
+
 /// How the outlets of a target go on.
 trait AdvanceAll {
-    /// Puts what each outlet may, up to one whose edge is full.
+    /// Puts what each outlet may, and answers the wait of the first whose edge is full.
     fn advance_all<R: Threads + Wait + Sync, B: Bells>(
         rt: &R,
         bells: &mut B,
@@ -327,17 +338,18 @@ impl<'w> AdvanceAll for PutTarget<'w> {
         ensures answer { IfOk result (λ on. MatchOption on (All (IsThrough is_told) outlets.new)
             (λ on. HasStuckOutlet is_told outlets.old outlets.new on
             × B.shown bells.new on.bell on.seen)) }
+        ensures tried { IfOk result (λ _. HaveTried is_told outlets.old outlets.new) }
         ensures bells { (bell count : ℕ) → B.shown bells.old bell count
             → B.shown bells.new bell count }
         ensures rang { OnOk result ((bell times : ℕ)
             → B.rang bells.old bell (times + dues_of outlets.old bell)
             → B.rang bells.new bell (times + dues_of outlets.new bell)) }
     {
+        let mut first = None;
         for place in 0..outlets.len() {
-            if let Some(on) = outlets[place].advance_as_told(rt, bells, is_told)? {
-                return Ok(Some(on));
-            }
+            let on = outlets[place].advance_as_told(rt, bells, is_told)?;
+            first = earlier(first, on);
         }
-        Ok(None)
+        Ok(first)
     }
 }

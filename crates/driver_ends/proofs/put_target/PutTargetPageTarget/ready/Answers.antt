@@ -1,7 +1,7 @@
 use Rattle.std.proofs.Common.{◌≡◌, ◌∙◌, true, ap, subst}
 use Rattle.std.specs.Prelude.{All}
 use Rattle.stage_moves.specs.Looks.{HasWaited}
-use Rattle.driver_ends.specs.Ends.{target_looks}
+use Rattle.driver_ends.specs.Ends.{put_looks}
 use Rattle.driver_ends.specs.Outlets.{IsThrough}
 use Rattle.driver_ends.specs.Targets.{TargetState}
 use Rattle.driver_ends.proofs.EndLemmas.{finished_decides, kept_made, none_after, some_after, stuck_waited, wants_decides}
@@ -12,7 +12,7 @@ returns-clause-made g c = λ ok. kept_made c.args.self.now.is_told c.args.self.n
 
 pub returns-clause-answer : goal.returns-clause-answer
 returns-clause-answer g c =
-    some_after _ _ (HasWaited (target_looks c.args.self.now) (target_looks c.advance.new.self) (g.B.Bells.shown c.advance.new.bells)) c.advance.result c.advance.ensures.answer
+    some_after _ _ (HasWaited (put_looks c.args.self.now) (put_looks c.advance.new.self) (g.B.Bells.shown c.advance.new.bells)) c.advance.result c.advance.ensures.answer
     (λ on s. stuck_waited c.args.self.now c.advance.new.self (g.B.Bells.shown c.advance.new.bells) on s.0 s.1)
 
 pub returns-clause-through : goal.returns-clause-through

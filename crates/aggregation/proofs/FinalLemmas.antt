@@ -3,7 +3,7 @@ use Rattle.std.proofs.Common.{◌≡◌, ℕ, zero, suc, ◌+◌, ◌^◌, ◌�
 use Rattle.std.specs.Prelude.{All, ◌&&◌, ◌↔◌}
 use Rattle.std.specs.List.{list_all, range_with_len}
 use Rattle.std.proofs.lemmas.Bool.{and_parts}
-use Rattle.std.proofs.lemmas.List.{length-take, take-append-drop, take_at}
+use Rattle.std.proofs.lemmas.List.{take-append-drop}
 use Rattle.std.proofs.lemmas.List.Elements.{All-head, All-tail, All-weaker}
 use Rattle.std.proofs.lemmas.List.FromFn.{length-range_with_len}
 use Rattle.sql_values.specs.declared.types.SqlType.{SqlType}
@@ -16,7 +16,7 @@ use Rattle.aggregation.specs.Alike.{held_row}
 use Rattle.col_pages.specs.Pages.{TypedPage}
 use Rattle.accumulators.specs.Groups.{Group, empty_group}
 use Rattle.accumulators.specs.Limits.{is_partial}
-use Rattle.aggregation.specs.Finals.{FinalState, IsFinal, layout_in, taken_by}
+use Rattle.aggregation.specs.Finals.{FinalState, IsFinal, layout_in}
 use Rattle.aggregation.specs.Giving.{AllFit, FitsTypes, GroupsState, no_groups}
 use Rattle.aggregation.specs.Layouts.{Layout, is_layout_row, layout_types}
 use Rattle.aggregation.proofs.FitLemmas.{RowFits}
@@ -53,18 +53,15 @@ held-rows columns width (row ∷ rows) e all =
     let here : held_row columns row ≡ row = ap (λ cs. held_row cs row) e ∙ held-same width row (All-head (λ r. width ≤ length r) row rows all) in
     λ i. here i ∷ held-rows columns width rows e (All-tail (λ r. width ≤ length r) row rows all) i
 
-layout-long : (kinds types : List SqlType) (calls : List Call) → length kinds ≤ length (layout_types kinds types calls)
+pub layout-long : (kinds types : List SqlType) (calls : List Call) → length kinds ≤ length (layout_types kinds types calls)
 layout-long kinds types calls = simp length-append (omega arith)
 
--- rows of the layout have their keys
-pub layout-rows : (columns : List ℕ) (width : ℕ) (given types : List SqlType) (calls : List Call) (rows : List (List Value)) → columns ≡ range_with_len 0 width → width ≤ length given
-    → AllFit (layout_types (take (length columns) given) types calls) rows → map (held_row columns) rows ≡ rows
-layout-rows columns width given types calls rows e le fit =
-    let kinds = take (length columns) given in
-    let size : length columns ≡ width = ap length e ∙ length-range_with_len 0 width in
-    let long : width ≤ length (layout_types kinds types calls) = omega (arith, layout-long kinds types calls, length-take (length columns) given, size, le) in
+-- rows of types that begin with those of the keys have their keys
+pub layout-rows : (columns : List ℕ) (width : ℕ) (taken : List SqlType) (rows : List (List Value)) → columns ≡ range_with_len 0 width → width ≤ length taken
+    → AllFit taken rows → map (held_row columns) rows ≡ rows
+layout-rows columns width taken rows e le fit =
     held-rows columns width rows e
-    (All-weaker (RowFits (layout_types kinds types calls)) (λ row. width ≤ length row) (λ row h. omega (arith, long, fits-long (layout_types kinds types calls) row h)) rows fit)
+    (All-weaker (RowFits taken) (λ row. width ≤ length row) (λ row h. omega (arith, le, fits-long taken row h)) rows fit)
 
 -- one more column
 pub columns-more : (held next : List ℕ) (n : ℕ) → held ≡ range_with_len 0 n → next ≡ held ++ n ∷ [] → next ≡ range_with_len 0 (n + 1)
@@ -91,31 +88,24 @@ rows-pass f rows i whole lt pass e =
     e ∙ ap (list_all f) (drop-cons rows i [] lt) ∙ ap (λ b. b && list_all f (drop (suc i) rows)) pass ∙ ap (λ n. list_all f (drop n rows)) next
 
 -- a group of no row tells which rows are of the layout
-pub layout-told : (s : FinalState) (node width : ℕ) (part : Group) (groups : GroupsState) (row : List Value) → record { node = node; groups = groups } ≡ s → IsFinal width part groups
-    → is_layout_row (layout_in s) row ≡ is_partial part.calls part.kinds (drop width row)
-layout-told s node width part groups row view is =
+pub layout-told : (s : FinalState) (node width : ℕ) (part : Group) (taken : List SqlType) (groups : GroupsState) (row : List Value) → record { node = node; groups = groups; taken = taken } ≡ s
+    → IsFinal width part taken groups → is_layout_row (layout_in s) row ≡ is_partial part.calls part.kinds (drop width row)
+layout-told s node width part taken groups row view is =
     let size : length groups.table.columns ≡ width = ap length is.front ∙ length-range_with_len 0 width in
     ap (λ (x : FinalState). is_layout_row (layout_in x) row) (sym view)
     ∙ (λ i. is_partial (sym is.none i).calls (sym is.none i).kinds (drop (size i) row))
 
-pub final-made : (columns : List ℕ) (calls : List Call) (types given : List SqlType) (page width : ℕ) (part : Group) (g : GroupsState) → g ≡ no_groups columns calls types given page
-    → columns ≡ range_with_len 0 width → width ≤ 2 ^ 31 → width ≤ length given → part ≡ empty_group types calls → IsFinal width part g
-final-made columns calls types given page width part g made front few wide none =
-    subst (λ (x : GroupsState). IsFinal width part x) (sym made) (record { few = few; front = front; wide = wide; none = none })
+pub final-made : (columns : List ℕ) (calls : List Call) (types given : List SqlType) (page width : ℕ) (part : Group) (taken : List SqlType) (g : GroupsState) → g ≡ no_groups columns calls types given page
+    → columns ≡ range_with_len 0 width → width ≤ 2 ^ 31 → width ≤ length taken → part ≡ empty_group types calls → IsFinal width part taken g
+final-made columns calls types given page width part taken g made front few wide none =
+    subst (λ (x : GroupsState). IsFinal width part taken x) (sym made) (record { few = few; front = front; wide = wide; none = none })
 
-pub final-layout : (columns : List ℕ) (calls : List Call) (types given : List SqlType) (page width keys node : ℕ) (g : GroupsState) → g ≡ no_groups columns calls types given page
+pub final-layout : (columns : List ℕ) (calls : List Call) (types given taken : List SqlType) (page width keys node : ℕ) (g : GroupsState) → g ≡ no_groups columns calls types given page
     → columns ≡ range_with_len 0 width → width ≡ keys
-    → ◌≡◌ {A = Layout} (layout_in (record { node = node; groups = g })) (record { width = keys; types = types; calls = calls })
-final-layout columns calls types given page width keys node g made front size =
-    ap (λ (x : GroupsState). layout_in (record { node = node; groups = x })) made
+    → ◌≡◌ {A = Layout} (layout_in (record { node = node; groups = g; taken = taken })) (record { width = keys; types = types; calls = calls })
+final-layout columns calls types given taken page width keys node g made front size =
+    ap (λ (x : GroupsState). layout_in (record { node = node; groups = x; taken = taken })) made
     ∙ ap (λ (n : ℕ). record { width = n; types = types; calls = calls }) (ap length front ∙ length-range_with_len 0 width ∙ size)
-
-pub final-takes : (columns : List ℕ) (calls : List Call) (types given kinds more : List SqlType) (page width node : ℕ) (g : GroupsState) → g ≡ no_groups columns calls types given page
-    → columns ≡ range_with_len 0 width → width ≡ length kinds → given ≡ kinds ++ more → taken_by (record { node = node; groups = g }) ≡ layout_types kinds types calls
-final-takes columns calls types given kinds more page width node g made front size is =
-    let count : length columns ≡ length kinds = ap length front ∙ length-range_with_len 0 width ∙ size in
-    ap (λ (x : GroupsState). taken_by (record { node = node; groups = x })) made
-    ∙ ap (λ ks. layout_types ks types calls) ((λ i. take (count i) (is i)) ∙ take_at kinds more (length kinds) refl)
 
 pub same-pages : (types others : List SqlType) (p : TypedPage) → types ≡ others → FitsTypes types p ↔ FitsTypes others p
 same-pages types others p e = ((λ f. subst (λ (ts : List SqlType). FitsTypes ts p) e f), (λ f. subst (λ (ts : List SqlType). FitsTypes ts p) (sym e) f))

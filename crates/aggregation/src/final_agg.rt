@@ -13,6 +13,7 @@ ghost use Rattle.aggregation.specs.Giving.{FitsTypes};
 ghost use Rattle.aggregation.specs.Layouts.{is_layout_row, layout_types};
 
 use crate::group_rows::GroupRows;
+use crate::layouts::layout_of;
 use crate::page_row::PageRow;
 use crate::table::first_behind;
 use accumulators::Accumulator;
@@ -36,6 +37,8 @@ pub struct FinalAgg {
     part: Accumulator,
     /// How many key columns there are.
     width: u32,
+    /// The types of the rows that it takes.
+    taken: Types,
 }
 
 impl Model for FinalAgg {
@@ -43,9 +46,9 @@ impl Model for FinalAgg {
 
     ghost Value = { FinalState };
 
-    ghost view = { λ f. record { node = f.node; groups = f.groups } };
+    ghost view = { λ f. record { node = f.node; groups = f.groups; taken = f.taken } };
 
-    ghost invariant = { λ f. IsFinal f.width f.part f.groups };
+    ghost invariant = { λ f. IsFinal f.width f.part f.taken f.groups };
 }
 
 impl FinalAgg {
@@ -82,6 +85,7 @@ impl FinalAgg {
             (λ op. (m : _) → ⟦<FinalAgg as Operator>⟧.may_learn op m → ⊥) }
     {
         let width = first_behind(keys.len())?;
+        let taken = layout_of(alloc, &keys, &types, &calls)?;
         let columns = first_columns(alloc, width)?;
         let mut given = Types::of(keys);
         append_call_types(&mut given, &types, &calls)?;
@@ -92,7 +96,15 @@ impl FinalAgg {
             groups,
             part,
             width,
+            taken,
         })
+    }
+
+    /// The types of the rows that it takes.
+    pub fn types(&self) -> &[SqlType]
+        ensures { result.now ≡ self.now.taken }
+    {
+        self.taken.as_slice()
     }
 
     /// Whether each row of a page has a partial row behind its key. It is asked of pages that have the layout's
@@ -129,14 +141,13 @@ impl Operator for FinalAgg {
     ghost use Rattle.operator_core.specs.Samples.{has_row};
     ghost use Rattle.operator_core.specs.NoteLaws.{none-without, told-needs_none, told-needs};
     ghost use Rattle.aggregation.specs.Giving.{FitsTypes, GroupsFail, GroupsGive, groups_made, has_more, to_give, merged_with};
-    ghost use Rattle.aggregation.specs.Finals.{taken_by};
     ghost use Rattle.aggregation.specs.GivingLaws.{groups-some, groups-rest, final-done};
 
     ghost may_give = { λ s X B. GroupsGive s.groups.begun s.groups.left.rows (merged_with s.groups.table X) B };
 
     ghost may_still_fail = { λ s X node kind. GroupsFail s.groups.begun s.node (merged_with s.groups.table X) node kind };
 
-    ghost takes = { λ s page. FitsTypes (taken_by s) page };
+    ghost takes = { λ s page. FitsTypes s.taken page };
 
     ghost page_size = { λ s. s.groups.left.page };
 

@@ -1,9 +1,24 @@
 //! The types of rows between the halves of an aggregate.
-ghost use Rattle.std.specs.Prelude.{◌≡◌, ◌++◌, ◌∷◌, [], OnOk, flat_map};
+ghost use Rattle.std.specs.Prelude.{◌≡◌, ◌++◌, ◌∷◌, [], IfOk, OnOk, flat_map};
 ghost use Rattle.sql_functions.specs.CallTypes.{type_at as type_of};
-ghost use Rattle.aggregation.specs.Layouts.{call_layout, sum_layout as layout_of_sum};
+ghost use Rattle.aggregation.specs.Layouts.{call_layout, layout_types, sum_layout as layout_of_sum};
 
 use sql_values::{Call, Memory, SqlType, Types};
+use std::alloc::Global;
+
+/// The types of rows of keys of these types with partial rows behind them.
+pub fn layout_of(
+    alloc: Global,
+    keys: &[SqlType],
+    types: &[SqlType],
+    calls: &[Call],
+) -> Result<Types, Memory>
+    ensures { IfOk result (λ kinds. kinds ≡ layout_types keys.now types.now calls.now) }
+{
+    let mut kinds = Types::of(Vec::from_slice(alloc, keys)?);
+    append_part_types(&mut kinds, types, calls)?;
+    Ok(kinds)
+}
 
 /// Appends the types of a partial row of calls over rows of some types.
 pub fn append_part_types(kinds: &mut Types, types: &[SqlType], calls: &[Call]) -> Result<(), Memory>

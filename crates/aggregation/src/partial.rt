@@ -58,6 +58,13 @@ impl PartialAgg {
         let groups = GroupRows::new(alloc, keys, calls, types, given.as_slice(), page)?;
         Ok(PartialAgg { groups })
     }
+
+    /// The types of the rows that it takes.
+    pub fn types(&self) -> &[SqlType]
+        ensures { result.now ≡ self.now.groups.table.types }
+    {
+        self.groups.types()
+    }
 }
 
 impl Operator for PartialAgg {

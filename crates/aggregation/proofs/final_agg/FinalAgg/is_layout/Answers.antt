@@ -12,7 +12,7 @@ returns-then-not-takes_part c =
     let rows = c.args.page.now.rows in
     let row = slice_index_or rows c.loop-position.position [] in
     let test = is_layout_row (layout_in c.args.self.now) in
-    let told : test row ≡ c.takes_part.result = layout-told c.args.self.now s.node s.width s.part s.groups row c.self.view_is c.self.invariant ∙ sym c.takes_part.ensures in
+    let told : test row ≡ c.takes_part.result = layout-told c.args.self.now s.node s.width s.part s.taken s.groups row c.self.view_is c.self.invariant ∙ sym c.takes_part.ensures in
     rows-stop test rows c.loop-position.position (list_all test rows) (omega (arith, c.loop-position-test.true, c.len-position-end.ensures.len)) (told ∙ c.if-not-takes_part.true) c.loop-position.invariant
 
 pub loop-position-preserved : goal.loop-position-preserved
@@ -21,5 +21,5 @@ loop-position-preserved c =
     let rows = c.args.page.now.rows in
     let row = slice_index_or rows c.loop-position.position [] in
     let test = is_layout_row (layout_in c.args.self.now) in
-    let told : test row ≡ c.takes_part.result = layout-told c.args.self.now s.node s.width s.part s.groups row c.self.view_is c.self.invariant ∙ sym c.takes_part.ensures in
+    let told : test row ≡ c.takes_part.result = layout-told c.args.self.now s.node s.width s.part s.taken s.groups row c.self.view_is c.self.invariant ∙ sym c.takes_part.ensures in
     rows-pass test rows c.loop-position.position (list_all test rows) (omega (arith, c.loop-position-test.true, c.len-position-end.ensures.len)) (told ∙ c.if-not-takes_part.false) c.loop-position.invariant

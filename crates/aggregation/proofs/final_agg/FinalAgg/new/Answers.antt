@@ -1,13 +1,11 @@
-use Rattle.std.proofs.Common.{◌≡◌, ◌≤◌, ◌++◌, length, map, refl, ap, ◌∙◌, arith, length-append}
+use Rattle.std.proofs.Common.{◌≡◌, ◌≤◌, length, refl, ap, ◌∙◌, arith}
 use Rattle.std.specs.Prelude.{flat_map}
 use Rattle.relations.specs.Verdicts.{kept}
 use Rattle.bag_laws.specs.Pieces.{finals_of}
-use Rattle.plan_trees.specs.TreeTypes.{call_kind}
 use Rattle.accumulators.specs.Groups.{empty_group}
-use Rattle.aggregation.specs.Finals.{taken_by}
 use Rattle.aggregation.specs.Giving.{merged_with}
 use Rattle.aggregation.specs.Layouts.{layout_types}
-use Rattle.aggregation.proofs.FinalLemmas.{columns-long, final-layout, final-made, final-takes, same-pages}
+use Rattle.aggregation.proofs.FinalLemmas.{columns-long, final-layout, final-made, layout-long, same-pages}
 use Rattle.aggregation.proofs.MadeLemmas.{none-fails, none-gives, none-merged}
 use Rattle.aggregation.proofs.final_agg.FinalAgg.new.Goals as goal
 
@@ -15,13 +13,12 @@ pub invariant_of-result : goal.invariant_of-result
 invariant_of-result c =
     let calls = c.args.calls.items in
     let types = c.args.types.items in
-    let more = map (call_kind types) calls in
-    let given : c.as_slice.result.now ≡ c.args.keys.items ++ more
-    = c.as_slice.ensures ∙ c.in_ok-append_call_types.ensures ∙ (λ i. c.of-given.ensures i ++ map (call_kind (c.deref.ensures.value i)) (c.deref-2.ensures.value i)) in
-    let wide : c.in_ok-width.width ≤ length c.as_slice.result.now
-    = omega (arith, c.in_ok-width.ensures.0, c.len.ensures, c.args.keys.ok.0, ap length given, length-append c.args.keys.items more) in
-    final-made c.in_ok-columns.columns.items calls types c.as_slice.result.now c.args.page c.in_ok-width.width c.in_ok-part.part c.in_ok-groups.groups c.in_ok-groups.ensures
-    c.in_ok-columns.ensures c.in_ok-width.ensures.1 wide (c.in_ok-part.ensures ∙ (λ i. empty_group (c.deref-4.ensures.value i) (c.deref-3.ensures.value i)))
+    let taken : c.in_ok-taken.taken ≡ layout_types c.args.keys.items types calls
+    = c.in_ok-taken.ensures ∙ (λ i. layout_types (c.deref.ensures.value i) (c.deref-2.ensures.value i) (c.deref-3.ensures.value i)) in
+    let wide : c.in_ok-width.width ≤ length c.in_ok-taken.taken
+    = omega (arith, c.in_ok-width.ensures.0, c.len.ensures, c.args.keys.ok.0, ap length taken, layout-long c.args.keys.items types calls) in
+    final-made c.in_ok-columns.columns.items calls types c.as_slice.result.now c.args.page c.in_ok-width.width c.in_ok-part.part c.in_ok-taken.taken c.in_ok-groups.groups c.in_ok-groups.ensures
+    c.in_ok-columns.ensures c.in_ok-width.ensures.1 wide (c.in_ok-part.ensures ∙ (λ i. empty_group (c.deref-7.ensures.value i) (c.deref-6.ensures.value i)))
 
 pub returns-clause-gives : goal.returns-clause-gives
 returns-clause-gives c =
@@ -48,18 +45,14 @@ returns-clause-fails c =
 
 pub returns-clause-takes : goal.returns-clause-takes
 returns-clause-takes c =
-    let g = c.in_ok-groups.groups in
     let calls = c.args.calls.items in
     let types = c.args.types.items in
-    let more = map (call_kind types) calls in
-    let size : c.in_ok-width.width ≡ length c.args.keys.items = omega (arith, c.in_ok-width.ensures.0, c.len.ensures, c.args.keys.ok.0) in
-    let given : c.as_slice.result.now ≡ c.args.keys.items ++ more
-    = c.as_slice.ensures ∙ c.in_ok-append_call_types.ensures ∙ (λ i. c.of-given.ensures i ++ map (call_kind (c.deref.ensures.value i)) (c.deref-2.ensures.value i)) in
-    λ p. same-pages (taken_by (record { node = c.args.node; groups = g })) (layout_types c.args.keys.items types calls) p
-    (final-takes c.in_ok-columns.columns.items calls types c.as_slice.result.now c.args.keys.items more c.args.page c.in_ok-width.width c.args.node g c.in_ok-groups.ensures c.in_ok-columns.ensures size given)
+    let taken : c.in_ok-taken.taken ≡ layout_types c.args.keys.items types calls
+    = c.in_ok-taken.ensures ∙ (λ i. layout_types (c.deref.ensures.value i) (c.deref-2.ensures.value i) (c.deref-3.ensures.value i)) in
+    λ p. same-pages c.in_ok-taken.taken (layout_types c.args.keys.items types calls) p taken
 
 pub returns-clause-layout : goal.returns-clause-layout
 returns-clause-layout c =
     let size : c.in_ok-width.width ≡ length c.args.keys.items = omega (arith, c.in_ok-width.ensures.0, c.len.ensures, c.args.keys.ok.0) in
-    final-layout c.in_ok-columns.columns.items c.args.calls.items c.args.types.items c.as_slice.result.now c.args.page c.in_ok-width.width (length c.args.keys.items) c.args.node c.in_ok-groups.groups
-    c.in_ok-groups.ensures c.in_ok-columns.ensures size
+    final-layout c.in_ok-columns.columns.items c.args.calls.items c.args.types.items c.as_slice.result.now c.in_ok-taken.taken c.args.page c.in_ok-width.width (length c.args.keys.items) c.args.node
+    c.in_ok-groups.groups c.in_ok-groups.ensures c.in_ok-columns.ensures size

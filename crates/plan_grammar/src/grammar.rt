@@ -2,6 +2,7 @@ ghost use Rattle.std.specs.Prelude.{◌≡◌, ◌+◌, ◌≤◌};
 ghost use Rattle.serde_json.specs.View.{view};
 ghost use Rattle.plan_grammar.specs.Grammar.{aggregate_parts, call_parts, element_of, fragment_at, has_entries, has_steps, is_open, join_parts, level_of, limit_parts, output_parts, parts_of, parts_of_form, parts_of_node, topn_parts};
 
+use crate::inner_tables;
 use crate::json::has_key;
 use crate::kind::Kind;
 use crate::tables::{self, Part};
@@ -26,10 +27,10 @@ pub fn parts_of(kind: Kind, object: &Value) -> &'static [Part]
         Kind::Node => parts_of_node(op_of(object), object),
         Kind::Expression => parts_of_form(form_of(object)),
         Kind::Form => parts_of_form(form_of(object)),
-        Kind::Branch => &tables::BRANCH,
-        Kind::Filter => &tables::DYNAMIC_FILTER,
+        Kind::Branch => &inner_tables::BRANCH,
+        Kind::Filter => &inner_tables::DYNAMIC_FILTER,
         Kind::AggregateCall => call_parts(is_count_all(object)),
-        Kind::SortKey => &tables::SORT_KEY,
+        Kind::SortKey => &inner_tables::SORT_KEY,
         _ => &[],
     }
 }
@@ -106,12 +107,12 @@ fn parts_of_form(form: FormWord) -> &'static [Part]
     ensures { result.now ≡ parts_of_form form }
 {
     match form {
-        FormWord::Col => &tables::COL,
-        FormWord::Lit => &tables::LIT,
-        FormWord::Null => &tables::NULL,
-        FormWord::Call => &tables::CALL,
-        FormWord::Cast => &tables::CAST,
-        FormWord::Case => &tables::CASE,
+        FormWord::Col => &inner_tables::COL,
+        FormWord::Lit => &inner_tables::LIT,
+        FormWord::Null => &inner_tables::NULL,
+        FormWord::Call => &inner_tables::CALL,
+        FormWord::Cast => &inner_tables::CAST,
+        FormWord::Case => &inner_tables::CASE,
     }
 }
 
@@ -119,9 +120,9 @@ fn call_parts(count_all: bool) -> &'static [Part]
     ensures { result.now ≡ call_parts count_all }
 {
     if count_all {
-        &tables::COUNT_ALL
+        &inner_tables::COUNT_ALL
     } else {
-        &tables::AGGREGATE_CALL
+        &inner_tables::AGGREGATE_CALL
     }
 }
 

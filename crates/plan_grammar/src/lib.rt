@@ -7,11 +7,12 @@
 //!
 //! - `kind`, `words`: what stands at a place, and the words that tell one object from another
 //! - `json`: look-ups in a JSON value
-//! - `tables`, `grammar`: the grammar
+//! - `tables`, `inner_tables`, `grammar`: the grammar, of objects down to nodes, and of those inside nodes
 //! - `place`, `walk`: the places of a document
 #![tactic(auto)]
 
 mod grammar;
+mod inner_tables;
 mod json;
 mod kind;
 mod place;

@@ -1,8 +1,9 @@
 -- What follows of a consistent document.
-use Rattle.std.proofs.Common.{◌≡◌, ℕ, ◌<◌, List, [], map, Option, Some, None, option_map, refl, ap, sym, subst}
+use Rattle.std.proofs.Common.{◌≡◌, ℕ, ◌<◌, List, [], map, Option, Some, None, option_map, refl, ap, sym, subst, arith}
 use Rattle.std.specs.Prelude.{Result, Ok, Err, slice_get, ◌||◌}
 use Rattle.std.specs.Option.{option_or}
 use Rattle.std.specs.List.{count_by, find}
+use Rattle.std.proofs.lemmas.List.{length-map}
 use Rattle.serde_json.specs.Data.{Data}
 use Rattle.plan_places.specs.declared.key.Key.TheVariants as key
 use Rattle.plan_places.specs.declared.step.Step.{Step}
@@ -11,7 +12,7 @@ use Rattle.plan_grammar.specs.Json.{entries_under}
 use Rattle.plan_grammar.specs.Spots.{Spot, places_of}
 use Rattle.plan_checks.specs.Built.{first_unbuilt}
 use Rattle.plan_checks.specs.Documents.{at, first_inconsistent, first_refused, inconsistency_of, refusal, refusal_of}
-use Rattle.plan_checks.specs.Fragments.{first_mislinked, first_unlinked, is_unread}
+use Rattle.plan_checks.specs.Fragments.{first_mislinked, first_unlinked, fragments_count, is_unread}
 use Rattle.plan_checks.specs.Halves.{first_alone, is_alone}
 use Rattle.plan_checks.specs.Limits.{bound_of, exceeds, first_beyond, is_beyond, is_crowded, is_filter, is_node, lacks_work}
 use Rattle.plan_checks.specs.Names.{first_misnamed}
@@ -28,19 +29,20 @@ use Rattle.plan_types.specs.Plans.{plan_types}
 use Rattle.plan_spreads.specs.declared.spread.RowSpread.{RowSpread}
 use Rattle.plan_spreads.specs.Halves.{HalvesMeet, half}
 use Rattle.plan_spreads.specs.Plans.{plan_spreads}
-use Rattle.plan_spreads.specs.Reading.{AllReadOn}
+use Rattle.plan_spreads.specs.Reading.{AllReadOn, AreReadOnce}
 use Rattle.plan_spreads.specs.Runs.{fragment_parts, part_read, plan_run, row_spread_view, tasks_of}
 use Rattle.plan_spreads.specs.Widths.{AllLeavesFit}
-use Rattle.plan_spreads.proofs.FitLemmas.{plan_fits}
+use Rattle.plan_spreads.proofs.FitLemmas.{parts_fit, plan_fits}
 use Rattle.plan_spreads.proofs.PlanLemmas.{plan_placed, roots_placed}
 use Rattle.plan_spreads.proofs.ReadingLemmas.{halves_read}
 use Rattle.plan_pipelines.proofs.SourceLemmas.{plan_runs_as}
 use Rattle.plan_links.specs.Consistent.{IsConsistent}
-use Rattle.plan_links.proofs.EachLemmas.{Each, each_by, neither, none_passes}
+use Rattle.plan_spreads.proofs.EachLemmas.{Each, each_by, neither, none_passes}
 use Rattle.plan_links.proofs.LeafLemmas.{fragments_leaves}
 use Rattle.plan_links.proofs.MeetLemmas.{fragments_meet}
 use Rattle.plan_links.proofs.PlaceLemmas.{Checked}
-use Rattle.plan_links.proofs.SourceLemmas.{none_back, read_by_one}
+use Rattle.plan_links.proofs.ReadLemmas.{document_found, read_some}
+use Rattle.plan_links.proofs.SourceLemmas.{found_once, none_back, read_by_one}
 use Rattle.plan_links.proofs.StepLemmas.{all_known}
 
 first_option : {A : Type 0} (o p : Option A) → option_or o p ≡ None → o ≡ None
@@ -111,6 +113,19 @@ document_meets d e =
     let known = all_known (Checked d all) d d [] d kind.Document 0 (record { value = refl; step = λ h. absurd cc }) checked in
     fragments_meet d all checked known (λ n i j s t at there is so. read_by_one d n [] all i j s t linked at there is so)
 
+document_reads : (d : Data) → inconsistency_of d ≡ None → AreReadOnce (map (fragment_of d) (entries_under key.Fragments d))
+document_reads d e n some lt =
+    let all = places_of d in
+    let none = none_fails d all (unmapped refusal (first_inconsistent d all) e) in
+    let linked = first_option (first_mislinked d [] all) (find (is_unread all) all) none.linked in
+    let unread = second_option (first_mislinked d [] all) (find (is_unread all) all) none.linked in
+    let checked = document_checked d e in
+    let few : n < fragments_count d = omega (arith, lt, length-map (entries_under key.Fragments d) (fragment_of d)) in
+    let least = read_some n d all checked unread some few in
+    let most = found_once d n [] all linked in
+    let found = document_found n d all checked in
+    omega (arith, least, most, found)
+
 fragments_of : (d : Data) → (plan_of d).fragments ≡ map (fragment_of d) (entries_under key.Fragments d)
 unfolding plan_of
 fragments_of d = refl
@@ -131,13 +146,17 @@ plan_leaves plan c =
 pub plan_reads : (plan : PlanForm) → IsConsistent plan → AllReadOn 0 plan.fragments
 plan_reads plan c = halves_read plan.fragments (plan_meets plan c)
 
+pub plan_read_once : (plan : PlanForm) → IsConsistent plan → AreReadOnce plan.fragments
+plan_read_once plan c =
+    subst (λ (p : PlanForm). AreReadOnce p.fragments) (sym c.means) (subst AreReadOnce (sym (fragments_of c.document)) (document_reads c.document (passes_first c.document c.passes)))
+
 pub plan_tree : (plan : PlanForm) → IsConsistent plan → (tasks : ℕ) → tree_of plan ≡ tree_of_run (plan_run tasks plan)
 plan_tree plan c tasks = plan_runs_as plan tasks (plan_reads plan c)
 
 -- what was wanted and is not refused is there
-record Had {A : Type 0} (r : Result A (List Step)) : Type 0 where
-  has : A
-  is : r ≡ Ok has
+pub record Had {A : Type 0} (r : Result A (List Step)) : Type 0 where
+  pub has : A
+  pub is : r ≡ Ok has
 
 typed_had : {A : Type 0} (r : Result A (List Step)) → untyped r ≡ None → Had r
 typed_had (Ok x) h = record { has = x; is = refl }
@@ -148,11 +167,11 @@ placed_had (Ok x) h = record { has = x; is = refl }
 placed_had (Err path) h = absurd cc
 
 -- its types and its spreads
-record Judged (plan : PlanForm) : Type 0 where
-  types : Had (plan_types plan)
-  spreads : Had (plan_spreads plan)
+pub record Judged (plan : PlanForm) : Type 0 where
+  pub types : Had (plan_types plan)
+  pub spreads : Had (plan_spreads plan)
 
-judged_plan : (plan : PlanForm) → IsConsistent plan → Judged plan
+pub judged_plan : (plan : PlanForm) → IsConsistent plan → Judged plan
 judged_plan plan c =
     let judged = subst (λ (p : PlanForm). plan_refusal p ≡ None) (sym c.means) (second_option (inconsistency_of c.document) (plan_refusal (plan_of c.document)) c.passes) in
     let types = untyped (plan_types plan) in
@@ -175,6 +194,12 @@ pub plan_fits_widths : (plan : PlanForm) → IsConsistent plan → (tasks : ℕ)
 plan_fits_widths plan c tasks some =
     let j = judged_plan plan c in
     plan_fits plan j.types.has j.spreads.has j.types.is j.spreads.is (plan_meets plan c) (plan_leaves plan c) tasks some
+
+pub parts_fit_widths : (plan : PlanForm) → IsConsistent plan → (tasks : ℕ) → 0 < tasks → (i : ℕ)
+    → FitsWidths (tree_of_run (part_read 0 (fragment_parts tasks 0 plan.fragments) i).root)
+parts_fit_widths plan c tasks some =
+    let j = judged_plan plan c in
+    parts_fit plan j.types.has j.spreads.has j.types.is j.spreads.is (plan_meets plan c) (plan_leaves plan c) tasks some
 
 neither_one : {A : Type 0} (o p : Option A) → o ≡ None → p ≡ None → option_or o p ≡ None
 neither_one None p h g = g

@@ -21,7 +21,7 @@ use Rattle.plan_grammar.specs.Words.{op_named, op_of, step_named, step_of}
 use Rattle.plan_checks.specs.Fragments.{reads}
 use Rattle.plan_checks.specs.Halves.{input_reads, is_final, is_half, is_half_alone, is_joined, is_partial, is_remote, is_root_path, is_step_kind, joins, reads_half, root_of}
 use Rattle.plan_checks.specs.Names.{part_index}
-use Rattle.plan_links.proofs.EachLemmas.{Each, each_at, first_true, second_true}
+use Rattle.plan_spreads.proofs.EachLemmas.{Each, each_at, first_true, second_true}
 use Rattle.plan_links.proofs.InputLemmas.{input_fourth, step_third}
 use Rattle.plan_links.proofs.PlaceLemmas.{Checked, FragmentAt, PartAt, Sound, SourceAt, here, not_false, part_there, sound_under, source_at, text_is}
 use Rattle.plan_links.proofs.StepLemmas.{Known, value_at}

@@ -38,7 +38,7 @@ use Rattle.plan_docs.specs.Parts.{kinds_of}
 use Rattle.plan_docs.specs.ReadNodes.{aggregate_of, inner_node, limit_of, node_at, node_by, node_form, top_n_of}
 use Rattle.plan_docs.specs.Words.{type_of}
 use Rattle.plan_spreads.specs.Widths.{AllLeavesFit, LeavesFit}
-use Rattle.plan_links.proofs.EachLemmas.{first_true, second_true}
+use Rattle.plan_spreads.proofs.EachLemmas.{first_true, second_true}
 use Rattle.plan_links.proofs.InputLemmas.{aggregate_input, join_left, join_right, limit_input, topn_input}
 use Rattle.plan_links.proofs.PlaceLemmas.{PartAt, RootAt, Sound, entry_there, here, not_false, part_there, root_at, sound_under}
 

@@ -1,5 +1,5 @@
-pub mod EachLemmas
 pub mod WalkLemmas
+pub mod CountLemmas
 pub mod SourceLemmas
 pub mod StepLemmas
 pub mod PlaceLemmas
@@ -7,4 +7,5 @@ pub mod InputLemmas
 pub mod HalfLemmas
 pub mod MeetLemmas
 pub mod LeafLemmas
+pub mod ReadLemmas
 pub mod DocumentLemmas

@@ -32,7 +32,7 @@ use Rattle.plan_docs.specs.ReadNodes.{aggregate_of, inner_node, limit_of, node_a
 use Rattle.plan_docs.specs.Words.{small_under}
 use Rattle.plan_spreads.specs.Halves.{AllMeet, Halved, aggregates, top_ns, limits, HalvesMeet, HasHalf, Meets, ReadsHalf, RootMeets, half}
 use Rattle.plan_spreads.specs.Sources.{fragment_read}
-use Rattle.plan_links.proofs.EachLemmas.{Each, first_true}
+use Rattle.plan_spreads.proofs.EachLemmas.{Each, first_true}
 use Rattle.plan_links.proofs.HalfLemmas.{BelowFinal, below_final, ends_same, final_input, final_joined, leads, other, partial_root}
 use Rattle.plan_links.proofs.InputLemmas.{InputAt, aggregate_input, join_left, join_right, limit_input, topn_input}
 use Rattle.plan_links.proofs.PlaceLemmas.{Checked, RootAt, Sound, fragment_there, here, root_at, sound_under, source_at}

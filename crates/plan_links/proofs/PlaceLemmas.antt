@@ -1,5 +1,5 @@
 -- What the checks tell of one place of a document, and of the fragments that stand in it.
-use Rattle.std.proofs.Common.{◌≡◌, ℕ, ◌+◌, ◌<◌, ◌^◌, zero, suc, List, [], ◌∷◌, ◌++◌, length, Bool, true, false, Option, Some, None, refl, ap, ◌∙◌, subst, arith}
+use Rattle.std.proofs.Common.{◌≡◌, ℕ, ◌<◌, ◌^◌, zero, suc, List, [], ◌∷◌, ◌++◌, length, Bool, true, false, Option, Some, None, refl, ap, ◌∙◌, subst, arith}
 use Rattle.std.specs.Prelude.{slice_get, ◌||◌, ◌==◌, not, nat_le, if◌then◌else◌, option_and_then, unwrap_or}
 use Rattle.std.specs.Option.{is_some}
 use Rattle.std.proofs.lemmas.Bool.{eq-eqb, leb-false, lt-ltb}
@@ -27,12 +27,12 @@ use Rattle.plan_checks.specs.Limits.{bound_of, exceeds}
 use Rattle.plan_checks.specs.Names.{part_index}
 use Rattle.plan_checks.specs.Shapes.{has_keys, has_shape, is_misshapen, shape_of}
 use Rattle.plan_docs.specs.Words.{small, small_under}
-use Rattle.plan_links.proofs.EachLemmas.{first_true, neither, nor_second, second_true}
+use Rattle.plan_spreads.proofs.EachLemmas.{first_true, neither, nor_second, second_true}
 use Rattle.plan_links.proofs.SourceLemmas.{reads_back}
 use Rattle.plan_links.proofs.WalkLemmas.{From, place_entry, place_here, place_under}
 
 -- the number that a key has, and the text
-number_is : (k : Key) (d e : Data) → under k d ≡ Some e → number_under k d ≡ number_of e
+pub number_is : (k : Key) (d e : Data) → under k d ≡ Some e → number_under k d ≡ number_of e
 number_is k d e is = ap (λ (o : Option Data). unwrap_or (option_and_then as_u64 (option_and_then as_number o)) 0) is
 
 pub text_is : (k : Key) (d e : Data) → under k d ≡ Some e → text_under k d ≡ text_of e

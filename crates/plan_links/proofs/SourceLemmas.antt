@@ -1,6 +1,6 @@
 -- What the sources of a document read, where no id and no source is amiss: a fragment after their own, and no two the
 -- same.
-use Rattle.std.proofs.Common.{◌≡◌, ℕ, zero, suc, List, [], ◌∷◌, ◌++◌, Bool, true, false, Some, None, refl, sym, ◌∙◌, subst}
+use Rattle.std.proofs.Common.{◌≡◌, ℕ, ◌≤◌, zero, suc, List, [], ◌∷◌, ◌++◌, Bool, true, false, Some, None, refl, ap, sym, ◌∙◌, subst, arith}
 use Rattle.std.specs.Prelude.{slice_get, ◌&&◌, ◌||◌, ◌==◌, nat_le}
 use Rattle.std.specs.List.{list_any}
 use Rattle.std.proofs.lemmas.Bool.{eqb-true}
@@ -13,7 +13,8 @@ use Rattle.plan_grammar.specs.Json.{number_of}
 use Rattle.plan_grammar.specs.Spots.{Spot}
 use Rattle.plan_checks.specs.Fragments.{first_mislinked, fragments_count, is_mislinked, is_source_kind, links_amiss, reads}
 use Rattle.plan_checks.specs.Names.{part_index}
-use Rattle.plan_links.proofs.EachLemmas.{first_false, neither, nor_second, rest_none}
+use Rattle.plan_links.proofs.CountLemmas.{found_in, one_if}
+use Rattle.plan_spreads.proofs.EachLemmas.{first_false, neither, nor_second, rest_none}
 
 or_first : (a b : Bool) → a ≡ true → a || b ≡ true
 or_first true b h = refl
@@ -91,3 +92,32 @@ module _ (document : Data) where
         absurd (not_again (before ++ x ∷ []) rest i s (later_linked before x rest e) (now_read before x here) at is)
     read_by_one before (x ∷ rest) (suc i) (suc j) s t e at there is so =
         read_by_one (before ++ x ∷ []) rest i j s t (later_linked before x rest e) at there is so
+
+    one_false : (b : Bool) → (b ≡ true → ⊥) → one_if b ≡ 0
+    one_false true h = absurd (h refl)
+    one_false false h = refl
+
+    none_again : (before all : List Spot) → first_mislinked document before all ≡ None → list_any (reads n) before ≡ true → found_in n all ≡ 0
+    none_again before [] e was = refl
+    none_again before (s ∷ rest) e was =
+        let here = one_false (reads n s) (λ is. not_again before (s ∷ rest) 0 s e was refl is) in
+        let later = none_again (before ++ s ∷ []) rest (later_linked before s rest e) (still_read before s was) in
+        omega (arith, here, later)
+
+    pub found_once : (before all : List Spot) → first_mislinked document before all ≡ None → found_in n all ≤ 1
+    found_once before [] e = omega arith
+    found_once before (s ∷ rest) e =
+        by (reads n s) refl (λ is. none_again (before ++ s ∷ []) rest (later_linked before s rest e) (now_read before s is))
+        (found_once (before ++ s ∷ []) rest (later_linked before s rest e))
+      where
+        by : (b : Bool) → reads n s ≡ b → (reads n s ≡ true → found_in n rest ≡ 0) → found_in n rest ≤ 1 → found_in n (s ∷ rest) ≤ 1
+        by true is none later = let here = ap one_if is in let rest_none = none is in omega (arith, here, rest_none)
+        by false is none later = let here = ap one_if is in omega (arith, here, later)
+
+pub found_some : (n : ℕ) (all : List Spot) → list_any (reads n) all ≡ true → 1 ≤ found_in n all
+found_some n [] h = absurd cc
+found_some n (s ∷ rest) h = by (reads n s) refl h (found_some n rest)
+  where
+    by : (b : Bool) → reads n s ≡ b → b || list_any (reads n) rest ≡ true → (list_any (reads n) rest ≡ true → 1 ≤ found_in n rest) → 1 ≤ found_in n (s ∷ rest)
+    by true is h rest_found = let here = ap one_if is in omega (arith, here)
+    by false is h rest_found = let later = rest_found h in omega (arith, later)

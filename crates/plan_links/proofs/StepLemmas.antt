@@ -28,7 +28,7 @@ use Rattle.plan_grammar.specs.Spots.{Spot, item_spots, member_spots, spot, spots
 use Rattle.plan_grammar.specs.Words.{form_of, is_count_all, op_of, output_of, step_of}
 use Rattle.plan_checks.specs.Halves.{is_step_kind}
 use Rattle.plan_checks.specs.Limits.{is_node_kind}
-use Rattle.plan_links.proofs.EachLemmas.{Each, all_pass, each_again, each_join, each_left, each_right}
+use Rattle.plan_spreads.proofs.EachLemmas.{Each, all_pass, each_again, each_join, each_left, each_right}
 
 -- where a path leads
 abbrev pub step_value : Step → Data → Option Data

@@ -15,10 +15,10 @@ use Rattle.plan_grammar.specs.Json.{entries_of, under}
 use Rattle.plan_grammar.specs.Spots.{Spot, inner_of, inner_spots, item_spots, part_spots, spot, spots}
 use Rattle.plan_grammar.specs.Tables.{part}
 use Rattle.plan_grammar.proofs.WalkLemmas.{spots_are}
-use Rattle.plan_links.proofs.EachLemmas.{Each, each_left, each_part, each_right}
+use Rattle.plan_spreads.proofs.EachLemmas.{Each, each_left, each_part, each_right}
 
 -- an object is no list
-no_array : (name : List ℕ) (d e : Data) → get name d ≡ Some e → as_array d ≡ None
+pub no_array : (name : List ℕ) (d e : Data) → get name d ≡ Some e → as_array d ≡ None
 no_array name null e is = absurd cc
 no_array name (boolean b) e is = absurd cc
 no_array name (number n) e is = absurd cc

@@ -9,7 +9,7 @@ ghost use Rattle.plan_runs.specs.Spreads.{whole};
 ghost use Rattle.plan_spreads.specs.declared.spread.RowSpread.{RowSpread};
 ghost use Rattle.plan_spreads.specs.Halves.{HalvesMeet, half};
 ghost use Rattle.plan_spreads.specs.Plans.{plan_spreads};
-ghost use Rattle.plan_spreads.specs.Reading.{AllReadOn};
+ghost use Rattle.plan_spreads.specs.Reading.{AllReadOn, AreReadOnce};
 ghost use Rattle.plan_spreads.specs.Runs.{fragment_parts, part_read, plan_run, row_spread_view, tasks_of};
 ghost use Rattle.plan_trees.specs.Widths.{FitsWidths};
 ghost use Rattle.plan_links.specs.Consistent.{IsConsistent};
@@ -24,21 +24,25 @@ pub fn read_plans_are_consistent(plan: &Plan)
         → IsConsistent (plan_view plan.now) }
 {}
 
-/// The law that in a consistent plan the halves of operators meet, and each source reads a fragment
-/// after its own.
+/// The law that in a consistent plan the halves of operators meet, each source reads a fragment after its own, and each
+/// fragment but the first is read by one source.
 pub fn halves_meet(plan: &Plan)
     ensures meet { IsConsistent (plan_view plan.now) → HalvesMeet (plan_view plan.now).fragments }
     ensures read_on { IsConsistent (plan_view plan.now) → AllReadOn 0 (plan_view plan.now).fragments }
+    ensures read_once { IsConsistent (plan_view plan.now) → AreReadOnce (plan_view plan.now).fragments }
 {}
 
-/// The law that such a plan means the tree of the plan as it runs, with any number of tasks; that this tree has the
-/// columns that its parts ask for; and that as it runs the plan is placed as a whole in the one task of fragment 0, and
-/// each fragment at the spread that is told for it, where its root is no PARTIAL node.
+/// The law that such a plan means the tree of the plan as it runs, with any number of tasks; that this tree, and that of
+/// each fragment, has the columns that its parts ask for; and that as it runs the plan is placed as a whole in the one
+/// task of fragment 0, and each fragment at the spread that is told for it, where its root is no PARTIAL node.
 pub fn consistent_plans_are_placed(plan: &Plan)
     ensures tree { IsConsistent (plan_view plan.now) → (tasks : ℕ)
         → tree_of (plan_view plan.now) ≡ tree_of_run (plan_run tasks (plan_view plan.now)) }
     ensures widths { IsConsistent (plan_view plan.now) → (tasks : ℕ) → 0 < tasks
         → FitsWidths (tree_of_run (plan_run tasks (plan_view plan.now))) }
+    ensures parts { IsConsistent (plan_view plan.now) → (tasks : ℕ) → 0 < tasks → (i : ℕ)
+        → FitsWidths
+        (tree_of_run (part_read 0 (fragment_parts tasks 0 (plan_view plan.now).fragments) i).root) }
     ensures placed { IsConsistent (plan_view plan.now) → (tasks : ℕ) → 0 < tasks
         → Placed 1 (plan_run tasks (plan_view plan.now)) whole }
     ensures roots { IsConsistent (plan_view plan.now) → (spreads : List RowSpread)

@@ -4,8 +4,8 @@
 //! (`specs/Consistent.antt`). A plan that was read is.
 //!
 //! - `laws`: `halves_meet`: a PARTIAL node is the root of a fragment that a FINAL node of its operator reads, and a
-//!   FINAL node reads such a root. `consistent_plans_are_placed`: the plan means the tree of the plan as it runs, and that
-//!   is placed.
+//!   FINAL node reads such a root; and each fragment but the first is read by one source.
+//!   `consistent_plans_are_placed`: the plan means the tree of the plan as it runs, and that is placed.
 #![tactic(auto)]
 
 mod laws;

@@ -23,7 +23,7 @@ use Rattle.plan_runs.specs.RunPlans as run
 use Rattle.plan_spreads.specs.declared.spread.RowSpread.{RowSpread}
 use Rattle.plan_spreads.specs.Halves.{AllMeet, Halved, HalvesMeet, Meets, RootMeets, aggregates, top_ns, limits}
 use Rattle.plan_spreads.specs.Plans.{all_spreads, placement_fault, plan_spreads, sources_fault}
-use Rattle.plan_spreads.specs.Runs.{Part, fragment_parts, no_part, node_run, one_over, one_with, plan_run}
+use Rattle.plan_spreads.specs.Runs.{Part, fragment_parts, no_part, node_run, one_over, one_with, part_read, plan_run}
 use Rattle.plan_spreads.specs.Sources.{misread}
 use Rattle.plan_spreads.specs.Widths.{AllLeavesFit, LeavesFit}
 use Rattle.plan_spreads.proofs.NodeLemmas.{right_none}
@@ -138,12 +138,16 @@ all_fit tasks some i (f ∷ fs) ts ss m w a e h k =
     at_place zero first rest = first
     at_place (suc j) first rest = rest j
 
-pub plan_fits : (plan : PlanForm) (types : List RowTypes) (spreads : List RowSpread) → plan_types plan ≡ Ok types → plan_spreads plan ≡ Ok spreads
-    → HalvesMeet plan.fragments → AllLeavesFit plan.fragments → (tasks : ℕ) → 0 < tasks → FitsWidths (tree_of_run (plan_run tasks plan))
+pub parts_fit : (plan : PlanForm) (types : List RowTypes) (spreads : List RowSpread) → plan_types plan ≡ Ok types → plan_spreads plan ≡ Ok spreads
+    → HalvesMeet plan.fragments → AllLeavesFit plan.fragments → (tasks : ℕ) → 0 < tasks → (i : ℕ) → Fits (part_read 0 (fragment_parts tasks 0 plan.fragments) i).root
 unfolding plan_types plan_spreads
-plan_fits plan types spreads h e m w tasks some =
+parts_fit plan types spreads h e m w tasks some i =
     let fs = plan.fragments in
     let one = unless_fault (placement_fault (slice_get fs 0)) (or_fault (sources_fault 0 fs) (all_spreads 0 fs)) spreads e in
     let sent = unless_fault (sources_fault 0 fs) (all_spreads 0 fs) spreads one.1 in
     typed_then_ok (all_types 0 fs) (λ ts. or_fault (result_fault (length plan.output) ts) (Ok ts)) types _ h
-    (λ ts typed g. all_fit tasks some 0 fs ts spreads (all_meet fs m) w sent.0 sent.1 typed 0)
+    (λ ts typed g. all_fit tasks some 0 fs ts spreads (all_meet fs m) w sent.0 sent.1 typed (i - 0))
+
+pub plan_fits : (plan : PlanForm) (types : List RowTypes) (spreads : List RowSpread) → plan_types plan ≡ Ok types → plan_spreads plan ≡ Ok spreads
+    → HalvesMeet plan.fragments → AllLeavesFit plan.fragments → (tasks : ℕ) → 0 < tasks → FitsWidths (tree_of_run (plan_run tasks plan))
+plan_fits plan types spreads h e m w tasks some = parts_fit plan types spreads h e m w tasks some 0

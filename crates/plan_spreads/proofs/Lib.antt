@@ -6,3 +6,4 @@ pub mod NodeLemmas
 pub mod PlanLemmas
 pub mod ReadingLemmas
 pub mod FitLemmas
+pub mod EachLemmas

@@ -26,15 +26,22 @@ pub fn plans_are_placed(plan: &Plan)
         → Placed 1 (plan_run tasks (plan_view plan.now)) whole }
 {}
 
-/// The law that the tree of such a plan as it runs has the columns that its parts ask for, where its scans have a type
-/// for each column and its constant rows a value for each type.
+/// The law that the tree of such a plan as it runs, and that of each of its fragments, has the columns that its parts ask
+/// for, where its scans have a type for each column and its constant rows a value for each type.
 pub fn plans_fit_widths(plan: &Plan)
-    ensures { (types : List RowTypes) (spreads : List RowSpread)
+    ensures whole { (types : List RowTypes) (spreads : List RowSpread)
         → plan_types (plan_view plan.now) ≡ Ok types
         → plan_spreads (plan_view plan.now) ≡ Ok spreads
         → HalvesMeet (plan_view plan.now).fragments → AllLeavesFit (plan_view plan.now).fragments
         → (tasks : ℕ) → 0 < tasks
         → FitsWidths (tree_of_run (plan_run tasks (plan_view plan.now))) }
+    ensures parts { (types : List RowTypes) (spreads : List RowSpread)
+        → plan_types (plan_view plan.now) ≡ Ok types
+        → plan_spreads (plan_view plan.now) ≡ Ok spreads
+        → HalvesMeet (plan_view plan.now).fragments → AllLeavesFit (plan_view plan.now).fragments
+        → (tasks : ℕ) → 0 < tasks → (i : ℕ)
+        → FitsWidths
+        (tree_of_run (part_read 0 (fragment_parts tasks 0 (plan_view plan.now).fragments) i).root) }
 {}
 
 /// The law that each fragment of such a plan is placed at the spread that `spread_plan` answers for it, where its root

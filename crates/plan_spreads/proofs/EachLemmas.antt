@@ -28,6 +28,10 @@ pub each_by : {A : Type 0} (P : A → Type 0) (xs : List A) → ((i : ℕ) (x : 
 each_by P [] one = tt
 each_by P (x ∷ xs) one = (one 0 x refl, each_by P xs (λ i y is. one (suc i) y is))
 
+pub each_weaker : {A : Type 0} (P Q : A → Type 0) → ((x : A) → P x → Q x) → (xs : List A) → Each P xs → Each Q xs
+each_weaker P Q weaker [] each = tt
+each_weaker P Q weaker (x ∷ xs) each = (weaker x each.0, each_weaker P Q weaker xs each.1)
+
 -- in the parts of which a list is put together
 pub each_part : {A B : Type 0} (P : B → Type 0) (f : A → List B) (xs : List A) (i : ℕ) (x : A) → slice_get xs i ≡ Some x → Each P (flat_map f xs) → Each P (f x)
 each_part P f [] i x is h = absurd cc

@@ -91,7 +91,7 @@ unfolding NoneReads
 none_at numbers at own = none_reads numbers at own
 
 -- a place in two lists one behind the other is in the first, or in the second
-in_either : (xs ys : List PipeForm) (k : ℕ) (pipe : PipeForm) → slice_get (xs ++ ys) k ≡ Some pipe
+pub in_either : (xs ys : List PipeForm) (k : ℕ) (pipe : PipeForm) → slice_get (xs ++ ys) k ≡ Some pipe
     → (slice_get xs k ≡ Some pipe) ⊎ (j : ℕ) × (k ≡ length xs + j) × (slice_get ys j ≡ Some pipe)
 in_either [] ys k pipe is = let none : k ≡ 0 + k = omega arith in inr (k, none, is)
 in_either (x ∷ xs) ys zero pipe is = inl is
@@ -102,7 +102,7 @@ in_either (x ∷ xs) ys (suc k) pipe is = behind (in_either xs ys k pipe is)
     behind (inl here) = inl here
     behind (inr (j, at, there)) = let next : suc k ≡ length (x ∷ xs) + j = omega (arith, at) in inr (j, next, there)
 
-is_below : (xs : List PipeForm) (k : ℕ) (pipe : PipeForm) → slice_get xs k ≡ Some pipe → k < length xs
+pub is_below : (xs : List PipeForm) (k : ℕ) (pipe : PipeForm) → slice_get xs k ≡ Some pipe → k < length xs
 is_below [] k pipe is = absurd cc
 is_below (x ∷ xs) zero pipe is = omega arith
 is_below (x ∷ xs) (suc k) pipe is = omega (arith, is_below xs k pipe is)

@@ -1,5 +1,5 @@
 -- Each fragment of a plan is laid out.
-use Rattle.std.proofs.Common.{◌≡◌, ℕ, ◌+◌, ◌<◌, suc, zero, List, [], ◌∷◌, ◌++◌, length, map, refl, ap, sym, ◌∙◌, subst, arith, Some}
+use Rattle.std.proofs.Common.{◌≡◌, ℕ, ◌+◌, ◌<◌, ◌≤◌, suc, zero, List, [], ◌∷◌, ◌++◌, length, map, refl, ap, sym, ◌∙◌, subst, arith, Some}
 use Rattle.std.specs.Prelude.{option_map, slice_get}
 use Rattle.plan_docs.specs.Plans.{FragmentForm, PlanForm}
 use Rattle.plan_layout.specs.declared.pipe.Parallelism.{Parallelism}
@@ -8,7 +8,9 @@ use Rattle.plan_layout.specs.Edges.{after, edge_numbers, fetches_of, target_of}
 use Rattle.plan_layout.specs.Layouts.{driver_numbers, fragment_pipes, laid, layout_of, numbered, site_of}
 use Rattle.plan_layout.specs.Pipes.{PipeForm}
 use Rattle.plan_layout.specs.Runs.{IsLaid, bare}
-use Rattle.plan_layout.specs.Sides.{pipes_of}
+use Rattle.plan_layout.specs.Sides.{pipe_of, pipes_of}
+use Rattle.plan_spreads.proofs.EachLemmas.{Each, each_at, each_join, each_weaker}
+use Rattle.plan_layout.proofs.PipeLemmas.{each_block}
 use Rattle.plan_layout.proofs.SideLemmas.{Stand, get_left, get_right, length_append, pipes_run}
 
 get_bare : (pipes : List PipeForm) (k : ℕ) → slice_get (map bare pipes) k ≡ option_map bare (slice_get pipes k)
@@ -44,20 +46,40 @@ stands numbers done own fetches more k lt =
     ∙ get_numbered numbers (own ++ fetches) k
     ∙ ap (option_map bare) (get_left own fetches k lt)
 
+abbrev IsFrom : ℕ → PipeForm → Type 0
+IsFrom number pipe = number ≤ pipe.fragment
+
 module _ (p : Parallelism) (fragments : List FragmentForm) where
   abbrev own_of : ℕ → List PipeForm → FragmentForm → List PipeForm
   own_of number done f = fragment_pipes (site_of p fragments number f) done (target_of number f.output done) f.root
 
-  laid_behind : (fs : List FragmentForm) (number : ℕ) (done : List PipeForm) → (more : List PipeForm) × (laid p fragments number done fs ≡ done ++ more)
-  laid_behind [] number done = ([], append_none done)
+  -- those of the fragments from this number on
+  record Behind (number : ℕ) (done layout : List PipeForm) : Type 0 where
+    more : List PipeForm
+    are : layout ≡ done ++ more
+    later : Each (IsFrom number) more
+
+  own_later : (number : ℕ) (done : List PipeForm) (f : FragmentForm) → Each (IsFrom number) (own_of number done f)
+  own_later number done f =
+      let s = site_of p fragments number f in
+      let least : (pipe : PipeForm) → pipe.fragment ≡ number → IsFrom number pipe = λ pipe h. omega (arith, h) in
+      each_block (IsFrom number) s (λ next target n. least (pipe_of s next target n) refl) (λ pipe at numbers h. h) (λ pipe numbers h. h) done (target_of number f.output done) f.root
+
+  laid_behind : (fs : List FragmentForm) (number : ℕ) (done : List PipeForm) → Behind number done (laid p fragments number done fs)
+  laid_behind [] number done = record { more = []; are = append_none done; later = tt }
   laid_behind (f ∷ fs) number done =
       let own = own_of number done f in
       let next = laid_behind fs (number + 1) (done ++ own) in
-      (own ++ next.0, next.1 ∙ append_append done own next.0)
+      record {
+        more = own ++ next.more;
+        are = next.are ∙ append_append done own next.more;
+        later = each_join (IsFrom number) own next.more (own_later number done f)
+            (each_weaker (IsFrom (number + 1)) (IsFrom number) (λ pipe h. omega (arith, h)) next.more next.later);
+      }
 
-  first_laid : (number : ℕ) (done : List PipeForm) (f : FragmentForm) (more : List PipeForm)
+  first_laid : (number : ℕ) (done : List PipeForm) (f : FragmentForm) (more : List PipeForm) → Each (IsFrom number) more
       → IsLaid (done ++ (own_of number done f ++ more)) p fragments number f
-  first_laid number done f more =
+  first_laid number done f more after_it =
       let s = site_of p fragments number f in
       let target = target_of number f.output done in
       let own = pipes_of s (length done) target f.root in
@@ -66,6 +88,9 @@ module _ (p : Parallelism) (fragments : List FragmentForm) where
         done = done;
         rest = own_of number done f ++ more;
         are = refl;
+        later = λ k pipe is.
+            each_at (IsFrom number) (own_of number done f ++ more) k pipe is
+            (each_join (IsFrom number) (own_of number done f) more (own_later number done f) after_it);
         root = pipes_run (map bare (done ++ (own_of number done f ++ more))) s (length done) target f.root
             (stands (driver_numbers done (own ++ fetches)) done own fetches more);
       }
@@ -80,8 +105,9 @@ module _ (p : Parallelism) (fragments : List FragmentForm) where
       let at : number ≡ number + 0 = omega arith in
       subst (λ (n : ℕ). IsLaid (laid p fragments number done (g ∷ fs)) p fragments n f) at
       (subst (IsLaid (laid p fragments number done (g ∷ fs)) p fragments number) same
-      (subst (λ (layout : List PipeForm). IsLaid layout p fragments number g) (sym (next.1 ∙ append_append done own next.0))
-      (first_laid number done g next.0)))
+      (subst (λ (layout : List PipeForm). IsLaid layout p fragments number g) (sym (next.are ∙ append_append done own next.more))
+      (first_laid number done g next.more
+      (each_weaker (IsFrom (number + 1)) (IsFrom number) (λ pipe h. omega (arith, h)) next.more next.later))))
   all_laid (g ∷ fs) number done (suc k) f is =
       let own = own_of number done g in
       let at : number + 1 + k ≡ number + suc k = omega arith in

@@ -1,3 +1,4 @@
 pub mod SideLemmas
+pub mod PipeLemmas
 pub mod LayoutLemmas
 pub mod FetchLemmas

@@ -82,14 +82,16 @@ stand_first layout at x xs stand =
 
 module _ (layout : List PipeForm) (s : Site) where
   abbrev RunsNode : ℕ → ℕ → NodeForm → Type 0
-  RunsNode own next n = Runs layout s.fragments own s.tasks n (source_of n) (steps_of s.fragments next n)
+  RunsNode own next n = Runs layout s own n (source_of n) (steps_of s.fragments next n)
 
   pipe_runs : (at : ℕ) (target : TargetForm) (n : NodeForm) → (Stand layout (at + 1) (sides_of s at (at + 1) n) → RunsNode at (at + 1) n)
-      → Stand layout at (pipes_of s at target n) → PipeAt layout s.tasks target at (Runs layout s.fragments at s.tasks n)
+      → Stand layout at (pipes_of s at target n) → PipeAt layout s target at (Runs layout s at n)
   pipe_runs at target n runs stand = record {
     pipe = pipe_of s (at + 1) target n;
     is = stand_first layout at (pipe_of s (at + 1) target n) (sides_of s at (at + 1) n) stand;
+    part = refl;
     tasks = refl;
+    drivers = refl;
     has = refl;
     below = runs (stand_next layout at (pipe_of s (at + 1) target n) (sides_of s at (at + 1) n) stand);
   }
@@ -132,5 +134,5 @@ module _ (layout : List PipeForm) (s : Site) where
       )
 
   pub pipes_run : (at : ℕ) (target : TargetForm) (n : NodeForm) → Stand layout at (pipes_of s at target n)
-      → PipeAt layout s.tasks target at (Runs layout s.fragments at s.tasks n)
+      → PipeAt layout s target at (Runs layout s at n)
   pipes_run at target n stand = pipe_runs at target n (nodes_run at (at + 1) n) stand

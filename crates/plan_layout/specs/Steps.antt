@@ -62,6 +62,19 @@ abbrev pub final_over : List FragmentForm → ℕ → NodeForm → List StepForm
 final_over fragments id (node.remote source number) = final_in id (slice_get fragments number)
 final_over fragments id node = []
 
+-- the step of a node over one input
+abbrev pub own_steps : List FragmentForm → NodeForm → List StepForm
+own_steps fragments (node.filter id predicate input) = filter id predicate ∷ []
+own_steps fragments (node.project id columns input) = project id columns ∷ []
+own_steps fragments (node.aggregate id step keys calls input) = aggregate_step id step keys calls ∷ []
+own_steps fragments (node.aggregate_final id input) = final_over fragments id input
+own_steps fragments (node.sort id keys input) = sort id keys ∷ []
+own_steps fragments (node.top_n id step count keys input) = top_n id count keys ∷ []
+own_steps fragments (node.top_n_final id input) = final_over fragments id input
+own_steps fragments (node.limit id step count input) = limit id count ∷ []
+own_steps fragments (node.limit_final id input) = final_over fragments id input
+own_steps fragments leaf = []
+
 -- the steps from the source on. `next` is the place of the first pipe that begins below the node
 abbrev pub steps_of : List FragmentForm → ℕ → NodeForm → List StepForm
 steps_of fragments next (node.scan id place columns types) = []

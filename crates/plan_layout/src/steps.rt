@@ -3,14 +3,14 @@ ghost use Rattle.std.specs.Prelude.{◌≡◌, ◌+◌, ◌++◌, ◌∷◌, [],
 ghost use Rattle.std.specs.List.{list_any};
 ghost use Rattle.plan_docs.specs.Nodes.{node_view};
 ghost use Rattle.plan_docs.specs.Plans.{fragment_view};
-ghost use Rattle.plan_layout.specs.Pipes.{source_view, step_view, target_view};
-ghost use Rattle.plan_layout.specs.Steps.{aggregate_step, builds, drivers_of, final_in, final_of, final_over, groups_rows, is_shared, side_count, source_of, steps_of};
+ghost use Rattle.plan_layout.specs.Pipes.{probe, source_view, step_view, target_view};
+ghost use Rattle.plan_layout.specs.Steps.{aggregate_step, builds, drivers_of, final_in, final_of, final_over, groups_rows, is_shared, own_steps, side_count, source_of, steps_of};
 
 use crate::pipe::{PipeSource, PipeStep, PipeTarget};
 use crate::sums::sum_of;
 use plan_docs::{Fragment, Node, NodeStep};
-use plan_trees::CallList;
-use sql_values::{Memory, Places};
+use plan_trees::{CallList, Pairs};
+use sql_values::{JoinKind, Memory, Places};
 use std::alloc::Global;
 
 pub fn source_of(node: &Node) -> PipeSource<'_>
@@ -180,6 +180,62 @@ pub fn steps_of<'p>(
     Ok(steps)
 }
 
+/// The step of a join, behind those of its left side. `next` is the place of the first pipe that begins below it.
+fn push_probe<'p>(
+    steps: &mut Vec<PipeStep<'p>>,
+    next: usize,
+    id: u32,
+    kind: JoinKind,
+    on: &'p Pairs,
+    left: &Node,
+) -> Result<(), Memory>
+    ensures { OnOk result (map step_view steps.new.items
+        ≡ map step_view steps.old.items
+        ++ probe id kind on.now (next + side_count (node_view left.now)) ∷ []) }
+{
+    let built = sum_of(next, side_count(left)?)?;
+    push_step(steps, PipeStep::Probe(id, kind, on, built))
+}
+
+/// The step of a node over one input, behind those of the input.
+fn push_own<'p>(
+    steps: &mut Vec<PipeStep<'p>>,
+    fragments: &'p [Fragment],
+    node: &'p Node,
+) -> Result<(), Memory>
+    ensures { OnOk result (map step_view steps.new.items
+        ≡ map step_view steps.old.items
+        ++ own_steps (map fragment_view fragments.now) (node_view node.now)) }
+{
+    match node {
+        Node::Scan { .. }
+        | Node::Values { .. }
+        | Node::Remote { .. }
+        | Node::Join { .. }
+        | Node::Union { .. } => Ok(()),
+        Node::Filter { id, predicate, .. } => push_step(steps, PipeStep::Filter(*id, predicate)),
+        Node::Project { id, columns, .. } => push_step(steps, PipeStep::Project(*id, columns)),
+        Node::Aggregate {
+            id,
+            step,
+            keys,
+            calls,
+            ..
+        } => push_step(steps, aggregate_step(*id, *step, keys, calls)),
+        Node::Sort { id, keys, .. } => push_step(steps, PipeStep::Sort(*id, keys)),
+        Node::TopN {
+            id,
+            count,
+            keys,
+            ..
+        } => push_step(steps, PipeStep::TopN(*id, *count, keys)),
+        Node::Limit { id, count, .. } => push_step(steps, PipeStep::Limit(*id, *count)),
+        Node::AggregateFinal { id, input }
+        | Node::TopNFinal { id, input }
+        | Node::LimitFinal { id, input } => push_final_over(steps, fragments, *id, input),
+    }
+}
+
 fn push_steps<'p>(
     steps: &mut Vec<PipeStep<'p>>,
     fragments: &'p [Fragment],
@@ -194,18 +250,6 @@ fn push_steps<'p>(
         Node::Scan { .. } | Node::Values { .. } | Node::Remote { .. } | Node::Union { .. } => Ok(
             (),
         ),
-        Node::Filter {
-            id,
-            predicate,
-            input,
-        } => {
-            push_steps(steps, fragments, next, input)?;
-            push_step(steps, PipeStep::Filter(*id, predicate))
-        }
-        Node::Project { id, columns, input } => {
-            push_steps(steps, fragments, next, input)?;
-            push_step(steps, PipeStep::Project(*id, columns))
-        }
         Node::Join {
             id,
             kind,
@@ -214,47 +258,19 @@ fn push_steps<'p>(
             ..
         } => {
             push_steps(steps, fragments, next, left)?;
-            let built = sum_of(next, side_count(left)?)?;
-            push_step(steps, PipeStep::Probe(*id, *kind, on, built))
+            push_probe(steps, next, *id, *kind, on, left)
         }
-        Node::Aggregate {
-            id,
-            step,
-            keys,
-            calls,
-            input,
-        } => {
+        Node::Filter { input, .. }
+        | Node::Project { input, .. }
+        | Node::Aggregate { input, .. }
+        | Node::AggregateFinal { input, .. }
+        | Node::Sort { input, .. }
+        | Node::TopN { input, .. }
+        | Node::TopNFinal { input, .. }
+        | Node::Limit { input, .. }
+        | Node::LimitFinal { input, .. } => {
             push_steps(steps, fragments, next, input)?;
-            push_step(steps, aggregate_step(*id, *step, keys, calls))
-        }
-        Node::Sort { id, keys, input } => {
-            push_steps(steps, fragments, next, input)?;
-            push_step(steps, PipeStep::Sort(*id, keys))
-        }
-        Node::TopN {
-            id,
-            count,
-            keys,
-            input,
-            ..
-        } => {
-            push_steps(steps, fragments, next, input)?;
-            push_step(steps, PipeStep::TopN(*id, *count, keys))
-        }
-        Node::Limit {
-            id,
-            count,
-            input,
-            ..
-        } => {
-            push_steps(steps, fragments, next, input)?;
-            push_step(steps, PipeStep::Limit(*id, *count))
-        }
-        Node::AggregateFinal { id, input }
-        | Node::TopNFinal { id, input }
-        | Node::LimitFinal { id, input } => {
-            push_steps(steps, fragments, next, input)?;
-            push_final_over(steps, fragments, *id, input)
+            push_own(steps, fragments, node)
         }
     }
 }

@@ -1,0 +1,13 @@
+pub mod SeatLemmas
+pub mod NumberLemmas
+pub mod LaneLemmas
+pub mod ReaderLemmas
+pub mod FetchOnceLemmas
+pub mod LoneLemmas
+pub mod CoverLemmas
+pub mod RunPipeLemmas
+pub mod BlockLemmas
+pub mod UnderLemmas
+pub mod ReachLemmas
+pub mod PlanPipeLemmas
+pub mod ReadLemmas

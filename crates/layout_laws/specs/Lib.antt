@@ -1,0 +1,5 @@
+pub mod Numbers
+pub mod Lanes
+pub mod Readers
+pub mod RunPipes
+pub mod Reached

@@ -1,5 +1,5 @@
 -- What operators gave where the last of them is finished.
-use Rattle.std.proofs.Common.{◌≡◌, ◌⊎◌, inl, inr, ℕ, ◌<◌, List, [], ◌∷◌, ◌++◌, Option, Some, None, Bool, true, map, refl, ap, sym, subst, ◌∙◌, append-nil}
+use Rattle.std.proofs.Common.{◌≡◌, ℕ, List, [], ◌∷◌, ◌++◌, Option, Some, None, Bool, true, length, refl, ap, sym, subst, ◌∙◌, append-nil}
 use Rattle.sql_values.specs.declared.types.SqlType.{SqlType}
 use Rattle.sql_values.specs.declared.relational.JoinKind.{JoinKind}
 use Rattle.page_judges.specs.Typed.{AllFit}
@@ -13,13 +13,13 @@ use Rattle.plan_trees.specs.TreeTypes.{types_of}
 use Rattle.plan_runs.specs.Nets.{Chain as StageChain, Stage}
 use Rattle.plan_runs.specs.Nets as stage
 use Rattle.plan_runs.specs.RunPlans.{RunPlan, tree_of_run, scan, values, remote, filter, project, join, aggregate, aggregate_parts, sort, topn, topn_parts, limit, limit_parts, union}
-use Rattle.plan_runs.specs.Stops.{CanGoOn, GoesOn, IsNoted}
+use Rattle.plan_runs.specs.Stops.{CanGoOn, IsNoted}
 use Rattle.stage_meanings.specs.Meanings.{Means}
 use Rattle.stage_meanings.specs.Pipelines.{NodeStage, at_node, stages_of}
 use Rattle.stage_meanings.proofs.MeaningLemmas.{all_make, made-append, stages-append}
 use Rattle.plan_nets.specs.Trees.{stages_over}
 use Rattle.plan_nets.specs.Stopped.{AgreeWith}
-use Rattle.plan_nets.specs.Operators.{EndsIn, LooksUp, Operate, types_of_source}
+use Rattle.plan_nets.specs.Operators.{EndsIn, LooksUp, NoOperator, Operate, partial_types, types_of_source}
 use Rattle.plan_nets.proofs.OperatorLemmas.{Before, Made, came_before, done_is, first_agrees, gave_fits, made_behind}
 
 module _ {S : Type 0} (g : Ghosts S) (laws : IsLawful g) where
@@ -74,12 +74,24 @@ module _ {S : Type 0} (g : Ghosts S) (laws : IsLawful g) where
   no_operator [] types given ended took gave none same linked fit = (linked, subst (λ (ts : List SqlType). AllFit ts gave) same (subst (AllFit types) linked fit))
   no_operator (s ∷ all) types given ended took gave none same linked fit = absurd cc
 
+  half_finish : (at : NodeStage) (types : List SqlType) (all : List S) (given : List SqlType)
+      → (o : EndsIn (NoOperator types) (λ last between. Means g (g.as_made last) between (at ∷ []) given) all)
+      → (ended : Bool) (took gave : List Row) → ToldInTurn g ended all → Linked g all took gave → AllFit types took → last_finished g ended all ≡ true
+      → StageChain strict (stages_of (at ∷ [])) took gave × AllFit given gave
+  half_finish at types all given o ended took gave turns linked fit over =
+      let b = came_before g laws all o.before o.last ended took gave o.are turns linked in
+      let done = done_last all o.before o.last ended o.are over in
+      let f = Steps-finished g laws o.last b.came gave done b.steps in
+      let l = no_operator o.before types o.between ended took b.came o.input.0 o.input.1 b.linked fit in
+      let one = all_make g (g.as_made o.last ∷ []) o.between given (at ∷ []) (at ∷ [], [], given, refl, o.is, (refl, refl)) b.came gave l.1 (gave, f.0, (λ e. f.1), refl) in
+      (subst (λ (rows : List Row). StageChain strict (stages_of (at ∷ [])) rows gave) (sym l.0) one.0, one.1)
+
   pub finish_all : (run : RunPlan) (notes : List (Option (List Row))) (builds : List (List Row)) (all : List S) (given : List SqlType) → Operate g run notes all given → AgreeWith notes builds
       → (ended : Bool) (took gave : List Row) → ToldInTurn g ended all → Linked g all took gave → AllFit (types_of_source run) took → last_finished g ended all ≡ true
       → Made g laws run builds given took gave
   finish_all (scan id table columns types) notes builds all given (none, same) agree ended took gave turns linked fit over = no_operator all types given ended took gave none same linked fit
   finish_all (values id types rows) notes builds all given (none, same) agree ended took gave turns linked fit over = no_operator all types given ended took gave none same linked fit
-  finish_all (remote id output tasks input) notes builds all given o agree ended took gave turns linked fit over = absurd o
+  finish_all (remote id output tasks input) notes builds all given (none, same) agree ended took gave turns linked fit over = no_operator all (types_of (tree_of_run input)) given ended took gave none same linked fit
   finish_all (filter id predicate input) notes builds all given o agree ended took gave turns linked fit over =
       let b = came_before g laws all o.before o.last ended took gave o.are turns linked in
       let done = done_last all o.before o.last ended o.are over in
@@ -107,7 +119,9 @@ module _ {S : Type 0} (g : Ghosts S) (laws : IsLawful g) where
       let done = done_last all o.before o.last ended o.are over in
       unary_finish (aggregate id keys calls input) (at_node id (stage.grouping (types_of (tree_of_run input)) keys calls)) input notes all given builds refl o ended took gave b done
       (finish_all input notes builds o.before o.between o.input agree ended took b.came b.told b.linked fit (done_before o.before o.last ended took gave b done))
-  finish_all (aggregate_parts id source output tasks keys calls input) notes builds all given o agree ended took gave turns linked fit over = absurd o
+  finish_all (aggregate_parts id source output tasks keys calls input) notes builds all given o agree ended took gave turns linked fit over =
+      let types = types_of (tree_of_run input) in
+      half_finish (at_node id (stage.final types (length keys) calls)) (partial_types types keys calls) all given o ended took gave turns linked fit over
   finish_all (sort id keys input) notes builds all given o agree ended took gave turns linked fit over =
       let b = came_before g laws all o.before o.last ended took gave o.are turns linked in
       let done = done_last all o.before o.last ended o.are over in
@@ -118,11 +132,13 @@ module _ {S : Type 0} (g : Ghosts S) (laws : IsLawful g) where
       let done = done_last all o.before o.last ended o.are over in
       unary_finish (topn id count keys input) (at_node id (stage.topn count keys)) input notes all given builds refl o ended took gave b done
       (finish_all input notes builds o.before o.between o.input agree ended took b.came b.told b.linked fit (done_before o.before o.last ended took gave b done))
-  finish_all (topn_parts id source output tasks count keys input) notes builds all given o agree ended took gave turns linked fit over = absurd o
+  finish_all (topn_parts id source output tasks count keys input) notes builds all given o agree ended took gave turns linked fit over =
+      half_finish (at_node id (stage.topn count keys)) (types_of (tree_of_run input)) all given o ended took gave turns linked fit over
   finish_all (limit id count input) notes builds all given o agree ended took gave turns linked fit over =
       let b = came_before g laws all o.before o.last ended took gave o.are turns linked in
       let done = done_last all o.before o.last ended o.are over in
       unary_finish (limit id count input) (at_node id (stage.limit count)) input notes all given builds refl o ended took gave b done
       (finish_all input notes builds o.before o.between o.input agree ended took b.came b.told b.linked fit (done_before o.before o.last ended took gave b done))
-  finish_all (limit_parts id source output tasks count input) notes builds all given o agree ended took gave turns linked fit over = absurd o
-  finish_all (union id left right) notes builds all given o agree ended took gave turns linked fit over = absurd o
+  finish_all (limit_parts id source output tasks count input) notes builds all given o agree ended took gave turns linked fit over =
+      half_finish (at_node id (stage.limit count)) (types_of (tree_of_run input)) all given o ended took gave turns linked fit over
+  finish_all (union id left right) notes builds all given (none, same) agree ended took gave turns linked fit over = no_operator all (types_of (tree_of_run left)) given ended took gave none same linked fit

@@ -23,8 +23,8 @@ use Rattle.stage_meanings.specs.Meanings.{Means}
 use Rattle.stage_meanings.specs.Pipelines.{FailsOn, NodeStage, at_node, stages_of}
 use Rattle.stage_meanings.proofs.MeaningLemmas.{all_go_on, all_make, comes, made-append, stages-append}
 use Rattle.plan_nets.specs.Trees.{stages_over}
-use Rattle.plan_nets.specs.Stopped.{AgreeWith, FailsAt, FailsOver, IsOpen}
-use Rattle.plan_nets.specs.Operators.{AreKnown, EndsIn, LooksUp, Operate, types_of_source}
+use Rattle.plan_nets.specs.Stopped.{AgreeWith, FailsAt, FailsOnAll, FailsOver, IsOpen}
+use Rattle.plan_nets.specs.Operators.{AreKnown, EndsIn, LooksUp, NoOperator, Operate, partial_types, types_of_source}
 use Rattle.plan_nets.proofs.SnocLemmas.{Chain-snoc, Linked-snoc, Place, Turns-snoc, last-snoc, last_or_before, only_one}
 
 -- the first build of those that agree
@@ -42,11 +42,11 @@ module _ {S : Type 0} (g : Ghosts S) (laws : IsLawful g) where
   -- one more operator behind others
   module _ (pipeline : List NodeStage) (at : NodeStage) (last m : S) (between given : List SqlType) (means : Means g m between (at ∷ []) given) (made : MadeOf g last m)
       (took M gave : List Row) (ended told : Bool) (turn : g.is_told last ≡ true → told ≡ true) (steps : Steps g last M gave) (fit : AllFit between M) where
-    one_more : CanGoOn (stages_of (at ∷ [])) M gave told (g.is_finished last) × AllFit given gave
+    pub one_more : CanGoOn (stages_of (at ∷ [])) M gave told (g.is_finished last) × AllFit given gave
     one_more =
         all_go_on g laws (last ∷ []) (m ∷ []) between given (at ∷ []) (at ∷ [], [], given, refl, means, (refl, refl)) (made, tt) told M gave (turn, tt) (gave, steps, refl) fit
 
-    opens_behind : CanGoOn (stages_of pipeline) took M ended told → CanGoOn (stages_of (pipeline ++ at ∷ [])) took gave ended (g.is_finished last)
+    pub opens_behind : CanGoOn (stages_of pipeline) took M ended told → CanGoOn (stages_of (pipeline ++ at ∷ [])) took gave ended (g.is_finished last)
     opens_behind opens =
         subst (λ (p : List Stage). CanGoOn p took gave ended (g.is_finished last)) (sym (stages-append pipeline (at ∷ [])))
         (goes_on-append (stages_of pipeline) (stages_of (at ∷ [])) took M gave ended told (g.is_finished last) opens one_more.0)
@@ -95,6 +95,19 @@ module _ {S : Type 0} (g : Ghosts S) (laws : IsLawful g) where
     (one_more (stages_over input []) at o.last (g.as_made o.last) o.between given o.is (inl refl) took b.came gave ended (last_finished g ended o.before) b.turn b.steps stood.1).1,
   )
 
+  -- the one operator of the later half, behind the edge
+  half_stood : (at : NodeStage) (types : List SqlType) (all : List S) (given : List SqlType)
+      → (o : EndsIn (NoOperator types) (λ last between. Means g (g.as_made last) between (at ∷ []) given) all)
+      → (ended : Bool) (took gave : List Row) → ToldInTurn g ended all → Linked g all took gave → AllFit types took
+      → CanGoOn (stages_of (at ∷ [])) took gave ended (last_finished g ended all) × AllFit given gave
+  half_stood at types all given o ended took gave turns linked fit =
+      let b = came_before all o.before o.last ended took gave o.are turns linked in
+      let l = leaf o.before types o.between ended took b.came o.input.0 o.input.1 b.linked fit in (
+        subst (CanGoOn (stages_of (at ∷ [])) took gave ended) (sym (done_is all o.before o.last ended o.are))
+            (opens_behind [] at o.last (g.as_made o.last) o.between given o.is (inl refl) took b.came gave ended (last_finished g ended o.before) b.turn b.steps l.1 l.0),
+        (one_more [] at o.last (g.as_made o.last) o.between given o.is (inl refl) took b.came gave ended (last_finished g ended o.before) b.turn b.steps l.1).1,
+      )
+
   none_agree : (noted : Option (List Row)) (notes : List (Option (List Row))) → AgreeWith (noted ∷ notes) [] → ⊥
   none_agree noted notes agrees = agrees
 
@@ -134,7 +147,8 @@ module _ {S : Type 0} (g : Ghosts S) (laws : IsLawful g) where
       let l = leaf all types given ended took gave none same linked fit in ((λ builds agrees. l.0), l.1)
   stood_at (values id types rows) notes all given (none, same) ended took gave turns linked fit =
       let l = leaf all types given ended took gave none same linked fit in ((λ builds agrees. l.0), l.1)
-  stood_at (remote id output tasks input) notes all given o ended took gave turns linked fit = absurd o
+  stood_at (remote id output tasks input) notes all given (none, same) ended took gave turns linked fit =
+      let l = leaf all (types_of (tree_of_run input)) given ended took gave none same linked fit in ((λ builds agrees. l.0), l.1)
   stood_at (filter id predicate input) notes all given o ended took gave turns linked fit =
       let b = came_before all o.before o.last ended took gave o.are turns linked in
       unary (filter id predicate input) (at_node id (stage.filter (types_of (tree_of_run input)) predicate)) input notes all given (λ builds. refl) o ended took gave b
@@ -155,7 +169,9 @@ module _ {S : Type 0} (g : Ghosts S) (laws : IsLawful g) where
       let b = came_before all o.before o.last ended took gave o.are turns linked in
       unary (aggregate id keys calls input) (at_node id (stage.grouping (types_of (tree_of_run input)) keys calls)) input notes all given (λ builds. refl) o ended took gave b
       (stood_at input notes o.before o.between o.input ended took b.came b.told b.linked fit)
-  stood_at (aggregate_parts id source output tasks keys calls input) notes all given o ended took gave turns linked fit = absurd o
+  stood_at (aggregate_parts id source output tasks keys calls input) notes all given o ended took gave turns linked fit =
+      let types = types_of (tree_of_run input) in
+      let h = half_stood (at_node id (stage.final types (length keys) calls)) (partial_types types keys calls) all given o ended took gave turns linked fit in ((λ builds agrees. h.0), h.1)
   stood_at (sort id keys input) notes all given o ended took gave turns linked fit =
       let b = came_before all o.before o.last ended took gave o.are turns linked in
       unary (sort id keys input) (at_node id (stage.sort keys)) input notes all given (λ builds. refl) o ended took gave b
@@ -164,13 +180,16 @@ module _ {S : Type 0} (g : Ghosts S) (laws : IsLawful g) where
       let b = came_before all o.before o.last ended took gave o.are turns linked in
       unary (topn id count keys input) (at_node id (stage.topn count keys)) input notes all given (λ builds. refl) o ended took gave b
       (stood_at input notes o.before o.between o.input ended took b.came b.told b.linked fit)
-  stood_at (topn_parts id source output tasks count keys input) notes all given o ended took gave turns linked fit = absurd o
+  stood_at (topn_parts id source output tasks count keys input) notes all given o ended took gave turns linked fit =
+      let h = half_stood (at_node id (stage.topn count keys)) (types_of (tree_of_run input)) all given o ended took gave turns linked fit in ((λ builds agrees. h.0), h.1)
   stood_at (limit id count input) notes all given o ended took gave turns linked fit =
       let b = came_before all o.before o.last ended took gave o.are turns linked in
       unary (limit id count input) (at_node id (stage.limit count)) input notes all given (λ builds. refl) o ended took gave b
       (stood_at input notes o.before o.between o.input ended took b.came b.told b.linked fit)
-  stood_at (limit_parts id source output tasks count input) notes all given o ended took gave turns linked fit = absurd o
-  stood_at (union id left right) notes all given o ended took gave turns linked fit = absurd o
+  stood_at (limit_parts id source output tasks count input) notes all given o ended took gave turns linked fit =
+      let h = half_stood (at_node id (stage.limit count)) (types_of (tree_of_run input)) all given o ended took gave turns linked fit in ((λ builds agrees. h.0), h.1)
+  stood_at (union id left right) notes all given (none, same) ended took gave turns linked fit =
+      let l = leaf all (types_of (tree_of_run left)) given ended took gave none same linked fit in ((λ builds agrees. l.0), l.1)
 
   -- what they gave where nothing failed, and all builds are known
   abbrev pub Made : RunPlan → List (List Row) → List SqlType → List Row → List Row → Type 0
@@ -197,11 +216,20 @@ module _ {S : Type 0} (g : Ghosts S) (laws : IsLawful g) where
   chain_before all before last took gave are chain =
       Chain-snoc g before last took gave (subst (λ (a : List S). Chain g true (map g.as_made a) took gave) are chain)
 
+  half_made : (at : NodeStage) (types : List SqlType) (all : List S) (given : List SqlType)
+      → (o : EndsIn (NoOperator types) (λ last between. Means g (g.as_made last) between (at ∷ []) given) all)
+      → (took gave : List Row) → AllFit types took → Chain g true (map g.as_made all) took gave → StageChain strict (stages_of (at ∷ [])) took gave × AllFit given gave
+  half_made at types all given o took gave fit chain =
+      let c = chain_before all o.before o.last took gave o.are chain in
+      let l = leaf_made o.before types o.between took c.0 o.input.0 o.input.1 c.1 fit in
+      let one = all_make g (g.as_made o.last ∷ []) o.between given (at ∷ []) (at ∷ [], [], given, refl, o.is, (refl, refl)) c.0 gave l.1 (gave, c.2, (λ e. c.3), refl) in
+      (subst (λ (rows : List Row). StageChain strict (stages_of (at ∷ [])) rows gave) (sym l.0) one.0, one.1)
+
   pub made_all : (run : RunPlan) (notes : List (Option (List Row))) (builds : List (List Row)) (all : List S) (given : List SqlType) → Operate g run notes all given → AreKnown notes builds
       → (took gave : List Row) → AllFit (types_of_source run) took → Chain g true (map g.as_made all) took gave → Made run builds given took gave
   made_all (scan id table columns types) notes builds all given (none, same) known took gave fit chain = leaf_made all types given took gave none same chain fit
   made_all (values id types rows) notes builds all given (none, same) known took gave fit chain = leaf_made all types given took gave none same chain fit
-  made_all (remote id output tasks input) notes builds all given o known took gave fit chain = absurd o
+  made_all (remote id output tasks input) notes builds all given (none, same) known took gave fit chain = leaf_made all (types_of (tree_of_run input)) given took gave none same chain fit
   made_all (filter id predicate input) notes builds all given o known took gave fit chain =
       let c = chain_before all o.before o.last took gave o.are chain in
       made_behind (filter id predicate input) input builds builds (at_node id (stage.filter (types_of (tree_of_run input)) predicate)) (g.as_made o.last) o.between given took c.0 gave refl o.is c.2 c.3
@@ -223,7 +251,9 @@ module _ {S : Type 0} (g : Ghosts S) (laws : IsLawful g) where
       let c = chain_before all o.before o.last took gave o.are chain in
       made_behind (aggregate id keys calls input) input builds builds (at_node id (stage.grouping (types_of (tree_of_run input)) keys calls)) (g.as_made o.last) o.between given took c.0 gave refl o.is c.2 c.3
       (made_all input notes builds o.before o.between o.input known took c.0 fit c.1)
-  made_all (aggregate_parts id source output tasks keys calls input) notes builds all given o known took gave fit chain = absurd o
+  made_all (aggregate_parts id source output tasks keys calls input) notes builds all given o known took gave fit chain =
+      let types = types_of (tree_of_run input) in
+      half_made (at_node id (stage.final types (length keys) calls)) (partial_types types keys calls) all given o took gave fit chain
   made_all (sort id keys input) notes builds all given o known took gave fit chain =
       let c = chain_before all o.before o.last took gave o.are chain in
       made_behind (sort id keys input) input builds builds (at_node id (stage.sort keys)) (g.as_made o.last) o.between given took c.0 gave refl o.is c.2 c.3
@@ -232,13 +262,15 @@ module _ {S : Type 0} (g : Ghosts S) (laws : IsLawful g) where
       let c = chain_before all o.before o.last took gave o.are chain in
       made_behind (topn id count keys input) input builds builds (at_node id (stage.topn count keys)) (g.as_made o.last) o.between given took c.0 gave refl o.is c.2 c.3
       (made_all input notes builds o.before o.between o.input known took c.0 fit c.1)
-  made_all (topn_parts id source output tasks count keys input) notes builds all given o known took gave fit chain = absurd o
+  made_all (topn_parts id source output tasks count keys input) notes builds all given o known took gave fit chain =
+      half_made (at_node id (stage.topn count keys)) (types_of (tree_of_run input)) all given o took gave fit chain
   made_all (limit id count input) notes builds all given o known took gave fit chain =
       let c = chain_before all o.before o.last took gave o.are chain in
       made_behind (limit id count input) input builds builds (at_node id (stage.limit count)) (g.as_made o.last) o.between given took c.0 gave refl o.is c.2 c.3
       (made_all input notes builds o.before o.between o.input known took c.0 fit c.1)
-  made_all (limit_parts id source output tasks count input) notes builds all given o known took gave fit chain = absurd o
-  made_all (union id left right) notes builds all given o known took gave fit chain = absurd o
+  made_all (limit_parts id source output tasks count input) notes builds all given o known took gave fit chain =
+      half_made (at_node id (stage.limit count)) (types_of (tree_of_run input)) all given o took gave fit chain
+  made_all (union id left right) notes builds all given (none, same) known took gave fit chain = leaf_made all (types_of (tree_of_run left)) given took gave none same chain fit
 
   -- the last operator fails on what came to it
   record LastFails (id : ℕ) (st : Stage) (input : RunPlan) (notes : List (Option (List Row))) (took : List Row) (ended : Bool) (node : ℕ) (kind : Fail) : Type 0 where
@@ -267,12 +299,12 @@ module _ {S : Type 0} (g : Ghosts S) (laws : IsLawful g) where
       }
 
   -- where the operator at a place stands
-  record InFront (all before : List S) (i : ℕ) (s : S) : Type 0 where
-    front : take i all ≡ take i before
-    below : i < length before
-    is : s ≡ get_or before i s
+  pub record InFront (all before : List S) (i : ℕ) (s : S) : Type 0 where
+    pub front : take i all ≡ take i before
+    pub below : i < length before
+    pub is : s ≡ get_or before i s
 
-  at_last_or_before : (all before : List S) (last : S) (i : ℕ) (s : S) → all ≡ before ++ last ∷ [] → i < length all → s ≡ get_or all i s
+  pub at_last_or_before : (all before : List S) (last : S) (i : ℕ) (s : S) → all ≡ before ++ last ∷ [] → i < length all → s ≡ get_or all i s
       → ((take i all ≡ before) × (s ≡ last)) ⊎ InFront all before i s
   at_last_or_before all before last i s are lt at =
       where_it_is (last_or_before before last i s (subst (λ (a : List S). i < length a) are lt) (subst (λ (a : List S). s ≡ get_or a i s) are at))
@@ -281,7 +313,7 @@ module _ {S : Type 0} (g : Ghosts S) (laws : IsLawful g) where
       where_it_is (inl (front, is)) = inl (ap (take i) are ∙ front, is)
       where_it_is (inr p) = inr (record { front = ap (take i) are ∙ p.front; below = p.below; is = p.is })
 
-  moved : (before others : List S) (m n : S) (ended : Bool) (took : List Row) (node : ℕ) (kind : Fail) → others ≡ before → m ≡ n
+  pub moved : (before others : List S) (m n : S) (ended : Bool) (took : List Row) (node : ℕ) (kind : Fail) → others ≡ before → m ≡ n
       → FailsAfter g others m ended took node kind → FailsAfter g before n ended took node kind
   moved before others m n ended took node kind front is f =
       subst (λ (b : List S). FailsAfter g b n ended took node kind) front (subst (λ (x : S). FailsAfter g others x ended took node kind) is f)
@@ -321,12 +353,32 @@ module _ {S : Type 0} (g : Ghosts S) (laws : IsLawful g) where
     no_operator : (all : List S) (i : ℕ) → all ≡ [] → i < length all → ⊥
     no_operator all i none lt = omega (arith, ap length none, lt)
 
+    -- no operator stands before the later half
+    half_fails : (id : ℕ) (st : Stage) (types : List SqlType) (all : List S) (given : List SqlType)
+        → (o : EndsIn (NoOperator types) (λ last between. Means g (g.as_made last) between (at_node id st ∷ []) given) all)
+        → (ended : Bool) (took : List Row) → AllFit types took → (i : ℕ) (s : S) → FailsAfter g (take i all) (g.as_made s) ended took node kind
+        → ((take i all ≡ o.before) × (s ≡ o.last)) ⊎ InFront all o.before i s → (id ≡ node) × FailsOnAll (FailsOn st kind) took ended
+    half_fails id st types all given o ended took fit i s f (inr p) = absurd (no_operator o.before i o.input.0 p.below)
+    half_fails id st types all given o ended took fit i s f (inl (front, is)) =
+        let h = moved [] (take i all) (g.as_made s) (g.as_made o.last) ended took node kind (front ∙ o.input.0) (ap g.as_made is) f in
+        let here : AllFit o.between h.came = subst (λ (ts : List SqlType). AllFit ts h.came) o.input.1 (subst (AllFit types) h.linked fit) in
+        let r = o.is.fails h.came ended node kind here (λ Z may. h.fails Z (comes ended Z may)) in
+        let only = only_one r.before r.after (at_node id st) (at_node node r.stage) r.at in
+        let same : st ≡ r.stage = ap (λ (s : NodeStage). s.stage) only.1 in
+        let alone : CanGoOn [] h.came r.came ended r.told = subst (λ (p : List NodeStage). CanGoOn (stages_of p) h.came r.came ended r.told) only.0 r.goes_on in (
+          ap (λ (s : NodeStage). s.node) only.1,
+          λ more may.
+              let goes = alone more may in
+              let whole : r.came ++ goes.rest ≡ took ++ more = sym (ap (λ (rows : List Row). rows ++ more) h.linked ∙ goes.chain) in
+              subst (FailsOn st kind) whole (subst (λ (s : Stage). FailsOn s kind (r.came ++ goes.rest)) (sym same) (r.fails goes.rest goes.none)),
+        )
+
     pub fails_of : (run : RunPlan) (notes : List (Option (List Row))) (all : List S) (given : List SqlType) → Operate g run notes all given → (ended : Bool) (took : List Row)
         → AllFit (types_of_source run) took → (i : ℕ) (s : S) → i < length all → s ≡ get_or all i s → FailsAfter g (take i all) (g.as_made s) ended took node kind
         → FailsAt run notes took ended node kind
     fails_of (scan id table columns types) notes all given o ended took fit i s lt at f = absurd (no_operator all i o.0 lt)
     fails_of (values id types rows) notes all given o ended took fit i s lt at f = absurd (no_operator all i o.0 lt)
-    fails_of (remote id output tasks input) notes all given o ended took fit i s lt at f = absurd o
+    fails_of (remote id output tasks input) notes all given o ended took fit i s lt at f = absurd (no_operator all i o.0 lt)
     fails_of (filter id predicate input) notes all given o ended took fit i s lt at f =
         unary_fails id (stage.filter (types_of (tree_of_run input)) predicate) input notes all given o ended took fit i s f (λ l. (l.here, l.over))
         (λ p h. fails_of input notes o.before o.between o.input ended took fit i s p.below p.is h) (at_last_or_before all o.before o.last i s o.are lt at)
@@ -340,16 +392,20 @@ module _ {S : Type 0} (g : Ghosts S) (laws : IsLawful g) where
     fails_of (aggregate id keys calls input) notes all given o ended took fit i s lt at f =
         unary_fails id (stage.grouping (types_of (tree_of_run input)) keys calls) input notes all given o ended took fit i s f (λ l. (l.here, l.over))
         (λ p h. fails_of input notes o.before o.between o.input ended took fit i s p.below p.is h) (at_last_or_before all o.before o.last i s o.are lt at)
-    fails_of (aggregate_parts id source output tasks keys calls input) notes all given o ended took fit i s lt at f = absurd o
+    fails_of (aggregate_parts id source output tasks keys calls input) notes all given o ended took fit i s lt at f =
+        let types = types_of (tree_of_run input) in
+        half_fails id (stage.final types (length keys) calls) (partial_types types keys calls) all given o ended took fit i s f (at_last_or_before all o.before o.last i s o.are lt at)
     fails_of (sort id keys input) notes all given o ended took fit i s lt at f =
         only_below (unary_fails id (stage.sort keys) input notes all given o ended took fit i s f (nothing_fails id (stage.sort keys) input notes took ended (λ rows never. never))
         (λ p h. fails_of input notes o.before o.between o.input ended took fit i s p.below p.is h) (at_last_or_before all o.before o.last i s o.are lt at))
     fails_of (topn id count keys input) notes all given o ended took fit i s lt at f =
         only_below (unary_fails id (stage.topn count keys) input notes all given o ended took fit i s f (nothing_fails id (stage.topn count keys) input notes took ended (λ rows never. never))
         (λ p h. fails_of input notes o.before o.between o.input ended took fit i s p.below p.is h) (at_last_or_before all o.before o.last i s o.are lt at))
-    fails_of (topn_parts id source output tasks count keys input) notes all given o ended took fit i s lt at f = absurd o
+    fails_of (topn_parts id source output tasks count keys input) notes all given o ended took fit i s lt at f =
+        (half_fails id (stage.topn count keys) (types_of (tree_of_run input)) all given o ended took fit i s f (at_last_or_before all o.before o.last i s o.are lt at)).1 [] (λ e. refl)
     fails_of (limit id count input) notes all given o ended took fit i s lt at f =
         only_below (unary_fails id (stage.limit count) input notes all given o ended took fit i s f (nothing_fails id (stage.limit count) input notes took ended (λ rows never. never))
         (λ p h. fails_of input notes o.before o.between o.input ended took fit i s p.below p.is h) (at_last_or_before all o.before o.last i s o.are lt at))
-    fails_of (limit_parts id source output tasks count input) notes all given o ended took fit i s lt at f = absurd o
-    fails_of (union id left right) notes all given o ended took fit i s lt at f = absurd o
+    fails_of (limit_parts id source output tasks count input) notes all given o ended took fit i s lt at f =
+        (half_fails id (stage.limit count) (types_of (tree_of_run input)) all given o ended took fit i s f (at_last_or_before all o.before o.last i s o.are lt at)).1 [] (λ e. refl)
+    fails_of (union id left right) notes all given o ended took fit i s lt at f = absurd (no_operator all i o.0 lt)

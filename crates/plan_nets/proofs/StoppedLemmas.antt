@@ -62,7 +62,7 @@ module _ (tables : Tables) where
   opened run one notes took gave ended done stands opens = λ k d lt less builds agreed.
       let agrees = agree notes builds k d agreed in (
         stages_of (stages_over run (in_task k builds)),
-        are_for run one builds k (builds_for run notes (in_task k builds) took ended stands agrees),
+        are_for run builds k (builds_for run notes (in_task k builds) took ended stands agrees),
         subst (λ (p : List Stage). CanGoOn p took gave ended done) (sym (append-nil (stages_of (stages_over run (in_task k builds))))) (opens (in_task k builds) agrees),
       )
 
@@ -125,7 +125,7 @@ module _ (tables : Tables) where
     fails_at (aggregate id keys calls input) one notes took ended stands (inl (is, f)) =
         inl (is, refl, over (FailsOnGroupOf (groups_of (types_of (tree_of_run input)) keys calls) kind) input one notes took ended stands f)
     fails_at (aggregate id keys calls input) one notes took ended stands (inr f) = inr (fails_at input one notes took ended stands f)
-    fails_at (aggregate_parts id source output tasks keys calls input) one notes took ended stands f = absurd f
+    fails_at (aggregate_parts id source output tasks keys calls input) one notes took ended stands f = absurd one
     fails_at (sort id keys input) one notes took ended stands f = fails_at input one notes took ended stands f
     fails_at (topn id count keys input) one notes took ended stands f = fails_at input one notes took ended stands f
     fails_at (topn_parts id source output tasks count keys input) one notes took ended stands f = absurd f

@@ -53,37 +53,37 @@ in_tasks-task k (rows ∷ builds) = ap (λ (rest : List (List Row)). rows ∷ re
 ends : (IsForInput : List Stage → Type 0) (first : List NodeStage) (id : ℕ) (last : Stage) → IsForInput (stages_of first) → EndsWith IsForInput last (stages_of (first ++ at_node id last ∷ []))
 ends IsForInput first id last are = (stages_of first, stages-append first (at_node id last ∷ []), are)
 
-pub are_for : (run : RunPlan) → IsInOneTask run → (builds : List TaskRows) (k : ℕ) → AreBuilds run (in_task k builds) → AreFor run builds k (stages_of (stages_over run (in_task k builds)))
-are_for (scan id table columns types) one builds k are = refl
-are_for (values id types rows) one builds k are = refl
-are_for (remote id output tasks input) one builds k are = absurd one
-are_for (filter id predicate input) one builds k are =
-    ends (AreFor input builds k) (stages_over input (in_task k builds)) id (stage.filter (types_of (tree_of_run input)) predicate) (are_for input one builds k are)
-are_for (project id columns input) one builds k are =
-    ends (AreFor input builds k) (stages_over input (in_task k builds)) id (stage.project (types_of (tree_of_run input)) columns) (are_for input one builds k are)
-are_for (join id kind on left right) one [] k are = absurd are
-are_for (join id kind on left right) one (build ∷ builds) k are = (
+pub are_for : (run : RunPlan) (builds : List TaskRows) (k : ℕ) → AreBuilds run (in_task k builds) → AreFor run builds k (stages_of (stages_over run (in_task k builds)))
+are_for (scan id table columns types) builds k are = refl
+are_for (values id types rows) builds k are = refl
+are_for (remote id output tasks input) builds k are = refl
+are_for (filter id predicate input) builds k are =
+    ends (AreFor input builds k) (stages_over input (in_task k builds)) id (stage.filter (types_of (tree_of_run input)) predicate) (are_for input builds k are)
+are_for (project id columns input) builds k are =
+    ends (AreFor input builds k) (stages_over input (in_task k builds)) id (stage.project (types_of (tree_of_run input)) columns) (are_for input builds k are)
+are_for (join id kind on left right) [] k are = absurd are
+are_for (join id kind on left right) (build ∷ builds) k are = (
   build k,
   same-refl (build k),
   ends (AreFor left builds k) (stages_over left (in_task k builds)) id (stage.probe kind on (width_of (tree_of_run left)) (width_of (tree_of_run right)) (build k))
-      (are_for left one.0 builds k are),
+      (are_for left builds k are),
 )
-are_for (aggregate id keys calls input) one builds k are =
-    ends (AreFor input builds k) (stages_over input (in_task k builds)) id (stage.grouping (types_of (tree_of_run input)) keys calls) (are_for input one builds k are)
-are_for (aggregate_parts id source output tasks keys calls input) one builds k are = absurd one
-are_for (sort id keys input) one builds k are = ends (AreFor input builds k) (stages_over input (in_task k builds)) id (stage.sort keys) (are_for input one builds k are)
-are_for (topn id count keys input) one builds k are = ends (AreFor input builds k) (stages_over input (in_task k builds)) id (stage.topn count keys) (are_for input one builds k are)
-are_for (topn_parts id source output tasks count keys input) one builds k are = absurd one
-are_for (limit id count input) one builds k are = ends (AreFor input builds k) (stages_over input (in_task k builds)) id (stage.limit count) (are_for input one builds k are)
-are_for (limit_parts id source output tasks count input) one builds k are = absurd one
-are_for (union id left right) one builds k are = absurd one
+are_for (aggregate id keys calls input) builds k are =
+    ends (AreFor input builds k) (stages_over input (in_task k builds)) id (stage.grouping (types_of (tree_of_run input)) keys calls) (are_for input builds k are)
+are_for (aggregate_parts id source output tasks keys calls input) builds k are = refl
+are_for (sort id keys input) builds k are = ends (AreFor input builds k) (stages_over input (in_task k builds)) id (stage.sort keys) (are_for input builds k are)
+are_for (topn id count keys input) builds k are = ends (AreFor input builds k) (stages_over input (in_task k builds)) id (stage.topn count keys) (are_for input builds k are)
+are_for (topn_parts id source output tasks count keys input) builds k are = refl
+are_for (limit id count input) builds k are = ends (AreFor input builds k) (stages_over input (in_task k builds)) id (stage.limit count) (are_for input builds k are)
+are_for (limit_parts id source output tasks count input) builds k are = refl
+are_for (union id left right) builds k are = refl
 
 -- the same of builds of one task
-pub are_for_builds : (run : RunPlan) → IsInOneTask run → (builds : List (List Row)) (k : ℕ) → AreBuilds run builds → AreFor run (in_tasks builds) k (stages_of (stages_over run builds))
-are_for_builds run one builds k are =
+pub are_for_builds : (run : RunPlan) (builds : List (List Row)) (k : ℕ) → AreBuilds run builds → AreFor run (in_tasks builds) k (stages_of (stages_over run builds))
+are_for_builds run builds k are =
     let same = in_tasks-task k builds in
     subst (λ (bs : List (List Row)). AreFor run (in_tasks builds) k (stages_of (stages_over run bs))) same
-    (are_for run one (in_tasks builds) k (subst (AreBuilds run) (sym same) are))
+    (are_for run (in_tasks builds) k (subst (AreBuilds run) (sym same) are))
 
 -- a right side is in the one task as well
 pub side_in_one_task : (side run : RunPlan) → IsInOneTask run → IsSideOf side run → IsInOneTask side

@@ -35,7 +35,7 @@ are_builds mode tables (union id left right) builds sides = absurd sides
 module _ (mode : Mode) (tables : Tables) where
   went : (run : RunPlan) → IsInOneTask run → (builds : List (List Row)) → AreBuilds run builds → (took gave : List Row) → Chain mode (stages_of (stages_over run builds)) took gave
       → Went mode 1 1 run (in_tasks builds) (alone took) (alone gave)
-  went run one builds are took gave chain = λ k d lt less. (stages_of (stages_over run builds), are_for_builds run one builds k are, chain)
+  went run one builds are took gave chain = λ k d lt less. (stages_of (stages_over run builds), are_for_builds run builds k are, chain)
 
   below : (run : RunPlan) → IsInOneTask run → (builds : List (List Row)) → SidesGave mode tables run builds → (took : List Row) → SameWeights took (rows_of_source tables run)
       → Below mode tables 1 1 run (in_tasks builds) (alone took)

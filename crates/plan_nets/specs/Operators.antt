@@ -1,13 +1,16 @@
 -- The operators of a driver, one for each stage of a node's pipeline.
-use Rattle.std.specs.Prelude.{◌≡◌, ℕ, Bool, List, [], ◌∷◌, ◌++◌, Option, Some, None, false, length, true}
+use Rattle.std.specs.Prelude.{◌≡◌, ℕ, Bool, List, [], ◌∷◌, ◌++◌, Option, Some, None, false, length, map, true}
 use Rattle.sql_values.specs.declared.fail.Fail.{Fail}
 use Rattle.sql_values.specs.declared.types.SqlType.{SqlType}
+use Rattle.sql_values.specs.declared.relational.Call.{Call}
 use Rattle.sql_values.specs.declared.relational.JoinKind.{JoinKind}
+use Rattle.sql_functions.specs.CallTypes.{type_at}
 use Rattle.relations.specs.Joins.{join_of}
 use Rattle.page_judges.specs.Typed.{AllFit}
 use Rattle.operator_core.specs.declared.operator.Operator.{Ghosts}
 use Rattle.operator_core.specs.Rows.{Row}
 use Rattle.operator_core.specs.Stages.{Steps}
+use Rattle.aggregation.specs.Layouts.{layout_types}
 use Rattle.bag_laws.specs.Weights.{SameWeights}
 use Rattle.plan_trees.specs.Allowed.{width_of}
 use Rattle.plan_trees.specs.TreeTypes.{types_of}
@@ -17,22 +20,26 @@ use Rattle.plan_runs.specs.Stops.{CanGoOn}
 use Rattle.stage_meanings.specs.Meanings.{Means}
 use Rattle.stage_meanings.specs.Pipelines.{NodeStage, at_node, stages_of}
 
--- the types of the rows of the source of the node's pipeline
+-- the types of keys and partial rows of groups of rows of these types
+abbrev pub partial_types : List SqlType → List ℕ → List Call → List SqlType
+partial_types types keys calls = layout_types (map (type_at types) keys) types calls
+
+-- the types of the rows of the source of the node's pipeline: between halves, those of the first half
 abbrev pub types_of_source : RunPlan → List SqlType
 types_of_source (scan id table columns types) = types
 types_of_source (values id types rows) = types
-types_of_source (remote id output tasks input) = []
+types_of_source (remote id output tasks input) = types_of (tree_of_run input)
 types_of_source (filter id predicate input) = types_of_source input
 types_of_source (project id columns input) = types_of_source input
 types_of_source (join id kind on left right) = types_of_source left
 types_of_source (aggregate id keys calls input) = types_of_source input
-types_of_source (aggregate_parts id source output tasks keys calls input) = []
+types_of_source (aggregate_parts id source output tasks keys calls input) = partial_types (types_of (tree_of_run input)) keys calls
 types_of_source (sort id keys input) = types_of_source input
 types_of_source (topn id count keys input) = types_of_source input
-types_of_source (topn_parts id source output tasks count keys input) = []
+types_of_source (topn_parts id source output tasks count keys input) = types_of (tree_of_run input)
 types_of_source (limit id count input) = types_of_source input
-types_of_source (limit_parts id source output tasks count input) = []
-types_of_source (union id left right) = []
+types_of_source (limit_parts id source output tasks count input) = types_of (tree_of_run input)
+types_of_source (union id left right) = types_of (tree_of_run left)
 
 -- the last operator is so over rows of some types, and those before it are for the input
 pub record EndsIn {S : Type 0} (AreForInput : List S → List SqlType → Type 0) (IsLast : S → List SqlType → Type 0) (all : List S) : Type 0 where
@@ -61,11 +68,15 @@ pub record Probes {S : Type 0} (g : Ghosts S) (s : S) (noted : Option (List Row)
   pub fits : (rows : List Row) → noted ≡ Some rows → AllFit right rows
   pub calm : (X : List Row) (node : ℕ) (kind : Fail) → g.may_still_fail (g.as_made s) X node kind → ⊥
 
+-- the pipeline has no operator
+abbrev pub NoOperator : {S : Type 0} → List SqlType → List S → List SqlType → Type 0
+NoOperator types all given = (all ≡ []) × (types ≡ given)
+
 -- each operator is the stage of a node, from the source on
 abbrev pub Operate : {S : Type 0} → Ghosts S → RunPlan → List (Option (List Row)) → List S → List SqlType → Type 0
-Operate g (scan id table columns types) notes all given = (all ≡ []) × (types ≡ given)
-Operate g (values id types rows) notes all given = (all ≡ []) × (types ≡ given)
-Operate g (remote id output tasks input) notes all given = ⊥
+Operate g (scan id table columns types) notes all given = NoOperator types all given
+Operate g (values id types rows) notes all given = NoOperator types all given
+Operate g (remote id output tasks input) notes all given = NoOperator (types_of (tree_of_run input)) all given
 Operate g (filter id predicate input) notes all given =
     EndsIn (Operate g input notes) (λ last between. Means g (g.as_made last) between (at_node id (stage.filter (types_of (tree_of_run input)) predicate) ∷ []) given) all
 Operate g (project id columns input) notes all given =
@@ -76,16 +87,20 @@ Operate g (join id kind on left right) (noted ∷ notes) all given =
     (λ last between. LooksUp g last noted between (λ built. at_node id (stage.probe kind on (width_of (tree_of_run left)) (width_of (tree_of_run right)) built)) given) all
 Operate g (aggregate id keys calls input) notes all given =
     EndsIn (Operate g input notes) (λ last between. Means g (g.as_made last) between (at_node id (stage.grouping (types_of (tree_of_run input)) keys calls) ∷ []) given) all
-Operate g (aggregate_parts id source output tasks keys calls input) notes all given = ⊥
+Operate g (aggregate_parts id source output tasks keys calls input) notes all given =
+    EndsIn (NoOperator (partial_types (types_of (tree_of_run input)) keys calls))
+    (λ last between. Means g (g.as_made last) between (at_node id (stage.final (types_of (tree_of_run input)) (length keys) calls) ∷ []) given) all
 Operate g (sort id keys input) notes all given =
     EndsIn (Operate g input notes) (λ last between. Means g (g.as_made last) between (at_node id (stage.sort keys) ∷ []) given) all
 Operate g (topn id count keys input) notes all given =
     EndsIn (Operate g input notes) (λ last between. Means g (g.as_made last) between (at_node id (stage.topn count keys) ∷ []) given) all
-Operate g (topn_parts id source output tasks count keys input) notes all given = ⊥
+Operate g (topn_parts id source output tasks count keys input) notes all given =
+    EndsIn (NoOperator (types_of (tree_of_run input))) (λ last between. Means g (g.as_made last) between (at_node id (stage.topn count keys) ∷ []) given) all
 Operate g (limit id count input) notes all given =
     EndsIn (Operate g input notes) (λ last between. Means g (g.as_made last) between (at_node id (stage.limit count) ∷ []) given) all
-Operate g (limit_parts id source output tasks count input) notes all given = ⊥
-Operate g (union id left right) notes all given = ⊥
+Operate g (limit_parts id source output tasks count input) notes all given =
+    EndsIn (NoOperator (types_of (tree_of_run input))) (λ last between. Means g (g.as_made last) between (at_node id (stage.limit count) ∷ []) given) all
+Operate g (union id left right) notes all given = NoOperator (types_of (tree_of_run left)) all given
 
 -- the notes know all builds
 abbrev pub AreKnown : List (Option (List Row)) → List (List Row) → Type 0

@@ -1,7 +1,8 @@
 -- A run that something stopped: its drivers stand anywhere, and each can go on.
-use Rattle.std.specs.Prelude.{◌≡◌, ◌⊎◌, ℕ, List, [], ◌∷◌, ◌++◌, Bool, true, Option, Some, None}
+use Rattle.std.specs.Prelude.{◌≡◌, ◌⊎◌, ℕ, List, [], ◌∷◌, ◌++◌, Bool, true, Option, Some, None, length}
 use Rattle.sql_values.specs.declared.fail.Fail.{Fail}
 use Rattle.operator_core.specs.Rows.{Row}
+use Rattle.bag_laws.specs.Pieces.{finals_of}
 use Rattle.bag_laws.specs.Weights.{SameWeights}
 use Rattle.relations.specs.Groups.{groups_of}
 use Rattle.plan_trees.specs.Allowed.{scanned}
@@ -70,6 +71,10 @@ pub record FailsOver (Fails : List Row → Type 0) (input : RunPlan) (notes : Li
   pub opened : IsOpen input notes took came ended told
   pub fails : (more : List Row) → MayCome told more → Fails (came ++ more)
 
+-- what came from the source fails so, with whatever may still come
+abbrev pub FailsOnAll : (List Row → Type 0) → List Row → Bool → Type 0
+FailsOnAll Fails took ended = (more : List Row) → MayCome ended more → Fails (took ++ more)
+
 -- a stage of the node's pipeline fails so
 abbrev pub FailsAt : RunPlan → List (Option (List Row)) → List Row → Bool → ℕ → Fail → Type 0
 FailsAt (scan id table columns types) notes took ended node kind = ⊥
@@ -86,7 +91,8 @@ FailsAt (join id how on left right) (noted ∷ notes) took ended node kind = Fai
 FailsAt (aggregate id keys calls input) notes took ended node kind =
     ((id ≡ node) × FailsOver (FailsOnGroupOf (groups_of (types_of (tree_of_run input)) keys calls) kind) input notes took ended)
     ⊎ FailsAt input notes took ended node kind
-FailsAt (aggregate_parts id source output tasks keys calls input) notes took ended node kind = ⊥
+FailsAt (aggregate_parts id source output tasks keys calls input) notes took ended node kind =
+    (id ≡ node) × FailsOnAll (FailsOnGroupOf (finals_of (types_of (tree_of_run input)) (length keys) calls) kind) took ended
 FailsAt (sort id keys input) notes took ended node kind = FailsAt input notes took ended node kind
 FailsAt (topn id count keys input) notes took ended node kind = FailsAt input notes took ended node kind
 FailsAt (topn_parts id source output tasks count keys input) notes took ended node kind = ⊥

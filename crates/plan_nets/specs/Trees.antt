@@ -1,6 +1,6 @@
 -- The pipelines of a plan of one fragment in one task, with one driver each: that of the root, and one for the
 -- right side of each join. A pipeline goes along inputs and left sides.
-use Rattle.std.specs.Prelude.{◌≡◌, ◌⊎◌, List, [], ◌∷◌, ◌++◌}
+use Rattle.std.specs.Prelude.{◌≡◌, ◌⊎◌, List, [], ◌∷◌, ◌++◌, length}
 use Rattle.operator_core.specs.Rows.{Row}
 use Rattle.plan_trees.specs.Allowed.{scanned, width_of}
 use Rattle.plan_trees.specs.TreeTypes.{types_of}
@@ -61,7 +61,8 @@ AreBuilds (limit id count input) builds = AreBuilds input builds
 AreBuilds (limit_parts id source output tasks count input) builds = Unit {0}
 AreBuilds (union id left right) builds = Unit {0}
 
--- the stages of the node's pipeline, from its source on, over the rows that its joins built
+-- the stages of the node's pipeline, from its source on, over the rows that its joins built. Where a node merges halves
+-- its source is the edge between them
 abbrev pub stages_over : RunPlan → List (List Row) → List NodeStage
 stages_over (scan id table columns types) builds = []
 stages_over (values id types rows) builds = []
@@ -75,12 +76,13 @@ stages_over (join id kind on left right) (built ∷ builds) =
     stages_over left builds ++ at_node id (stage.probe kind on (width_of (tree_of_run left)) (width_of (tree_of_run right)) built) ∷ []
 stages_over (aggregate id keys calls input) builds =
     stages_over input builds ++ at_node id (stage.grouping (types_of (tree_of_run input)) keys calls) ∷ []
-stages_over (aggregate_parts id source output tasks keys calls input) builds = []
+stages_over (aggregate_parts id source output tasks keys calls input) builds =
+    at_node id (stage.final (types_of (tree_of_run input)) (length keys) calls) ∷ []
 stages_over (sort id keys input) builds = stages_over input builds ++ at_node id (stage.sort keys) ∷ []
 stages_over (topn id count keys input) builds = stages_over input builds ++ at_node id (stage.topn count keys) ∷ []
-stages_over (topn_parts id source output tasks count keys input) builds = []
+stages_over (topn_parts id source output tasks count keys input) builds = at_node id (stage.topn count keys) ∷ []
 stages_over (limit id count input) builds = stages_over input builds ++ at_node id (stage.limit count) ∷ []
-stages_over (limit_parts id source output tasks count input) builds = []
+stages_over (limit_parts id source output tasks count input) builds = at_node id (stage.limit count) ∷ []
 stages_over (union id left right) builds = []
 
 -- the one is the right side of a join of the other

@@ -1,5 +1,5 @@
 -- What a driver keeps over its turns, and what follows from it.
-use Rattle.std.proofs.Common.{◌≡◌, ◌⊎◌, inl, inr, ◌+◌, ◌<◌, ℕ, min, List, [], ◌∷◌, Bool, true, false, Option, Some, None, Result, Ok, Err, length, map, refl, sym, subst, ◌∙◌, arith}
+use Rattle.std.proofs.Common.{◌≡◌, ◌⊎◌, inl, inr, ◌+◌, ◌<◌, ◌≤◌, ℕ, min, List, [], ◌∷◌, Bool, true, false, Option, Some, None, Result, Ok, Err, length, map, refl, sym, subst, ◌∙◌, arith}
 use Rattle.std.specs.Prelude.{IfOk}
 use Rattle.sql_values.specs.declared.fail.Fail.{Fail}
 use Rattle.operator_core.specs.Answers.{NotMemory}
@@ -14,7 +14,7 @@ use Rattle.operator_core.proofs.LinkLemmas.{Linked-made}
 use Rattle.operator_core.proofs.StageLemmas.{Steps-made}
 use Rattle.operator_core.proofs.TurnLemmas.{Turns-made}
 use Rattle.blocked.specs.Counts.{most_count}
-use Rattle.stage_moves.specs.Counts.{Counted, LinkedBy}
+use Rattle.stage_moves.specs.Counts.{LinkedBy}
 use Rattle.stage_moves.specs.Moves.{SomeFails}
 use Rattle.stage_moves.specs.Places.{AllLater, IsLater}
 use Rattle.stage_moves.proofs.PlaceLemmas.{each-length}
@@ -22,11 +22,10 @@ use Rattle.driver_loop.specs.declared.run_fault.RunFault.{RunFault}
 use Rattle.driver_loop.specs.declared.run_fault.RunFault.TheVariants.{ExprFailed}
 use Rattle.driver_loop.specs.declared.run_fault.RunFault.TheVariants as run
 use Rattle.driver_turns.specs.declared.turns.Turned.{Turned}
-use Rattle.driver_turns.specs.Turns.{WorkedTo}
 use Rattle.driver_loop.specs.declared.stage.Stage.{Stage}
 use Rattle.driver_loop.specs.contracts.stage.StageOperator.TheImpl.{ghosts}
 use Rattle.driver_loop.specs.Faults.{run_fault}
-use Rattle.driver_loop.specs.Ends.{rows_taken, has_ended, is_told, was_given}
+use Rattle.driver_loop.specs.Ends.{rows_taken, has_ended, is_told, source_misses, was_given}
 use Rattle.driver_loop.specs.Drivers.{DriverState, IsWhole, IsDriver, IsOver, HasFailed, HasWorked, CanGoOn, WorkedFrom}
 
 pub whole : (fault : Option RunFault) → fault ≡ None → IsWhole fault
@@ -49,7 +48,7 @@ driver_new laws d taken made given untold none going unfailed = record {
     links = λ w. rw taken (Linked-made ghosts laws d.stages made);
     turns = λ w. Turns-made ghosts laws (has_ended d.source) d.stages made;
     told = λ w told. absurd (let clash : false ≡ true = sym untold ∙ told in cc);
-    counts = λ w. record { rows = 0; entered = rw taken (entered_none laws d.stages made); work = omega (arith, none) };
+    counts = λ w. record { rows = 0; asks = 0; entered = rw taken (entered_none laws d.stages made); within = λ low. omega arith; work = omega (arith, none) };
     over = λ f. cc;
     failed = λ node kind f. cc;
   };
@@ -75,21 +74,15 @@ expr_fault (Expr at why) told node kind is same =
 expr_fault op.Memory told node kind is same = absurd (let e : run.Memory ≡ ExprFailed node kind = sym is ∙ (let t : told ≡ ExprFailed node kind = cc in t) in cc)
 
 -- the count after a turn
-counted : (old units work rows : ℕ) → old ≡ min rows most_count → work ≡ min (old + units) most_count → work ≡ min (rows + units) most_count
-counted old units work rows before now = omega (arith, before, now)
+counted : (old units work rows asks entered again : ℕ) → old ≡ min (rows + asks) most_count → units ≡ entered + again → work ≡ min (old + units) most_count → work ≡ min (rows + entered + (asks + again)) most_count
+counted old units work rows asks entered again before are now = omega (arith, before, are, now)
 
--- without asks in vain all units are rows
-pub worked_from : (d e : DriverState) (Y : List Row) (units : ℕ)
-    → WorkedTo ghosts (was_given e.target) d.stages e.stages (rows_taken d.source) (rows_taken e.source) Y (has_ended d.source) (has_ended e.source) 0 0 units → WorkedFrom d e Y units
-worked_from d e Y units p =
-    let below : 0 < most_count = omega arith in
-    let all : p.entered ≡ units = omega (arith, p.units_are, p.within below) in
-    record {
-      rows = p.rows;
-      given = p.given;
-      went = p.went;
-      counts = subst (λ (n : ℕ). Counted ghosts d.stages e.stages (rows_taken d.source) (rows_taken e.source) Y p.rows n) all p.counts;
-    }
+-- asks in vain, those of a turn too, are no more than the source counted
+asked : (asks again missed misses : ℕ) → (missed < most_count → asks ≤ missed) → (misses < most_count → missed + again ≤ misses) → misses < most_count → asks + again ≤ misses
+asked asks again missed misses before now low =
+    let more : missed + again ≤ misses = now low in
+    let few : asks ≤ missed = before (omega (arith, more, low)) in
+    omega (arith, more, few)
 
 pub worked : (d now e : DriverState) (units : ℕ) → d ≡ now → IsDriver d → IsWhole d.fault → ((Y : List Row) → was_given d.target Y → WorkedFrom d e Y units)
     → e.work ≡ min (d.work + units) most_count → HasWorked now e
@@ -114,7 +107,13 @@ module _ (d e : DriverState) (units : ℕ) (kept : IsDriver d) (whole : IsWhole 
       told = λ _. told;
       counts = λ _.
           let c = kept.goes.counts whole in
-          record { rows = c.rows + units; entered = p.counts.entered c.rows c.entered; work = counted d.work units e.work c.rows c.work work };
+          record {
+            rows = c.rows + p.entered;
+            asks = c.asks + p.again;
+            entered = p.counts.entered c.rows c.entered;
+            within = asked c.asks p.again (source_misses d.source) (source_misses e.source) c.within p.within;
+            work = counted d.work units e.work c.rows c.asks p.entered p.again c.work p.units_are work;
+          };
       over = over;
       failed = failed;
     };

@@ -1,17 +1,16 @@
 -- What a driver keeps, of the one list of rows that its target was given, where there is one.
-use Rattle.std.proofs.Common.{◌≡◌, ◌⊎◌, inl, inr, ◌≤◌, ◌<◌, ℕ, List, Bool, true, false, refl, sym, subst, arith}
+use Rattle.std.proofs.Common.{◌≡◌, ◌⊎◌, inl, inr, ◌<◌, ℕ, min, List, false, refl, sym, subst, arith}
 use Rattle.operator_core.specs.Rows.{Row}
-use Rattle.operator_core.specs.declared.operator.Operator.{Ghosts}
 use Rattle.operator_core.specs.Stages.{Linked}
 use Rattle.blocked.specs.declared.blocked_on.BlockedOn.{BlockedOn}
-use Rattle.stage_moves.specs.Counts.{Counted}
+use Rattle.blocked.specs.Counts.{most_count}
+use Rattle.stage_moves.specs.Counts.{Counted, LinkedBy}
 use Rattle.stage_moves.specs.Looks.{HasWaited, no_looks}
-use Rattle.driver_turns.specs.Turns.{IsHeldUp, StageBlocked, WentOn}
-use Rattle.driver_loop.specs.declared.source.Source.{Source}
+use Rattle.driver_turns.specs.Turns.{StageBlocked, WentOn}
 use Rattle.driver_loop.specs.declared.target.Target.{Target}
 use Rattle.driver_loop.specs.declared.target.Target.TheVariants.{Result, Build, Put, Deal}
 use Rattle.driver_loop.specs.contracts.stage.StageOperator.TheImpl.{ghosts}
-use Rattle.driver_loop.specs.Ends.{HasOneList, has_ended, is_told, rows_given, rows_taken, source_looks, target_looks, was_given}
+use Rattle.driver_loop.specs.Ends.{HasOneList, has_ended, is_told, rows_given, rows_taken, source_looks, source_misses, target_looks, was_given}
 use Rattle.driver_loop.specs.Drivers.{CanGoOn, CanGoOnFrom, DriverState, HasCounted, HasWorked, IsDriver, IsDriverTo, IsOver, IsOverTo, WorkedFrom}
 use Rattle.driver_loop.specs.Turns.{IsWaiting}
 
@@ -51,12 +50,23 @@ went_from_list d e one same w =
     subst (λ (rows : List Row). WentOn ghosts d.stages e.stages (rows_taken d.source) (rows_taken e.source) (rows_given d.target) rows (has_ended d.source) (has_ended e.source))
     (list_is e.target same p.rows p.given) p.went
 
-pub counted_from_list : (d e : DriverState) → HasOneList d.target → HasOneList e.target → (w : HasWorked d e)
+-- behind a source that never asks in vain all units are rows
+pub counted_from_list : (d e : DriverState) → HasOneList d.target → HasOneList e.target → source_misses e.source ≡ 0 → (w : HasWorked d e)
     → Counted ghosts d.stages e.stages (rows_taken d.source) (rows_taken e.source) (rows_given d.target) (rows_given e.target) w.units
-counted_from_list d e one same w =
+counted_from_list d e one same never w =
     let p : WorkedFrom d e (rows_given d.target) w.units = w.went (rows_given d.target) (list_given d.target one) in
-    subst (λ (rows : List Row). Counted ghosts d.stages e.stages (rows_taken d.source) (rows_taken e.source) (rows_given d.target) rows w.units)
-    (list_is e.target same p.rows p.given) p.counts
+    let low : source_misses e.source < most_count = omega (arith, never) in
+    let all : p.entered ≡ w.units = omega (arith, p.units_are, p.within low, never) in
+    subst (λ (n : ℕ). Counted ghosts d.stages e.stages (rows_taken d.source) (rows_taken e.source) (rows_given d.target) (rows_given e.target) n) all
+    (subst (λ (rows : List Row). Counted ghosts d.stages e.stages (rows_taken d.source) (rows_taken e.source) (rows_given d.target) rows p.entered)
+    (list_is e.target same p.rows p.given) p.counts)
+
+-- and its work is the number of rows that entered
+pub counts_rows : (d : DriverState) (given : List Row) → source_misses d.source ≡ 0 → HasCounted d given
+    → (rows : ℕ) × LinkedBy ghosts d.stages (rows_taken d.source) given rows × (d.work ≡ min rows most_count)
+counts_rows d given never c =
+    let low : source_misses d.source < most_count = omega (arith, never) in
+    (c.rows, c.entered, omega (arith, c.work, c.within low, never))
 
 -- behind a source that never waits it is a stage that waits, or the target
 never_waited : (shown : ℕ → ℕ → Type 0) (on : BlockedOn) → HasWaited no_looks no_looks shown on → ⊥

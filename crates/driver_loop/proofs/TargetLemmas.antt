@@ -10,7 +10,7 @@ use Rattle.driver_loop.specs.declared.target.Target.{Target}
 use Rattle.driver_loop.specs.declared.target.Target.TheVariants.{Result, Build, Put, Deal}
 use Rattle.driver_ends.specs.declared.put_target.PutKind.{PutKind}
 use Rattle.driver_ends.specs.declared.put_target.PutKind.TheVariants.{One, Each, Hash}
-use Rattle.driver_ends.specs.Ends.{outlet_as_made, target_as_made as put_as_made}
+use Rattle.driver_ends.specs.Ends.{outlet_as_made, put_as_made}
 use Rattle.driver_ends.specs.Outlets.{OutletState, rows_sent}
 use Rattle.driver_ends.specs.Targets.{HasSent, TargetState, sent_to}
 use Rattle.driver_loop.specs.Builds.{BuildState, IsHeldAs, IsPublishedAs, KnowsOwnSource, build_dues, build_made_or_lost}

@@ -1,25 +1,25 @@
 -- A driver as it is seen, and what it keeps over its turns.
-use Rattle.std.specs.Prelude.{◌≡◌, ◌+◌, ℕ, List, Bool, true, false, Option, Some, None, map, min}
+use Rattle.std.specs.Prelude.{◌≡◌, ◌+◌, ◌<◌, ◌≤◌, ℕ, List, Bool, true, false, Option, Some, None, map, min}
 use Rattle.sql_values.specs.declared.fail.Fail.{Fail}
 use Rattle.blocked.specs.Counts.{most_count}
 use Rattle.operator_core.specs.Rows.{Row, Coming}
 use Rattle.operator_core.specs.Stages.{Linked, ToldInTurn, AllCameFrom, Chain, AreMadeOf, GoesOn, last_finished}
-use Rattle.stage_moves.specs.Counts.{Counted, LinkedBy}
+use Rattle.stage_moves.specs.Counts.{LinkedBy}
 use Rattle.stage_moves.specs.Moves.{SomeFails}
-use Rattle.driver_turns.specs.Turns.{StageFailed, WentOn}
+use Rattle.driver_turns.specs.Turns.{StageFailed, WorkedTo}
 use Rattle.key_index.specs.Keys.{IndexedRows}
 use Rattle.driver_ends.specs.Deals.{IsDealt}
 use Rattle.driver_ends.specs.Targets.{IsFinished}
 use Rattle.driver_loop.specs.declared.run_fault.RunFault.{RunFault}
 use Rattle.driver_loop.specs.declared.run_fault.RunFault.TheVariants.{ExprFailed, Memory}
-use Rattle.driver_loop.specs.declared.source.Source.{Source}
 use Rattle.driver_loop.specs.declared.stage.Stage.{Stage}
 use Rattle.driver_loop.specs.declared.target.Target.{Target}
 use Rattle.driver_loop.specs.declared.target.Target.TheVariants.{Result, Build, Put, Deal}
 use Rattle.driver_loop.specs.contracts.stage.StageOperator.TheImpl.{ghosts}
-use Rattle.driver_loop.specs.Ends.{rows_taken, has_ended, is_told, source_dues, target_dues, target_finished, was_given}
+use Rattle.driver_loop.specs.Sources.{Source}
+use Rattle.driver_loop.specs.Ends.{rows_taken, has_ended, is_told, source_dues, source_misses, target_dues, target_finished, was_given}
 
--- its number, its parts, how many rows entered its stages and its target, and how its last turn ended it
+-- its number, its parts, how many units it counted, and how its last turn ended it
 pub record DriverState : Type 0 where
   pub number : ℕ
   pub source : Source
@@ -35,11 +35,14 @@ IsWhole None = Unit {0}
 IsWhole (Some (ExprFailed node kind)) = Unit {0}
 IsWhole (Some Memory) = ⊥
 
--- the work is the number of these rows, up to the most that the count holds, where the target was given those
+-- the work is the number of these rows, where the target was given those, and of asks in vain, no more than its source
+-- counted of these, up to the most that the count holds
 pub record HasCounted (d : DriverState) (given : List Row) : Type 0 where
   pub rows : ℕ
+  pub asks : ℕ
   pub entered : LinkedBy ghosts d.stages (rows_taken d.source) given rows
-  pub work : d.work ≡ min rows most_count
+  pub within : source_misses d.source < most_count → asks ≤ source_misses d.source
+  pub work : d.work ≡ min (rows + asks) most_count
 
 -- what its stages took and gave goes on from what it took of its source to these rows, and each was told to finish
 -- only where its giver was finished, as the target was; and it is finished, or failed, as it says
@@ -102,16 +105,14 @@ pub record CanGoOn (d : DriverState) : Type 0 where
   pub given : was_given d.target rows
   pub on : CanGoOnFrom d rows
 
--- what its stages took and gave goes on from the one state, where its target was given Y, to the other, where that was
--- given these rows; they came from what they came from; and so many rows entered its stages and its target
-pub record WorkedFrom (d e : DriverState) (Y : List Row) (units : ℕ) : Type 0 where
-  pub rows : List Row
-  pub given : was_given e.target rows
-  pub went : WentOn ghosts d.stages e.stages (rows_taken d.source) (rows_taken e.source) Y rows (has_ended d.source) (has_ended e.source)
-  pub counts : Counted ghosts d.stages e.stages (rows_taken d.source) (rows_taken e.source) Y rows units
+-- what its stages took and gave goes on from the one state, where its target was given Y, to the other; they came from
+-- what they came from; and so many units were counted
+abbrev pub WorkedFrom : DriverState → DriverState → List Row → ℕ → Type 0
+WorkedFrom d e Y units =
+    WorkedTo ghosts (was_given e.target) d.stages e.stages (rows_taken d.source) (rows_taken e.source) Y (has_ended d.source) (has_ended e.source) (source_misses d.source) (source_misses e.source) units
 
 -- it went on from whatever its target was given, its stages came from what they came from, and its work is as much more
--- as rows entered its stages and its target, up to the most that the count holds
+-- as units were counted, up to the most that the count holds
 pub record HasWorked (d e : DriverState) : Type 0 where
   pub units : ℕ
   pub went : (Y : List Row) → was_given d.target Y → WorkedFrom d e Y units

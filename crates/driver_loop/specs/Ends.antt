@@ -7,13 +7,13 @@ use Rattle.split_source.specs.Scans.{given}
 use Rattle.split_source.specs.Seats.{SeatState, new_seat}
 use Rattle.driver_ends.specs.Deals.{deal_dues, rows_dealt}
 use Rattle.driver_ends.specs.Ends.{HasDealt, deal_as_made, deal_finished, deal_looks, deal_wants, local_as_made, local_ended, local_looks, local_taken, remote_as_made, remote_ended, remote_looks, remote_taken}
-use Rattle.driver_ends.specs.Ends.{target_as_made as put_as_made, target_finished as put_finished, target_looks as put_looks, target_wants as put_wants}
+use Rattle.driver_ends.specs.Ends.{put_as_made, put_finished, put_looks, put_wants}
+use Rattle.driver_ends.specs.Fetching.{HasFetchTaken, IsFetchEnded, fetch_as_made, fetch_dues, fetch_ended, fetch_looks, fetch_misses, fetch_taken}
 use Rattle.driver_ends.specs.Sources.{HasLocalTaken, HasRemoteTaken, IsLocalEnded, IsRemoteEnded, local_dues, remote_dues}
 use Rattle.driver_ends.specs.Targets.{HasSent, dues as put_dues}
-use Rattle.driver_loop.specs.declared.source.Source.{Source}
-use Rattle.driver_loop.specs.declared.source.Source.TheVariants.{Scan, Rows, Local, Remote}
 use Rattle.driver_loop.specs.declared.target.Target.{Target}
 use Rattle.driver_loop.specs.declared.target.Target.TheVariants.{Result, Build, Put, Deal}
+use Rattle.driver_loop.specs.Sources.{Source, Scan, Rows, Local, Remote, Fetch}
 use Rattle.driver_loop.specs.Builds.{build_dues, build_looks, build_made, build_made_or_lost}
 
 -- the rows that a source gave
@@ -22,6 +22,7 @@ rows_taken (Scan scan) = given scan
 rows_taken (Rows rows) = rows.given
 rows_taken (Local local) = local_taken local
 rows_taken (Remote remote) = remote_taken remote
+rows_taken (Fetch fetch) = fetch_taken fetch
 
 -- no page comes any more
 abbrev pub has_ended : Source → Bool
@@ -29,6 +30,7 @@ has_ended (Scan scan) = scan.seat.is_ended
 has_ended (Rows rows) = rows.is_ended
 has_ended (Local local) = local_ended local
 has_ended (Remote remote) = remote_ended remote
+has_ended (Fetch fetch) = fetch_ended fetch
 
 -- it as it was made
 abbrev pub source_made : Source → Source
@@ -36,6 +38,7 @@ source_made (Scan scan) = Scan (record scan { seat = new_seat scan.seat.claims; 
 source_made (Rows rows) = Rows (record rows { given = []; is_ended = false })
 source_made (Local local) = Local (local_as_made local)
 source_made (Remote remote) = Remote (remote_as_made remote)
+source_made (Fetch fetch) = Fetch (fetch_as_made fetch)
 
 -- what it tells of its looks: a scan, and rows of its own, never wait
 abbrev pub source_looks : Source → Looks
@@ -43,6 +46,15 @@ source_looks (Scan scan) = no_looks
 source_looks (Rows rows) = no_looks
 source_looks (Local local) = local_looks local
 source_looks (Remote remote) = remote_looks remote
+source_looks (Fetch fetch) = fetch_looks fetch
+
+-- how often it asked in vain where nobody rings: only one that fetches does
+abbrev pub source_misses : Source → ℕ
+source_misses (Scan scan) = 0
+source_misses (Rows rows) = 0
+source_misses (Local local) = 0
+source_misses (Remote remote) = 0
+source_misses (Fetch fetch) = fetch_misses fetch
 
 -- how often this bell was to be rung for what it took
 abbrev pub source_dues : Source → ℕ → ℕ
@@ -50,6 +62,7 @@ source_dues (Scan scan) bell = 0
 source_dues (Rows rows) bell = 0
 source_dues (Local local) bell = local_dues local bell
 source_dues (Remote remote) bell = remote_dues remote bell
+source_dues (Fetch fetch) bell = fetch_dues fetch bell
 
 -- where it gives no page: a scan, and rows of its own, have ended, and one over an edge has no page now
 abbrev pub IsOut : Source → Type 0
@@ -57,6 +70,7 @@ IsOut (Scan scan) = scan.seat.is_ended ≡ true
 IsOut (Rows rows) = rows.is_ended ≡ true
 IsOut (Local local) = local.inbox ≡ None
 IsOut (Remote remote) = remote.inbox ≡ None
+IsOut (Fetch fetch) = fetch.pages ≡ []
 
 -- where it gives a page: a scan, and rows of its own, have ended as before
 abbrev pub EndsAsBefore : Bool → Source → Type 0
@@ -64,6 +78,7 @@ EndsAsBefore ended (Scan scan) = scan.seat.is_ended ≡ ended
 EndsAsBefore ended (Rows rows) = rows.is_ended ≡ ended
 EndsAsBefore ended (Local local) = Unit {0}
 EndsAsBefore ended (Remote remote) = Unit {0}
+EndsAsBefore ended (Fetch fetch) = Unit {0}
 
 -- no row is left: of an edge every End was taken, or its own, and every page was handed on
 abbrev pub IsDrained : Source → Type 0
@@ -71,6 +86,7 @@ IsDrained (Scan scan) = scan.left ≡ 0
 IsDrained (Rows rows) = rows.given ≡ rows.rows
 IsDrained (Local local) = IsLocalEnded local
 IsDrained (Remote remote) = IsRemoteEnded remote
+IsDrained (Fetch fetch) = IsFetchEnded fetch
 
 -- rows of its own are given from the first one on, and those of an edge as they were taken there
 abbrev pub IsBegun : Source → Type 0
@@ -78,6 +94,7 @@ IsBegun (Scan scan) = Unit {0}
 IsBegun (Rows rows) = IsBeginning rows.given rows.rows
 IsBegun (Local local) = HasLocalTaken local (local_taken local)
 IsBegun (Remote remote) = HasRemoteTaken remote (remote_taken remote)
+IsBegun (Fetch fetch) = HasFetchTaken fetch (fetch_taken fetch)
 
 -- the seat by which it claims splits
 abbrev pub claim_of : Source → Option SeatState
@@ -85,6 +102,7 @@ claim_of (Scan scan) = Some scan.seat
 claim_of (Rows rows) = None
 claim_of (Local local) = None
 claim_of (Remote remote) = None
+claim_of (Fetch fetch) = None
 
 -- A target was given these rows. One that spreads them over edges has no list of them, but each edge has what it has
 -- of one.

@@ -4,7 +4,7 @@ use Rattle.std.specs.Vec.{vec_capacity}
 use Rattle.driver_loop.specs.Drivers.{DriverState, IsBuilt, IsDriver, IsWhole}
 use Rattle.driver_loop.specs.declared.driver.Driver.TheInside.{Inside}
 
-abbrev pub driver_view : Inside → DriverState
+abbrev pub driver_view : {C : Type 0} → Inside C → DriverState
 driver_view d = record {
   number = d.number;
   source = d.source;
@@ -16,7 +16,7 @@ driver_view d = record {
 }
 
 -- there is room for a note of each stage and one of the target
-pub record IsInDriver (d : Inside) : Type 0 where
+pub record IsInDriver {C : Type 0} (d : Inside C) : Type 0 where
   pub driver : IsDriver (driver_view d)
   pub built : IsWhole d.fault → IsBuilt (driver_view d)
   pub none : d.lookups.items ≡ []

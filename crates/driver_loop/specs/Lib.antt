@@ -1,4 +1,6 @@
 pub mod RowsSources
+pub mod Sources
+pub mod InSource
 pub mod InRowsSource
 pub mod Builds
 pub mod InBuild
@@ -8,3 +10,6 @@ pub mod Faults
 pub mod Drivers
 pub mod InDriver
 pub mod Turns
+pub mod Operators
+pub mod OperatorLaws
+pub mod StageLaws

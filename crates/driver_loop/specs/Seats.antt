@@ -2,12 +2,11 @@
 use Rattle.std.specs.Prelude.{◌≡◌, List, [], true, Option, Some, None, IfSome, map}
 use Rattle.operator_core.specs.Rows.{Row}
 use Rattle.output_buffer.specs.Seats.{GatherPutState, GatherTakeState, SpreadPutState, SpreadTakeState}
-use Rattle.driver_ends.specs.Deals.{HasDealtAll, HasDealtFirst, IsDealt, rows_dealt}
-use Rattle.driver_ends.specs.Targets.{HasSent, HavePutAll, HavePutFirst, IsFinished}
-use Rattle.driver_loop.specs.declared.source.Source.{Source}
-use Rattle.driver_loop.specs.declared.source.Source.TheVariants.{Scan, Rows, Local, Remote}
+use Rattle.driver_ends.specs.Deals.{HasDealtAll, HasDealtFirst, IsDealt, KeepsDeal, rows_dealt}
+use Rattle.driver_ends.specs.Targets.{HasSent, HavePutAll, HavePutFirst, IsFinished, KeepsTarget}
 use Rattle.driver_loop.specs.declared.target.Target.{Target}
 use Rattle.driver_loop.specs.declared.target.Target.TheVariants.{Result, Build, Put, Deal}
+use Rattle.driver_loop.specs.Sources.{Source, Scan, Rows, Local, Remote, Fetch}
 use Rattle.driver_loop.specs.Builds.{KnowsOwnSource}
 use Rattle.driver_loop.specs.Ends.{target_finished}
 
@@ -17,6 +16,7 @@ gather_take_of (Scan scan) = None
 gather_take_of (Rows rows) = None
 gather_take_of (Local local) = Some local.seat
 gather_take_of (Remote remote) = None
+gather_take_of (Fetch fetch) = Some fetch.local.seat
 
 -- the seat by which it takes from an edge of many takers
 abbrev pub spread_take_of : Source → Option SpreadTakeState
@@ -24,6 +24,7 @@ spread_take_of (Scan scan) = None
 spread_take_of (Rows rows) = None
 spread_take_of (Local local) = None
 spread_take_of (Remote remote) = Some remote.seat
+spread_take_of (Fetch fetch) = None
 
 -- the seats by which a target puts to edges of one taker
 abbrev pub puts_of : Target → List GatherPutState
@@ -59,3 +60,10 @@ KnowsEnds (Result result) = Unit {0}
 KnowsEnds (Build build) = KnowsOwnSource build
 KnowsEnds (Put put) = target_finished (Put put) ≡ true → IsFinished put
 KnowsEnds (Deal deal) = target_finished (Deal deal) ≡ true → IsDealt deal
+
+-- what a target over edges keeps wherever it stands: no End before it was told, nor before a page that it holds
+abbrev pub KeepsEnds : Target → Type 0
+KeepsEnds (Result result) = Unit {0}
+KeepsEnds (Build build) = Unit {0}
+KeepsEnds (Put put) = KeepsTarget put
+KeepsEnds (Deal deal) = KeepsDeal deal

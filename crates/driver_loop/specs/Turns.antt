@@ -7,7 +7,7 @@ use Rattle.driver_loop.specs.declared.turn.Turn.TheVariants.{Yield, Blocked, Fin
 use Rattle.driver_loop.specs.declared.pieces.CellNote.{CellNote}
 use Rattle.driver_loop.specs.declared.pieces.Pieces.{Pieces}
 use Rattle.driver_loop.specs.declared.stage.Stage.{Stage}
-use Rattle.driver_loop.specs.declared.stage.Stage.TheVariants.{Filter, Limit, Sort, TopN, Single, Probe}
+use Rattle.driver_loop.specs.declared.stage.Stage.TheVariants.{Filter, Limit, Sort, TopN, Single, Partial, Final, Probe}
 use Rattle.driver_loop.specs.declared.target.Target.{Target}
 use Rattle.driver_loop.specs.declared.target.Target.TheVariants.{Result, Build, Put, Deal}
 use Rattle.driver_loop.specs.contracts.stage.StageOperator.TheImpl.{ghosts}
@@ -41,6 +41,8 @@ note_of_stage (Limit op types) = []
 note_of_stage (Sort op) = []
 note_of_stage (TopN op) = []
 note_of_stage (Single op) = []
+note_of_stage (Partial op) = []
+note_of_stage (Final op) = []
 note_of_stage (Probe op types) = record { bell = op.bell; note = op.note } ∷ []
 
 -- the note of a target that builds

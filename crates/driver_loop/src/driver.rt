@@ -8,7 +8,7 @@ ghost use Rattle.operator_core.specs.Stages.{last_finished};
 ghost use Rattle.driver_loop.specs.Ends.{is_build, is_told, rows_taken, has_ended, source_made, target_made, IsBegun, IsDrained};
 ghost use Rattle.driver_turns.specs.Turns.{RangDues};
 ghost use Rattle.driver_loop.specs.Drivers.{IsDriver, IsOver, HasFailed, HasWorked, CanGoOn, IsBuilt, IsBuiltAs, IsWhole, driver_dues};
-ghost use Rattle.driver_loop.specs.Seats.{PutAll};
+ghost use Rattle.driver_loop.specs.Seats.{KeepsEnds, PutAll};
 ghost use Rattle.driver_loop.specs.Turns.{IsLeftBy, IsWaiting, IfBlocked, ArePiecesOf, notes_of};
 
 use crate::notes::put_notes;
@@ -24,6 +24,7 @@ use driver_turns::{Turned, Turning};
 use futures::Future;
 use futures::task::Context;
 use operator_core::{Operator, laws};
+use run_ports::Courier;
 use sql_values::Memory;
 use std::alloc::Global;
 use std::marker::{Model, PhantomData};
@@ -32,9 +33,9 @@ use std::thread::Threads;
 
 /// Moves pages from its source through its stages to its target, a turn at a time.
 #[derive(Drop)]
-pub struct Driver<'w> {
+pub struct Driver<'w, C: Courier> {
     number: u32,
-    source: Source<'w>,
+    source: Source<'w, C>,
     stages: Vec<Stage<'w>>,
     target: Target<'w>,
     work: u64,
@@ -44,7 +45,7 @@ pub struct Driver<'w> {
     alloc: Global,
 }
 
-impl<'w> Model for Driver<'w> {
+impl<'w, C: Courier> Model for Driver<'w, C> {
     ghost use Rattle.driver_loop.specs.Drivers.{DriverState};
 
     ghost Value = { DriverState };
@@ -61,15 +62,15 @@ impl<'w> Model for Driver<'w> {
     ghost invariant = { IsInDriver };
 }
 
-impl<'w> Driver<'w> {
+impl<'w, C: Courier> Driver<'w, C> {
     /// A driver of parts as they were made. Takes the memory for the list of notes of its `Pieces`.
     pub fn new(
         alloc: Global,
         number: u32,
-        source: Source<'w>,
+        source: Source<'w, C>,
         stages: Vec<Stage<'w>>,
         target: Target<'w>,
-    ) -> Result<Driver<'w>, Memory>
+    ) -> Result<Driver<'w, C>, Memory>
         requires source { rows_taken source ≡ [] }
         requires stages { map ⟦<Stage<'w> as Operator>⟧.as_made stages.items ≡ stages.items }
         requires target { target_made target ≡ target }
@@ -104,8 +105,8 @@ impl<'w> Driver<'w> {
         self.number
     }
 
-    /// How many rows entered its stages and its target, up to the most that the count holds, with those on which
-    /// it failed.
+    /// How many rows entered its stages and its target, with those on which it failed, and how often its source asked
+    /// in vain where nobody rings, up to the most that the count holds.
     pub fn work(&self) -> u64
         ensures { result ≡ self.now.work }
     {
@@ -143,12 +144,14 @@ impl<'w> Driver<'w> {
             → self.now.fault ≡ Some (RunFault.ExprFailed node kind) → HasFailed self.now node kind }
         ensures goes_on { IsWhole self.now.fault → CanGoOn self.now }
         ensures built { IsWhole self.now.fault → IsBuilt self.now }
+        ensures ends { KeepsEnds self.now.target }
     {
         laws::laws::<Stage<'w>>(PhantomData);
         self.source.keeps();
+        self.target.keeps();
     }
 
-    /// Moves rows until its target is finished, `quantum` of them entered a stage or the target, or nothing
+    /// Moves rows until its target is finished, `quantum` units were counted, or nothing
     /// moves and a stage, the source or the target waits. The future of one who waits has then registered with the context.
     /// Where the last stage is finished, the target is told, and ends: a build is published, and the bell of its
     /// cell is rung.

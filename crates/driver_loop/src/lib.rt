@@ -7,7 +7,8 @@
 //!
 //! - `IsDriver`: what its stages took and gave goes on from the rows that it took of its source to those that
 //!   it gave to its target; a stage was told to finish only where its giver was finished; its work is the
-//!   number of rows that entered a stage or the target, up to the most that the count holds
+//!   number of rows that entered a stage or the target, and of asks in vain of a source that fetches, no more than its
+//!   courier missed turns, up to the most that the count holds
 //! - `IsOver`: where it is finished its source had ended, what it gave is what its stages, as they were made,
 //!   may give for what it took, and nothing of it fails
 //! - `HasFailed`: a driver that failed keeps its fault, which is one of a stage, as it was made, on what the
@@ -19,7 +20,7 @@
 //!   held another source. Where it puts to edges, these have every row and their Ends where the driver is finished, and
 //!   only there
 //!
-//! A turn yields only once it counted its quantum of rows, and counts fewer than that and the most rows of a
+//! A turn yields only once it counted its quantum of units, and counts fewer than that and the most rows of a
 //! page. It is blocked only where a stage, the source or the target looked in this turn, in vain (`IsWaiting`); the
 //! future that it hands out has registered with the turn's context. Each bell is rung as much more often, of the
 //! bells that the turn was given, as more was taken and put. After want of memory nothing is said but that it failed so.
@@ -34,9 +35,11 @@
 //! what one driver published is what others probed. The list of these notes has its memory from the start, so that a driver
 //! can always be taken apart.
 //!
-//! - `source`: `Source`, where pages come from. A scan of claimed splits, rows of the plan (`rows_source`), or an edge
-//! - `stage`: `Stage`, the operators, one variant each. It behaves as its operator does, and expects pages of
-//!   the operator's types
+//! - `source`: `Source`, where pages come from. A scan of claimed splits, rows of the plan (`rows_source`), or an edge, at
+//!   once or through a fetch. It is seen without its courier (`specs/Sources.antt`)
+//! - `stage`: `Stage`, the operators, one variant each. It behaves as its operator does, by one table of them
+//!   (`specs/Operators.antt`, and `specs/StageLaws.antt` for the laws). It expects pages of the operator's types, and the
+//!   second half of an aggregate also a partial row behind each key
 //! - `target`: `Target`, where pages go to. The rows of a result (`ResultTarget`) are kept as the pages in which
 //!   they came; others go to edges
 //! - `build`: `BuildTarget`, which keeps them as the source of a join (`specs/Builds.antt`)

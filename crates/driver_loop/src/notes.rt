@@ -38,7 +38,9 @@ fn put_note_of(notes: &mut Vec<CellNote>, stage: Stage<'_>)
         | Stage::Limit(_, _)
         | Stage::Sort(_)
         | Stage::TopN(_)
-        | Stage::Single(_) => {}
+        | Stage::Single(_)
+        | Stage::Partial(_)
+        | Stage::Final(_) => {}
     }
 }
 

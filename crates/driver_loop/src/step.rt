@@ -8,7 +8,7 @@ ghost use Rattle.operator_core.specs.Stages.{Linked, ToldInTurn, last_finished};
 ghost use Rattle.stage_moves.specs.Moves.{SomeFails};
 ghost use Rattle.stage_moves.specs.Places.{AllLater};
 ghost use Rattle.driver_turns.specs.Turns.{IsBlocked, RangDues, StageFailed, TurnedSo, WorkedTo};
-ghost use Rattle.driver_loop.specs.Ends.{has_ended, is_told, rows_taken, source_dues, source_looks, source_made, target_dues, target_finished, target_looks, target_made_or_lost, was_given};
+ghost use Rattle.driver_loop.specs.Ends.{has_ended, is_told, rows_taken, source_dues, source_looks, source_made, source_misses, target_dues, target_finished, target_looks, target_made_or_lost, was_given};
 ghost use Rattle.driver_loop.specs.Seats.{KnowsEnds};
 
 use crate::source::Source;
@@ -17,13 +17,14 @@ use crate::target::Target;
 use blocked::Bells;
 use driver_turns::{Turned, Turning, turn};
 use operator_core::{OpFault, Operator};
+use run_ports::Courier;
 use std::sync::Wait;
 use std::thread::Threads;
 
-/// A turn. No source of a driver asks in vain where nobody rings, so that its units are rows.
-pub(crate) fn take_turn<'w, R: Threads + Wait + Sync, B: Bells>(
+/// A turn.
+pub(crate) fn take_turn<'w, C: Courier, R: Threads + Wait + Sync, B: Bells>(
     rt: &R,
-    source: &mut Source<'w>,
+    source: &mut Source<'w, C>,
     stages: &mut Vec<Stage<'w>>,
     target: &mut Target<'w>,
     quantum: u32,
@@ -32,7 +33,7 @@ pub(crate) fn take_turn<'w, R: Threads + Wait + Sync, B: Bells>(
     ensures worked { NotMemory result.outcome → (Y : List Row) → was_given target.old Y
         → WorkedTo ⟦<Stage<'w> as Operator>⟧ (was_given target.new) stages.old.items stages.new.items
         (rows_taken source.old) (rows_taken source.new) Y (has_ended source.old) (has_ended source.new)
-        0 0 result.units }
+        (source_misses source.old) (source_misses source.new) result.units }
     ensures later { NotMemory result.outcome
         → AllLater ⟦<Stage<'w> as Operator>⟧ stages.old.items stages.new.items }
     ensures answer { IfOk result.outcome (λ turned. TurnedSo (IsBlocked ⟦<Stage<'w> as Operator>⟧

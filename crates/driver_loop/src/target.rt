@@ -3,7 +3,7 @@ ghost use Rattle.std.specs.Prelude.{◌≡◌, [], true, false, None, ◌<◌, �
 ghost use Rattle.std.specs.Vec.{vec_capacity};
 ghost use Rattle.driver_loop.specs.Drivers.{IsBuiltAs};
 ghost use Rattle.driver_loop.specs.Ends.{is_build, rows_handed};
-ghost use Rattle.driver_loop.specs.Seats.{KnowsEnds, PutAll, PutFirst, deal_of, puts_of};
+ghost use Rattle.driver_loop.specs.Seats.{KeepsEnds, KnowsEnds, PutAll, PutFirst, deal_of, puts_of};
 ghost use Rattle.driver_loop.specs.Turns.{note_of_target};
 
 use crate::build::BuildTarget;
@@ -163,17 +163,20 @@ impl<'w> PageTarget for Target<'w> {
 }
 
 impl<'w> Target<'w> {
-    /// The law of what it knows of its cell, and of the edges that it is through with.
+    /// The law of what it knows of its cell, and of its edges.
     pub(crate) fn keeps(&self)
-        ensures { KnowsEnds self.now }
+        ensures knows { KnowsEnds self.now }
+        ensures ends { KeepsEnds self.now }
     {
         match self {
             Target::Result(_) => {}
             Target::Build(build) => build.keeps(),
             Target::Put(put) => {
+                put.keeps();
                 let _ = put.is_finished();
             }
             Target::Deal(deal) => {
+                deal.keeps();
                 let _ = deal.is_finished();
             }
         }

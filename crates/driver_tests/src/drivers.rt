@@ -14,6 +14,7 @@ use driver_loop::{Driver, ResultTarget, Source, Stage, Target, Turn};
 use futures::task::{Doorbell, Solo};
 use operator_core::{HeldPages, Operator};
 use row_ops::{FilterProject, LimitOp, are_typed};
+use run_ports::ReplayCourier;
 use split_source::{ClaimSeat, Claims, ScanSource, split_count};
 use sql_exprs::{CallName, Expr};
 use sql_values::{
@@ -133,7 +134,7 @@ fn scan_of<'w>(
     table: &'w Table,
     sizes: (u32, u32),
     seat: ClaimSeat<'w>,
-) -> Result<Source<'w>, Memory>
+) -> Result<Source<'w, ReplayCourier>, Memory>
     requires size { 0 < sizes.0 }
     requires page { (0 < sizes.1) × (sizes.1 ≤ 8192) }
     requires few { length table.now.rows < 2 ^ 32 }
@@ -145,7 +146,7 @@ fn scan_of<'w>(
 {
     let (size, page) = sizes;
     let columns = Vec::from_array(alloc, [0])?;
-    Ok(Source::Scan(ScanSource::new(alloc, table, columns, size, page, seat)))
+    Ok(Source::scan(ScanSource::new(alloc, table, columns, size, page, seat)))
 }
 
 /// Rows of whole numbers.
@@ -163,7 +164,7 @@ fn driver<'w>(
     sizes: (u32, u32),
     seat: ClaimSeat<'w>,
     stages: Vec<Stage<'w>>,
-) -> Result<Driver<'w>, Memory>
+) -> Result<Driver<'w, ReplayCourier>, Memory>
     requires size { 0 < sizes.0 }
     requires page { (0 < sizes.1) × (sizes.1 ≤ 8192) }
     requires few { length table.now.rows < 2 ^ 32 }
@@ -182,7 +183,7 @@ fn driver<'w>(
 /// What a turn answers.
 pub(crate) fn turn_once<R: Threads + Wait + Sync>(
     rt: &R,
-    driver: &mut Driver<'_>,
+    driver: &mut Driver<'_, ReplayCourier>,
     quantum: u32,
     solo: &Solo,
     bells: &mut Rung,
@@ -200,7 +201,7 @@ pub(crate) fn turn_once<R: Threads + Wait + Sync>(
 fn turns<R: Threads + Wait + Sync>(
     rt: &R,
     alloc: Global,
-    driver: &mut Driver<'_>,
+    driver: &mut Driver<'_, ReplayCourier>,
     quantum: u32,
     solo: &Solo,
 ) -> Option<(u32, Turn)>
@@ -222,7 +223,7 @@ fn turns<R: Threads + Wait + Sync>(
 pub(crate) fn run<R: Threads + Wait + Sync>(
     rt: &R,
     alloc: Global,
-    mut driver: Driver<'_>,
+    mut driver: Driver<'_, ReplayCourier>,
     quantum: u32,
     solo: &Solo,
 ) -> Result<String, Memory>

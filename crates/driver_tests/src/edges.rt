@@ -11,6 +11,7 @@ use driver_loop::{Driver, Pieces, RowsSource, Source, Target, Turn};
 use futures::task::{Doorbell, Solo};
 use output_buffer::{Gather, GatherPut, GatherTake, Spread, SpreadPut, SpreadTake};
 use row_ops::ValuesOp;
+use run_ports::ReplayCourier;
 use sql_values::Memory;
 use std::alloc::Global;
 use std::fmt::Write;
@@ -27,13 +28,13 @@ gather 2 8|0 2 2 1 2|fr0 w0r1 w0 fr0 fr1 put;put;take 2 3 2 3 ;
 deal 2 1|0 1 2 0 2 0 1 0 2 1 2|w1r0 w0r1 w0 w1r0 w0r1 w1r0 fr1 fr0 fr1 - - deal;took 2 ;took 3 ;";
 
 /// Two pages of a row each.
-fn source<'w>(alloc: Global) -> Result<Source<'w>, Memory>
+fn source<'w>(alloc: Global) -> Result<Source<'w, ReplayCourier>, Memory>
     ensures { IfOk result (λ s. rows_taken s ≡ []) }
 {
     let types = whole(alloc)?;
     let rows = rows(alloc, 2, 3)?;
     let op = ValuesOp::new(alloc, rows, types, 1);
-    Ok(Source::Rows(RowsSource::new(op)))
+    Ok(Source::rows(RowsSource::new(op)))
 }
 
 fn put_target<'w>(alloc: Global, seat: GatherPut<'w>) -> Result<Target<'w>, Memory>
@@ -51,35 +52,41 @@ fn deal_target(seat: SpreadPut<'_>) -> Target<'_>
     Target::Deal(DealTarget::new(seat))
 }
 
-fn local(seat: GatherTake<'_>) -> Source<'_>
+fn local(seat: GatherTake<'_>) -> Source<'_, ReplayCourier>
     requires { seat.took ≡ [] }
     ensures { rows_taken result ≡ [] }
 {
-    Source::Local(LocalSource::new(seat))
+    Source::local(LocalSource::new(seat))
 }
 
-fn remote(seat: SpreadTake<'_>) -> Source<'_>
+fn remote(seat: SpreadTake<'_>) -> Source<'_, ReplayCourier>
     requires { seat.took ≡ [] }
     ensures { rows_taken result ≡ [] }
 {
-    Source::Remote(RemoteSource::new(seat))
+    Source::remote(RemoteSource::new(seat))
 }
 
-fn putter<'w>(alloc: Global, target: Target<'w>) -> Result<Driver<'w>, Memory>
+fn putter<'w>(alloc: Global, target: Target<'w>) -> Result<Driver<'w, ReplayCourier>, Memory>
     requires { target_made target ≡ target }
 {
     let source = source(alloc)?;
     Driver::new(alloc, 1, source, Vec::new(alloc), target)
 }
 
-fn taker<'w>(alloc: Global, source: Source<'w>) -> Result<Driver<'w>, Memory>
+fn taker<'w>(
+    alloc: Global,
+    source: Source<'w, ReplayCourier>,
+) -> Result<Driver<'w, ReplayCourier>, Memory>
     requires { rows_taken source ≡ [] }
 {
     let target = result(alloc)?;
     Driver::new(alloc, 2, source, Vec::new(alloc), target)
 }
 
-fn put_drivers<'w>(alloc: Global, seats: Vec<GatherPut<'w>>) -> Result<Vec<Driver<'w>>, Memory>
+fn put_drivers<'w>(
+    alloc: Global,
+    seats: Vec<GatherPut<'w>>,
+) -> Result<Vec<Driver<'w, ReplayCourier>>, Memory>
     requires { All (λ seat. seat ≡ new_gather_put seat.edge seat.number) seats.items }
 {
     let mut drivers = Vec::new(alloc);
@@ -93,7 +100,7 @@ fn put_drivers<'w>(alloc: Global, seats: Vec<GatherPut<'w>>) -> Result<Vec<Drive
 fn take_drivers<'w>(
     alloc: Global,
     seats: Vec<SpreadTake<'w>>,
-    drivers: &mut Vec<Driver<'w>>,
+    drivers: &mut Vec<Driver<'w, ReplayCourier>>,
 ) -> Result<(), Memory>
     requires { All (λ seat. seat.took ≡ []) seats.items }
 {
@@ -104,7 +111,10 @@ fn take_drivers<'w>(
 }
 
 /// The drivers of an edge of one taker.
-fn gathered<'e>(alloc: Global, edge: &'e mut Gather) -> Result<Vec<Driver<'e>>, Memory>
+fn gathered<'e>(
+    alloc: Global,
+    edge: &'e mut Gather,
+) -> Result<Vec<Driver<'e, ReplayCourier>>, Memory>
     requires { edge.old.is_handed_out ≡ false }
 {
     let (puts, take) = edge.seats()?;
@@ -114,7 +124,7 @@ fn gathered<'e>(alloc: Global, edge: &'e mut Gather) -> Result<Vec<Driver<'e>>, 
 }
 
 /// The drivers of an edge of many takers.
-fn dealt<'e>(alloc: Global, edge: &'e mut Spread) -> Result<Vec<Driver<'e>>, Memory>
+fn dealt<'e>(alloc: Global, edge: &'e mut Spread) -> Result<Vec<Driver<'e, ReplayCourier>>, Memory>
     requires { edge.old.is_handed_out ≡ false }
 {
     let (put, takes) = edge.seats()?;
@@ -141,7 +151,7 @@ fn write_turn(text: &mut String, turn: Turn, rung: Option<u32>) -> Result<(), Me
 fn give_turn<R: Threads + Wait + Sync>(
     rt: &R,
     alloc: Global,
-    driver: &mut Driver<'_>,
+    driver: &mut Driver<'_, ReplayCourier>,
     solo: &Solo,
     text: &mut String,
 ) -> Result<(), Memory> {
@@ -156,7 +166,7 @@ fn give_turn<R: Threads + Wait + Sync>(
 fn give_turns<R: Threads + Wait + Sync>(
     rt: &R,
     alloc: Global,
-    drivers: &mut Vec<Driver<'_>>,
+    drivers: &mut Vec<Driver<'_, ReplayCourier>>,
     picks: &str,
     solo: &Solo,
     text: &mut String,
@@ -187,7 +197,7 @@ fn write_pieces(text: &mut String, mut pieces: Pieces<'_>) -> Result<(), Memory>
     write_pages(text, &mut pieces.rows)
 }
 
-fn write_all(text: &mut String, drivers: Vec<Driver<'_>>) -> Result<(), Memory> {
+fn write_all(text: &mut String, drivers: Vec<Driver<'_, ReplayCourier>>) -> Result<(), Memory> {
     for driver in drivers {
         write_pieces(text, driver.stop())?;
         text.push_str(";")?;
@@ -199,7 +209,7 @@ fn write_all(text: &mut String, drivers: Vec<Driver<'_>>) -> Result<(), Memory> 
 fn said<R: Threads + Wait + Sync>(
     rt: &R,
     alloc: Global,
-    mut drivers: Vec<Driver<'_>>,
+    mut drivers: Vec<Driver<'_, ReplayCourier>>,
     picks: &str,
     solo: &Solo,
 ) -> Result<String, Memory> {

@@ -11,6 +11,7 @@ use futures::task::{Doorbell, Solo};
 use hash_join::{LookupBuilder, LookupCell, ProbeOp};
 use operator_core::Operator;
 use row_ops::ValuesOp;
+use run_ports::ReplayCourier;
 use sql_values::{JoinKind, Memory, Row, RowList, SqlType, Types, Value};
 use std::alloc::Global;
 use std::sync::Wait;
@@ -47,13 +48,13 @@ pub(crate) fn rows(alloc: Global, first: i64, second: i64) -> Result<RowList, Me
     Ok(rows)
 }
 
-fn source<'w>(alloc: Global, first: i64, second: i64) -> Result<Source<'w>, Memory>
+fn source<'w>(alloc: Global, first: i64, second: i64) -> Result<Source<'w, ReplayCourier>, Memory>
     ensures { IfOk result (λ s. rows_taken s ≡ []) }
 {
     let types = whole(alloc)?;
     let rows = rows(alloc, first, second)?;
     let op = ValuesOp::new(alloc, rows, types, 8);
-    Ok(Source::Rows(RowsSource::new(op)))
+    Ok(Source::rows(RowsSource::new(op)))
 }
 
 /// Builds the right side of a join.
@@ -71,7 +72,7 @@ fn builder<'w>(
     cell: &'w LookupCell,
     first: i64,
     second: i64,
-) -> Result<Driver<'w>, Memory>
+) -> Result<Driver<'w, ReplayCourier>, Memory>
     ensures { IfOk result (λ d. (d.is_finished ≡ false) × (d.fault ≡ None)) }
 {
     let target = target(alloc, cell)?;
@@ -98,7 +99,7 @@ fn pairs<'w>(alloc: Global) -> Result<Target<'w>, Memory>
 }
 
 /// Joins the rows 2 and 3 with what is in the cell.
-fn prober<'w>(alloc: Global, cell: &'w LookupCell) -> Result<Driver<'w>, Memory>
+fn prober<'w>(alloc: Global, cell: &'w LookupCell) -> Result<Driver<'w, ReplayCourier>, Memory>
     ensures { IfOk result (λ d. (d.is_finished ≡ false) × (d.fault ≡ None)) }
 {
     let stages = probes(alloc, cell)?;
@@ -111,7 +112,7 @@ fn prober<'w>(alloc: Global, cell: &'w LookupCell) -> Result<Driver<'w>, Memory>
 fn waits_at<R: Threads + Wait + Sync>(
     rt: &R,
     alloc: Global,
-    driver: &mut Driver<'_>,
+    driver: &mut Driver<'_, ReplayCourier>,
     solo: &Solo,
 ) -> Option<(u32, u64)>
     requires { (driver.old.is_finished ≡ false) × (driver.old.fault ≡ None) }
@@ -129,7 +130,7 @@ fn waits_at<R: Threads + Wait + Sync>(
 fn rings_at<R: Threads + Wait + Sync>(
     rt: &R,
     alloc: Global,
-    driver: &mut Driver<'_>,
+    driver: &mut Driver<'_, ReplayCourier>,
     solo: &Solo,
 ) -> Option<u32>
     requires { (driver.old.is_finished ≡ false) × (driver.old.fault ≡ None) }

@@ -2,7 +2,7 @@ use Rattle.std.proofs.Common.{◌≡◌, ◌∙◌, None, Some, IsErr, ap, false
 use Rattle.operator_core.specs.Answers.{NotMemory}
 use Rattle.driver_turns.specs.declared.turns.Turned.{Turned}
 use Rattle.driver_loop.specs.Drivers.{DriverState, IsWhole}
-use Rattle.driver_loop.proofs.DriverLemmas.{driver_over, driver_turned, expr_fault, going_on, in_ok, not_memory, not_none, room_stays, whole, worked, worked_from}
+use Rattle.driver_loop.proofs.DriverLemmas.{driver_over, driver_turned, expr_fault, going_on, in_ok, not_memory, not_none, room_stays, whole, worked}
 use Rattle.driver_loop.proofs.TargetLemmas.{built_on}
 use Rattle.driver_loop.proofs.driver.Driver.turn.Goals as goal
 
@@ -12,7 +12,7 @@ invariant_of-self g c =
     let unfailed : c.self.inside.fault ≡ None = ap (λ (d : DriverState). d.fault) c.self.view_is ∙ c.requires.running.1 in
     let answer = in_ok _ _ _ _ c.in-Ok-Yield.is c.in-Ok-Yield.field-0-is c.take_turn-units.ensures.answer in
     record {
-      driver = driver_turned _ _ c.take_turn-units.result.units c.self.invariant.driver (whole _ unfailed) (λ _ Y given. worked_from _ _ Y _ (c.take_turn-units.ensures.worked (subst NotMemory (sym c.in-Ok-Yield.is) tt) Y given))
+      driver = driver_turned _ _ c.take_turn-units.result.units c.self.invariant.driver (whole _ unfailed) (λ _ Y given. c.take_turn-units.ensures.worked (subst NotMemory (sym c.in-Ok-Yield.is) tt) Y given)
           (λ _. c.take_turn-units.ensures.told (subst NotMemory (sym c.in-Ok-Yield.is) tt)) c.saturating_add-self-inside.ensures
           (going_on _ _ going) (not_none _ _ unfailed);
       built = λ w. built_on _ _ _ _ c.take_turn-units.ensures.ends (c.take_turn-units.ensures.target (subst NotMemory (sym c.in-Ok-Yield.is) tt)) (answer.2 ∙ sym going) (c.self.invariant.built w);
@@ -26,7 +26,7 @@ invariant_of-self-in-Ok-Blocked g c =
     let unfailed : c.self.inside.fault ≡ None = ap (λ (d : DriverState). d.fault) c.self.view_is ∙ c.requires.running.1 in
     let answer = in_ok _ _ _ _ c.in-Ok-Blocked.is c.in-Ok-Blocked.field-0-is c.take_turn-units.ensures.answer in
     record {
-      driver = driver_turned _ _ c.take_turn-units.result.units c.self.invariant.driver (whole _ unfailed) (λ _ Y given. worked_from _ _ Y _ (c.take_turn-units.ensures.worked (subst NotMemory (sym c.in-Ok-Blocked.is) tt) Y given))
+      driver = driver_turned _ _ c.take_turn-units.result.units c.self.invariant.driver (whole _ unfailed) (λ _ Y given. c.take_turn-units.ensures.worked (subst NotMemory (sym c.in-Ok-Blocked.is) tt) Y given)
           (λ _. c.take_turn-units.ensures.told (subst NotMemory (sym c.in-Ok-Blocked.is) tt)) c.saturating_add-self-inside.ensures
           (going_on _ _ going) (not_none _ _ unfailed);
       built = λ w. built_on _ _ _ _ c.take_turn-units.ensures.ends (c.take_turn-units.ensures.target (subst NotMemory (sym c.in-Ok-Blocked.is) tt)) (answer.1 ∙ sym going) (c.self.invariant.built w);
@@ -41,7 +41,7 @@ invariant_of-self-in-Ok-Finished g c =
     let told = in_ok _ _ _ _ c.in-Ok-Finished.is c.in-Ok-Finished.field-0-is c.take_turn-units.ensures.finished refl in
     let over = c.take_turn-units.ensures.told (subst NotMemory (sym c.in-Ok-Finished.is) tt) (c.self.invariant.driver.goes.told (whole _ unfailed)) told in
     record {
-      driver = driver_turned _ _ c.take_turn-units.result.units c.self.invariant.driver (whole _ unfailed) (λ _ Y given. worked_from _ _ Y _ (c.take_turn-units.ensures.worked (subst NotMemory (sym c.in-Ok-Finished.is) tt) Y given))
+      driver = driver_turned _ _ c.take_turn-units.result.units c.self.invariant.driver (whole _ unfailed) (λ _ Y given. c.take_turn-units.ensures.worked (subst NotMemory (sym c.in-Ok-Finished.is) tt) Y given)
           (λ _. c.take_turn-units.ensures.told (subst NotMemory (sym c.in-Ok-Finished.is) tt)) c.saturating_add-self-inside.ensures
           (λ _. (unfailed, over)) (not_none _ _ unfailed);
       built = λ w. built_on _ _ _ _ c.take_turn-units.ensures.ends (c.take_turn-units.ensures.target (subst NotMemory (sym c.in-Ok-Finished.is) tt)) answer (c.self.invariant.built w);
@@ -56,7 +56,7 @@ invariant_of-self-in-Err g c =
     let enough : IsWhole (Some c.of-fault.result) → NotMemory c.take_turn-units.result.outcome
     = λ w. subst NotMemory (sym c.in-Err.is) (not_memory Turned c.in-Err.fault (subst (λ f. IsWhole (Some f)) c.of-fault.ensures w)) in
     record {
-      driver = driver_turned _ _ c.take_turn-units.result.units c.self.invariant.driver (whole _ unfailed) (λ w Y given. worked_from _ _ Y _ (c.take_turn-units.ensures.worked (enough w) Y given))
+      driver = driver_turned _ _ c.take_turn-units.result.units c.self.invariant.driver (whole _ unfailed) (λ w Y given. c.take_turn-units.ensures.worked (enough w) Y given)
           (λ w. c.take_turn-units.ensures.told (enough w)) c.saturating_add-self-inside.ensures
           (going_on _ _ going) (λ node kind is. c.take_turn-units.ensures.fault node kind (c.in-Err.is ∙ expr_fault c.in-Err.fault c.of-fault.result node kind c.of-fault.ensures is));
       built = λ w. built_on _ _ _ _ c.take_turn-units.ensures.ends (c.take_turn-units.ensures.target (enough w))
@@ -71,19 +71,19 @@ returns-in-Ok-Finished-clause-over g c = λ _.
     let told = in_ok _ _ _ _ c.in-Ok-Finished.is c.in-Ok-Finished.field-0-is c.take_turn-units.ensures.finished refl in
     let over = c.take_turn-units.ensures.told (subst NotMemory (sym c.in-Ok-Finished.is) tt) (c.self.invariant.driver.goes.told (whole _ unfailed)) told in
     driver_over c.laws.ensures _
-    (driver_turned _ _ c.take_turn-units.result.units c.self.invariant.driver (whole _ unfailed) (λ _ Y given. worked_from _ _ Y _ (c.take_turn-units.ensures.worked (subst NotMemory (sym c.in-Ok-Finished.is) tt) Y given))
+    (driver_turned _ _ c.take_turn-units.result.units c.self.invariant.driver (whole _ unfailed) (λ _ Y given. c.take_turn-units.ensures.worked (subst NotMemory (sym c.in-Ok-Finished.is) tt) Y given)
     (λ _. c.take_turn-units.ensures.told (subst NotMemory (sym c.in-Ok-Finished.is) tt)) c.saturating_add-self-inside.ensures
     (λ _. (unfailed, over)) (not_none _ _ unfailed)) refl
 
 pub returns-in-Ok-Yield-clause-worked : goal.returns-in-Ok-Yield-clause-worked
-returns-in-Ok-Yield-clause-worked g c = λ _. worked _ _ _ _ c.self.view_is c.self.invariant.driver (whole _ (ap (λ (d : DriverState). d.fault) c.self.view_is ∙ c.requires.running.1)) (λ Y given. worked_from _ _ Y _ (c.take_turn-units.ensures.worked (subst NotMemory (sym c.in-Ok-Yield.is) tt) Y given)) c.saturating_add-self-inside.ensures
+returns-in-Ok-Yield-clause-worked g c = λ _. worked _ _ _ _ c.self.view_is c.self.invariant.driver (whole _ (ap (λ (d : DriverState). d.fault) c.self.view_is ∙ c.requires.running.1)) (λ Y given. c.take_turn-units.ensures.worked (subst NotMemory (sym c.in-Ok-Yield.is) tt) Y given) c.saturating_add-self-inside.ensures
 
 pub returns-in-Ok-Blocked-clause-worked : goal.returns-in-Ok-Blocked-clause-worked
-returns-in-Ok-Blocked-clause-worked g c = λ _. worked _ _ _ _ c.self.view_is c.self.invariant.driver (whole _ (ap (λ (d : DriverState). d.fault) c.self.view_is ∙ c.requires.running.1)) (λ Y given. worked_from _ _ Y _ (c.take_turn-units.ensures.worked (subst NotMemory (sym c.in-Ok-Blocked.is) tt) Y given)) c.saturating_add-self-inside.ensures
+returns-in-Ok-Blocked-clause-worked g c = λ _. worked _ _ _ _ c.self.view_is c.self.invariant.driver (whole _ (ap (λ (d : DriverState). d.fault) c.self.view_is ∙ c.requires.running.1)) (λ Y given. c.take_turn-units.ensures.worked (subst NotMemory (sym c.in-Ok-Blocked.is) tt) Y given) c.saturating_add-self-inside.ensures
 
 pub returns-in-Ok-Finished-clause-worked : goal.returns-in-Ok-Finished-clause-worked
-returns-in-Ok-Finished-clause-worked g c = λ _. worked _ _ _ _ c.self.view_is c.self.invariant.driver (whole _ (ap (λ (d : DriverState). d.fault) c.self.view_is ∙ c.requires.running.1)) (λ Y given. worked_from _ _ Y _ (c.take_turn-units.ensures.worked (subst NotMemory (sym c.in-Ok-Finished.is) tt) Y given)) c.saturating_add-self-inside.ensures
+returns-in-Ok-Finished-clause-worked g c = λ _. worked _ _ _ _ c.self.view_is c.self.invariant.driver (whole _ (ap (λ (d : DriverState). d.fault) c.self.view_is ∙ c.requires.running.1)) (λ Y given. c.take_turn-units.ensures.worked (subst NotMemory (sym c.in-Ok-Finished.is) tt) Y given) c.saturating_add-self-inside.ensures
 
 pub returns-in-Err-clause-worked : goal.returns-in-Err-clause-worked
 returns-in-Err-clause-worked g c = λ w. worked _ _ _ _ c.self.view_is c.self.invariant.driver (whole _ (ap (λ (d : DriverState). d.fault) c.self.view_is ∙ c.requires.running.1))
-    (λ Y given. worked_from _ _ Y _ (c.take_turn-units.ensures.worked (subst NotMemory (sym c.in-Err.is) (not_memory Turned c.in-Err.fault (subst (λ f. IsWhole (Some f)) c.of-fault.ensures w))) Y given)) c.saturating_add-self-inside.ensures
+    (λ Y given. c.take_turn-units.ensures.worked (subst NotMemory (sym c.in-Err.is) (not_memory Turned c.in-Err.fault (subst (λ f. IsWhole (Some f)) c.of-fault.ensures w))) Y given) c.saturating_add-self-inside.ensures

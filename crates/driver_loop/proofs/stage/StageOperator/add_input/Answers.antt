@@ -35,3 +35,15 @@ returns-in-Single-clause-fault c = rw c.in-Single.is c.add_input-in-Single.ensur
 
 pub returns-in-Probe-clause-fault : goal.returns-in-Probe-clause-fault
 returns-in-Probe-clause-fault c = rw c.in-Probe.is c.add_input-in-Probe.ensures.fault
+
+pub returns-in-Partial-clause-fails : goal.returns-in-Partial-clause-fails
+returns-in-Partial-clause-fails c = rw c.in-Partial.is c.add_input-in-Partial.ensures.fails
+
+pub returns-in-Partial-clause-fault : goal.returns-in-Partial-clause-fault
+returns-in-Partial-clause-fault c = rw c.in-Partial.is c.add_input-in-Partial.ensures.fault
+
+pub returns-in-Final-clause-fails : goal.returns-in-Final-clause-fails
+returns-in-Final-clause-fails c = rw c.in-Final.is c.add_input-in-Final.ensures.fails
+
+pub returns-in-Final-clause-fault : goal.returns-in-Final-clause-fault
+returns-in-Final-clause-fault c = rw c.in-Final.is c.add_input-in-Final.ensures.fault

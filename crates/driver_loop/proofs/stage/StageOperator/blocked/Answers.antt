@@ -53,3 +53,21 @@ returns-in-Single-clause-takes g c = rw c.in-Single.is c.blocked-in-Single.ensur
 
 pub returns-in-Probe-clause-takes : goal.returns-in-Probe-clause-takes
 returns-in-Probe-clause-takes g c = rw c.in-Probe.is c.blocked-in-Probe.ensures.takes
+
+pub returns-in-Partial-clause-gives : goal.returns-in-Partial-clause-gives
+returns-in-Partial-clause-gives g c = rw c.in-Partial.is c.blocked-in-Partial.ensures.gives
+
+pub returns-in-Partial-clause-fails : goal.returns-in-Partial-clause-fails
+returns-in-Partial-clause-fails g c = rw c.in-Partial.is c.blocked-in-Partial.ensures.fails
+
+pub returns-in-Partial-clause-takes : goal.returns-in-Partial-clause-takes
+returns-in-Partial-clause-takes g c = rw c.in-Partial.is c.blocked-in-Partial.ensures.takes
+
+pub returns-in-Final-clause-gives : goal.returns-in-Final-clause-gives
+returns-in-Final-clause-gives g c = rw c.in-Final.is c.blocked-in-Final.ensures.gives
+
+pub returns-in-Final-clause-fails : goal.returns-in-Final-clause-fails
+returns-in-Final-clause-fails g c = rw c.in-Final.is c.blocked-in-Final.ensures.fails
+
+pub returns-in-Final-clause-takes : goal.returns-in-Final-clause-takes
+returns-in-Final-clause-takes g c = rw c.in-Final.is c.blocked-in-Final.ensures.takes

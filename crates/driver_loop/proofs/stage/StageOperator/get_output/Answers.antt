@@ -53,3 +53,21 @@ returns-in-Single-clause-went c = rw c.in-Single.is c.get_output-in-Single.ensur
 
 pub returns-in-Probe-clause-went : goal.returns-in-Probe-clause-went
 returns-in-Probe-clause-went c = rw c.in-Probe.is c.get_output-in-Probe.ensures.went
+
+pub returns-in-Partial-clause-fails : goal.returns-in-Partial-clause-fails
+returns-in-Partial-clause-fails c = rw c.in-Partial.is c.get_output-in-Partial.ensures.fails
+
+pub returns-in-Partial-clause-none : goal.returns-in-Partial-clause-none
+returns-in-Partial-clause-none c = rw c.in-Partial.is c.get_output-in-Partial.ensures.none
+
+pub returns-in-Partial-clause-went : goal.returns-in-Partial-clause-went
+returns-in-Partial-clause-went c = rw c.in-Partial.is c.get_output-in-Partial.ensures.went
+
+pub returns-in-Final-clause-fails : goal.returns-in-Final-clause-fails
+returns-in-Final-clause-fails c = rw c.in-Final.is c.get_output-in-Final.ensures.fails
+
+pub returns-in-Final-clause-none : goal.returns-in-Final-clause-none
+returns-in-Final-clause-none c = rw c.in-Final.is c.get_output-in-Final.ensures.none
+
+pub returns-in-Final-clause-went : goal.returns-in-Final-clause-went
+returns-in-Final-clause-went c = rw c.in-Final.is c.get_output-in-Final.ensures.went

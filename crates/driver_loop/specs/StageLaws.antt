@@ -1,0 +1,47 @@
+-- The laws of a stage, one line for each operator.
+use Rattle.std.specs.Prelude.{refl}
+use Rattle.row_ops.specs.contracts.filter_project.FilterProjectOperator.TheImpl.{ghosts as filter}
+use Rattle.row_ops.specs.contracts.limit.LimitOpOperator.TheImpl.{ghosts as limit}
+use Rattle.topn_sort.specs.contracts.sort.SortOpOperator.TheImpl.{ghosts as sort}
+use Rattle.topn_sort.specs.contracts.topn.TopNOpOperator.TheImpl.{ghosts as topn}
+use Rattle.aggregation.specs.contracts.single.SingleAggOperator.TheImpl.{ghosts as single}
+use Rattle.aggregation.specs.contracts.partial.PartialAggOperator.TheImpl.{ghosts as partial}
+use Rattle.aggregation.specs.contracts.final_agg.FinalAggOperator.TheImpl.{ghosts as final}
+use Rattle.hash_join.specs.contracts.probe.ProbeOpOperator.TheImpl.{ghosts as probe}
+use Rattle.row_ops.specs.contracts.filter_project.FilterProjectOperator.TheImpl.Laws as filter_laws
+use Rattle.row_ops.specs.contracts.limit.LimitOpOperator.TheImpl.Laws as limit_laws
+use Rattle.topn_sort.specs.contracts.sort.SortOpOperator.TheImpl.Laws as sort_laws
+use Rattle.topn_sort.specs.contracts.topn.TopNOpOperator.TheImpl.Laws as topn_laws
+use Rattle.aggregation.specs.contracts.single.SingleAggOperator.TheImpl.Laws as single_laws
+use Rattle.aggregation.specs.contracts.partial.PartialAggOperator.TheImpl.Laws as partial_laws
+use Rattle.aggregation.specs.contracts.final_agg.FinalAggOperator.TheImpl.Laws as final_laws
+use Rattle.hash_join.specs.contracts.probe.ProbeOpOperator.TheImpl.Laws as probe_laws
+use Rattle.driver_loop.specs.declared.stage.Stage.{Stage}
+use Rattle.driver_loop.specs.declared.stage.Stage.TheVariants.{Filter, Limit, Sort, TopN, Single, Partial, Final, Probe}
+use Rattle.driver_loop.specs.Operators.{stage_ghosts}
+use Rattle.driver_loop.specs.OperatorLaws.{LawsNow, LearnLaws, laws_now, learn_laws, now}
+
+pub laws_of : (t : Stage) → LawsNow (now stage_ghosts t)
+laws_of (Filter op) = laws_now filter filter_laws.lawful op
+laws_of (Limit op types) = laws_now limit limit_laws.lawful op
+laws_of (Sort op) = laws_now sort sort_laws.lawful op
+laws_of (TopN op) = laws_now topn topn_laws.lawful op
+laws_of (Single op) = laws_now single single_laws.lawful op
+laws_of (Partial op) = laws_now partial partial_laws.lawful op
+laws_of (Final op) = laws_now final final_laws.lawful op
+laws_of (Probe op types) = laws_now probe probe_laws.lawful op
+
+-- and of what it may learn
+abbrev pub LearnsOf : Stage → Type 0
+LearnsOf t = LearnLaws stage_ghosts (now stage_ghosts t) (stage_ghosts.as_made (stage_ghosts.as_made t)) (stage_ghosts.as_made t)
+    (stage_ghosts.may_learn t) (stage_ghosts.may_learn (stage_ghosts.as_made t))
+
+pub learns_of : (t : Stage) → LearnsOf t
+learns_of (Filter op) = learn_laws stage_ghosts filter filter_laws.lawful Filter (λ s. refl) (λ s. refl) op
+learns_of (Limit op types) = learn_laws stage_ghosts limit limit_laws.lawful (λ s. Limit s types) (λ s. refl) (λ s. refl) op
+learns_of (Sort op) = learn_laws stage_ghosts sort sort_laws.lawful Sort (λ s. refl) (λ s. refl) op
+learns_of (TopN op) = learn_laws stage_ghosts topn topn_laws.lawful TopN (λ s. refl) (λ s. refl) op
+learns_of (Single op) = learn_laws stage_ghosts single single_laws.lawful Single (λ s. refl) (λ s. refl) op
+learns_of (Partial op) = learn_laws stage_ghosts partial partial_laws.lawful Partial (λ s. refl) (λ s. refl) op
+learns_of (Final op) = learn_laws stage_ghosts final final_laws.lawful Final (λ s. refl) (λ s. refl) op
+learns_of (Probe op types) = learn_laws stage_ghosts probe probe_laws.lawful (λ s. Probe s types) (λ s. refl) (λ s. refl) op

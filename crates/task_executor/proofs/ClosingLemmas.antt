@@ -34,7 +34,7 @@ use Rattle.plan_nets.proofs.FitLemmas.{fits_widths, front_of_source, source_fits
 use Rattle.plan_nets.proofs.OperatorLemmas.{fails_of}
 use Rattle.plan_nets.proofs.StoppedLemmas.{net_fails, side_fails as side_of_net_fails}
 use Rattle.plan_nets.proofs.WholeLemmas.{nets_give}
-use Rattle.task_executor.specs.Cells.{LearnedFrom}
+use Rattle.driver_laws.specs.Cells.{LearnedFrom}
 use Rattle.task_executor.specs.Nets.{FailsFor, IsNetOf}
 use Rattle.task_executor.specs.Sides.{AreSides, IsResult, RunsPipeline}
 use Rattle.task_executor.specs.Turns.{AreFailing, AreFinished, AreLater, AreStill, AreWholeDrivers, IsStill}

@@ -17,7 +17,7 @@ use Rattle.driver_loop.specs.Ends.{has_ended, rows_taken}
 use Rattle.driver_loop.specs.Turns.{note_of_stage, note_of_target}
 use Rattle.driver_loop.specs.contracts.stage.StageOperator.TheImpl.{ghosts}
 use Rattle.driver_loop.specs.declared.pieces.CellNote.{CellNote}
-use Rattle.task_executor.specs.Cells.{LearnedFrom, Names}
+use Rattle.driver_laws.specs.Cells.{LearnedFrom, Names}
 use Rattle.task_executor.specs.Sides.{AreSides}
 use Rattle.task_executor.specs.Turns.{IsStill}
 use Rattle.task_executor.proofs.MemberLemmas.{In, in_back, in_either, in_front}

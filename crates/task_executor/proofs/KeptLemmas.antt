@@ -9,7 +9,7 @@ use Rattle.driver_loop.specs.Drivers.{DriverState, IsWhole}
 use Rattle.driver_loop.specs.Ends.{target_made}
 use Rattle.driver_loop.specs.contracts.stage.StageOperator.TheImpl.{ghosts}
 use Rattle.driver_loop.specs.declared.stage.Stage.{Stage}
-use Rattle.driver_loop.specs.declared.stage.Stage.TheVariants.{Filter, Limit, Probe, Single, Sort, TopN}
+use Rattle.driver_loop.specs.declared.stage.Stage.TheVariants.{Filter, Final, Limit, Partial, Probe, Single, Sort, TopN}
 use Rattle.driver_loop.specs.declared.target.Target.{Target}
 use Rattle.driver_loop.specs.declared.target.Target.TheVariants.{Build, Deal, Put, Result as Kept}
 use Rattle.plan_docs.specs.Plans.{PlanForm}
@@ -19,9 +19,10 @@ use Rattle.plan_runs.specs.Spreads.{Tables}
 use Rattle.plan_pipelines.specs.Fragments.{run_of}
 use Rattle.plan_nets.specs.Operators.{EndsIn}
 use Rattle.plan_nets.specs.Trees.{rows_of_source}
-use Rattle.task_executor.specs.Cells.{AreNamed, Names, cell_of, cells_of, target_cell}
+use Rattle.driver_laws.specs.Cells.{AreNamed, Names, cell_of, cells_of, target_cell}
 use Rattle.task_executor.specs.Nets.{IsNetOf}
-use Rattle.task_executor.specs.Pipelines.{Assembled, ProbesFor}
+use Rattle.driver_laws.specs.Stages.{ProbesFor}
+use Rattle.task_executor.specs.Pipelines.{Assembled}
 use Rattle.task_executor.specs.Reads.{IsAlone}
 use Rattle.task_executor.specs.Sides.{AreSides, BuildsFor, IsResult, RunsPipeline}
 use Rattle.task_executor.specs.Turns.{AreAlone, AreLater, AreWholeDrivers}
@@ -35,6 +36,8 @@ made_cells (Limit op types) = refl
 made_cells (Sort op) = refl
 made_cells (TopN op) = refl
 made_cells (Single op) = refl
+made_cells (Partial op) = refl
+made_cells (Final op) = refl
 made_cells (Probe op types) = refl
 
 -- a target that keeps rows keeps rows later on too

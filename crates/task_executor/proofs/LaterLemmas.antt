@@ -20,8 +20,9 @@ use Rattle.driver_loop.specs.contracts.stage.StageOperator.TheImpl.{ghosts}
 use Rattle.driver_loop.specs.declared.stage.Stage.{Stage}
 use Rattle.driver_loop.specs.declared.target.Target.{Target}
 use Rattle.driver_loop.specs.declared.target.Target.TheVariants.{Build, Deal, Put, Result}
-use Rattle.task_executor.specs.Cells.{Names}
-use Rattle.task_executor.specs.Pipelines.{Assembled, IsProbeOf, IsStageOf}
+use Rattle.driver_laws.specs.Cells.{Names}
+use Rattle.driver_laws.specs.Stages.{IsProbeOf, IsStageOf}
+use Rattle.task_executor.specs.Pipelines.{Assembled}
 use Rattle.task_executor.proofs.ReadLemmas.{reads_on}
 use Rattle.task_executor.specs.Sides.{AreSides, BuildsFor, RunsPipeline}
 use Rattle.task_executor.specs.Turns.{AreLater, AreUnfailed, AreWholeDrivers, IsLater}

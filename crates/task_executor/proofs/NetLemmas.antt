@@ -12,7 +12,7 @@ use Rattle.bag_laws.proofs.TopLemmas.{All-back, All-front}
 use Rattle.hash_join.specs.Cells.{CellState}
 use Rattle.split_source.specs.Seats.{ClaimsState}
 use Rattle.driver_loop.specs.Drivers.{DriverState}
-use Rattle.driver_loop.specs.declared.source.Source.{Source}
+use Rattle.driver_loop.specs.Sources.{Source}
 use Rattle.driver_loop.specs.declared.stage.Stage.{Stage}
 use Rattle.driver_loop.specs.declared.target.Target.{Target}
 use Rattle.plan_docs.specs.Nodes.{NodeForm, join}
@@ -28,7 +28,7 @@ use Rattle.tree_evaluator.specs.Fits.{FitsTables}
 use Rattle.plan_pipelines.specs.Built.{AreRead, CanBeRead, IsBuilt, PipelineSource, source_of}
 use Rattle.plan_pipelines.proofs.FragmentLemmas.{fragment_runs}
 use Rattle.plan_pipelines.specs.Fragments.{IsOneFragment, run_of}
-use Rattle.task_executor.specs.Cells.{IsNamed, Names}
+use Rattle.driver_laws.specs.Cells.{IsNamed, Names}
 use Rattle.task_executor.specs.Nets.{AreNumbered, IsNetOf}
 use Rattle.task_executor.specs.Pipelines.{Assembled, IsMadeFor}
 use Rattle.task_executor.specs.Reads.{Reads, rows_below}

@@ -9,10 +9,10 @@ use Rattle.driver_loop.specs.Drivers.{DriverState}
 use Rattle.driver_loop.specs.Turns.{note_of_stage, note_of_target}
 use Rattle.driver_loop.specs.declared.pieces.CellNote.{CellNote}
 use Rattle.driver_loop.specs.declared.stage.Stage.{Stage}
-use Rattle.driver_loop.specs.declared.stage.Stage.TheVariants.{Filter, Limit, Probe, Single, Sort, TopN}
+use Rattle.driver_loop.specs.declared.stage.Stage.TheVariants.{Filter, Final, Limit, Partial, Probe, Single, Sort, TopN}
 use Rattle.driver_loop.specs.declared.target.Target.{Target}
 use Rattle.driver_loop.specs.declared.target.Target.TheVariants.{Build, Deal, Put, Result}
-use Rattle.task_executor.specs.Cells.{AreNamed, AreOfCells, LearnedFrom, Names, cell_of, cells_of, target_cell}
+use Rattle.driver_laws.specs.Cells.{AreNamed, AreOfCells, LearnedFrom, Names, cell_of, cells_of, target_cell}
 use Rattle.task_executor.specs.Closing.{WereTaken, builds_of, looks_of}
 use Rattle.task_executor.specs.Turns.{IsStill}
 use Rattle.task_executor.specs.declared.closing.Notes.{Notes}
@@ -29,6 +29,8 @@ stage_noted (Limit op types) = refl
 stage_noted (Sort op) = refl
 stage_noted (TopN op) = refl
 stage_noted (Single op) = refl
+stage_noted (Partial op) = refl
+stage_noted (Final op) = refl
 stage_noted (Probe op types) = refl
 
 stages_noted : (ss : List Stage) → map cell_noted (flat_map note_of_stage ss) ≡ flat_map cell_of ss

@@ -27,7 +27,7 @@ use Rattle.aggregation.specs.declared.single.SingleAgg.{SingleAgg as SingleState
 use Rattle.aggregation.specs.contracts.single.SingleAggOperator.TheImpl.{ghosts as single_ghosts}
 use Rattle.hash_join.specs.Probing.{ProbeState}
 use Rattle.plan_nets.specs.Operators.{EndsIn}
-use Rattle.task_executor.specs.Cells.{Names, cell_of}
+use Rattle.driver_laws.specs.Cells.{Names, cell_of}
 use Rattle.plan_trees.specs.TreeForms.{TreeForm}
 use Rattle.plan_trees.specs.TreeForms as tree
 use Rattle.plan_runs.specs.RunPlans.{tree_of_run}
@@ -41,7 +41,7 @@ use Rattle.row_ops.specs.contracts.limit.LimitOpOperator.TheImpl.{ghosts as limi
 use Rattle.topn_sort.specs.Sorting.{SortState, TopState}
 use Rattle.topn_sort.specs.contracts.sort.SortOpOperator.TheImpl.{ghosts as sort_ghosts}
 use Rattle.topn_sort.specs.contracts.topn.TopNOpOperator.TheImpl.{ghosts as topn_ghosts}
-use Rattle.driver_loop.specs.declared.stage.Stage.TheVariants.{Filter, Limit, Probe, Single, Sort, TopN}
+use Rattle.driver_loop.specs.declared.stage.Stage.TheVariants.{Filter, Final, Limit, Partial, Probe, Single, Sort, TopN}
 use Rattle.stage_meanings.proofs.OrderLemmas.{limit_keeps, rows_mean, sort_keeps, topn_keeps}
 use Rattle.stage_meanings.specs.Meanings.{ActsAs, Means}
 use Rattle.stage_meanings.proofs.ActLemmas.{acts_mean}
@@ -50,7 +50,8 @@ use Rattle.plan_pipelines.specs.Fragments.{run_of}
 use Rattle.sql_exprs.specs.declared.expr.Expr.{Expr}
 use Rattle.sql_exprs.specs.Forms.{Form, form_view}
 use Rattle.sql_exprs.specs.Meaning.{kind_of}
-use Rattle.task_executor.specs.Pipelines.{Assembled, CanFit, Extends, IsMadeFor, IsStageOf, NeverLearns, ProbesFor}
+use Rattle.driver_laws.specs.Stages.{IsStageOf, NeverLearns, ProbesFor}
+use Rattle.task_executor.specs.Pipelines.{Assembled, CanFit, Extends, IsMadeFor}
 use Rattle.task_executor.specs.declared.pipeline.Pipeline.{Pipeline}
 
 made-snoc : (stages : List Stage) (stage : Stage) → map ghosts.as_made stages ≡ stages → ghosts.as_made stage ≡ stage
@@ -137,6 +138,8 @@ none_learned (Limit op types) m apart learned = learned.2
 none_learned (Sort op) m apart learned = learned.2
 none_learned (TopN op) m apart learned = learned.2
 none_learned (Single op) m apart learned = learned.2
+none_learned (Partial op) m apart learned = learned.2
+none_learned (Final op) m apart learned = learned.2
 none_learned (Probe op types) m apart learned = absurd cc
 
 pub never_learns : (stage : Stage) → cell_of stage ≡ [] → NeverLearns stage
@@ -152,6 +155,8 @@ filter_untaught (Limit l types) op learned = learned.2
 filter_untaught (Sort k) op learned = learned.2
 filter_untaught (TopN k) op learned = learned.2
 filter_untaught (Single k) op learned = learned.2
+filter_untaught (Partial k) op learned = learned.2
+filter_untaught (Final k) op learned = learned.2
 filter_untaught (Probe p types) op learned = absurd (no_probe p types op learned)
   where
     no_probe : (p : ProbeState) (types : List SqlType) (op : FilterState) → ghosts.may_learn (Probe p types) (Filter op) → ⊥
@@ -192,6 +197,8 @@ single_untaught (Limit l types) op learned = learned.2
 single_untaught (Sort k) op learned = learned.2
 single_untaught (TopN k) op learned = learned.2
 single_untaught (Single k) op learned = learned.2
+single_untaught (Partial k) op learned = learned.2
+single_untaught (Final k) op learned = learned.2
 single_untaught (Probe p types) op learned = absurd (no_probe p types op learned)
   where
     no_probe : (p : ProbeState) (types : List SqlType) (op : SingleState) → ghosts.may_learn (Probe p types) (Single op) → ⊥

@@ -11,8 +11,7 @@ use Rattle.split_source.specs.Splits.{split_count}
 use Rattle.bag_laws.proofs.BagLemmas.{same-from_equal}
 use Rattle.plan_nets.specs.Stopped.{IsLeftOf}
 use Rattle.driver_loop.specs.Ends.{IsBegun, IsDrained, claim_of, has_ended, rows_taken, source_made}
-use Rattle.driver_loop.specs.declared.source.Source.{Source}
-use Rattle.driver_loop.specs.declared.source.Source.TheVariants.{Scan, Rows, Local, Remote}
+use Rattle.driver_loop.specs.Sources.{Source, Scan, Rows, Local, Remote, Fetch}
 use Rattle.task_executor.specs.Reads.{IsAlone, Reads, ReadsAlone}
 use Rattle.task_executor.specs.Turns.{IsStopped}
 use Rattle.task_executor.proofs.SourceLemmas.{gave_some}
@@ -29,24 +28,28 @@ scanned_rows (Scan s) = s.rows
 scanned_rows (Rows v) = v.rows
 scanned_rows (Local l) = []
 scanned_rows (Remote r) = []
+scanned_rows (Fetch f) = []
 
 abbrev scanned_columns : Source → List ℕ
 scanned_columns (Scan s) = s.columns
 scanned_columns (Rows v) = []
 scanned_columns (Local l) = []
 scanned_columns (Remote r) = []
+scanned_columns (Fetch f) = []
 
 abbrev split_size : Source → ℕ
 split_size (Scan s) = s.size
 split_size (Rows v) = 0
 split_size (Local l) = 0
 split_size (Remote r) = 0
+split_size (Fetch f) = 0
 
 abbrev claims_or : ClaimsId → Source → ClaimsId
 claims_or id (Scan s) = s.seat.claims
 claims_or id (Rows v) = id
 claims_or id (Local l) = id
 claims_or id (Remote r) = id
+claims_or id (Fetch f) = id
 
 same_scan : (scan now : ScanState) → source_made (Scan now) ≡ source_made (Scan scan) → SameScan scan now
 same_scan scan now same = record {
@@ -80,18 +83,22 @@ reads_on rows (Scan scan) (Scan now) same reads = scan_reads_on scan now rows re
 reads_on rows (Scan scan) (Rows values) same reads = absurd cc
 reads_on rows (Scan scan) (Local local) same reads = absurd cc
 reads_on rows (Scan scan) (Remote remote) same reads = absurd cc
+reads_on rows (Scan scan) (Fetch fetch) same reads = absurd cc
 reads_on rows (Rows values) (Scan now) same reads = absurd cc
 reads_on rows (Rows values) (Rows now) same reads = ap scanned_rows same ∙ reads
 reads_on rows (Rows values) (Local local) same reads = absurd cc
 reads_on rows (Rows values) (Remote remote) same reads = absurd cc
+reads_on rows (Rows values) (Fetch fetch) same reads = absurd cc
 reads_on rows (Local local) now same reads = absurd reads
 reads_on rows (Remote remote) now same reads = absurd reads
+reads_on rows (Fetch fetch) now same reads = absurd reads
 
 pub alone_of : (source : Source) (rows : List Row) → Reads source rows → IsAlone source
 alone_of (Scan scan) rows reads = reads.alone
 alone_of (Rows values) rows reads = tt
 alone_of (Local local) rows reads = tt
 alone_of (Remote remote) rows reads = tt
+alone_of (Fetch fetch) rows reads = tt
 
 none_behind : (given rest rows : List Row) → given ++ rest ≡ rows → given ≡ rows → rest ≡ []
 none_behind given rest rows is same = append_cancel_left given rest [] (is ∙ sym same ∙ sym (append-nil given))
@@ -109,3 +116,4 @@ took_some (Rows values) rows reads drained begun stopped = record {
 }
 took_some (Local local) rows reads drained begun stopped = absurd reads
 took_some (Remote remote) rows reads drained begun stopped = absurd reads
+took_some (Fetch fetch) rows reads drained begun stopped = absurd reads

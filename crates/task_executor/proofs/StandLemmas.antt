@@ -41,11 +41,12 @@ use Rattle.driver_loop.specs.Turns.{note_of_stage, note_of_target}
 use Rattle.driver_loop.specs.contracts.stage.StageOperator.TheImpl.{ghosts}
 use Rattle.driver_loop.specs.declared.pieces.CellNote.{CellNote}
 use Rattle.driver_loop.specs.declared.stage.Stage.{Stage}
-use Rattle.driver_loop.specs.declared.stage.Stage.TheVariants.{Filter, Limit, Probe, Single, Sort, TopN}
+use Rattle.driver_loop.specs.declared.stage.Stage.TheVariants.{Filter, Final, Limit, Partial, Probe, Single, Sort, TopN}
 use Rattle.driver_loop.specs.declared.target.Target.{Target}
 use Rattle.driver_loop.specs.declared.target.Target.TheVariants.{Build, Deal, Put, Result}
-use Rattle.task_executor.specs.Cells.{LearnedFrom, Names}
-use Rattle.task_executor.specs.Pipelines.{Assembled, IsProbeOf, IsStageOf}
+use Rattle.driver_laws.specs.Cells.{LearnedFrom, Names}
+use Rattle.driver_laws.specs.Stages.{IsProbeOf, IsStageOf}
+use Rattle.task_executor.specs.Pipelines.{Assembled}
 use Rattle.task_executor.specs.Sides.{AreSides, BuildsFor, RunsPipeline}
 use Rattle.task_executor.specs.Turns.{IsStill}
 use Rattle.task_executor.proofs.ReadLemmas.{took_some}
@@ -69,6 +70,8 @@ probe_raw (Limit l ts) op types same = absurd cc
 probe_raw (Sort s) op types same = absurd cc
 probe_raw (TopN s) op types same = absurd cc
 probe_raw (Single s) op types same = absurd cc
+probe_raw (Partial s) op types same = absurd cc
+probe_raw (Final s) op types same = absurd cc
 probe_raw (Probe raw ts) op types same =
     let own : ts ≡ types = cc in
     let made : probe_ghosts.as_made raw ≡ op = cc in

@@ -1,4 +1,3 @@
-pub mod Cells
 pub mod Reads
 pub mod Pipelines
 pub mod Sides

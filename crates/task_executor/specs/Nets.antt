@@ -13,7 +13,7 @@ use Rattle.plan_trees.specs.Stopped.{MayFail}
 use Rattle.tree_evaluator.specs.Fits.{FitsTables}
 use Rattle.plan_pipelines.specs.Fragments.{IsOneFragment, run_of}
 use Rattle.plan_nets.specs.Trees.{IsInOneTask}
-use Rattle.task_executor.specs.Cells.{Names}
+use Rattle.driver_laws.specs.Cells.{Names}
 use Rattle.task_executor.specs.Sides.{AreSides, IsResult, RunsPipeline}
 
 -- no turn of it was over

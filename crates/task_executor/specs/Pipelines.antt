@@ -2,52 +2,24 @@
 use Rattle.std.specs.Prelude.{◌≡◌, ℕ, List, [], ◌∷◌, ◌++◌, map}
 use Rattle.sql_values.specs.declared.types.SqlType.{SqlType}
 use Rattle.sql_values.specs.declared.value.Value.{Value}
-use Rattle.sql_values.specs.declared.relational.JoinKind.{JoinKind}
-use Rattle.hash_join.specs.Probing.{ProbeState}
 use Rattle.driver_loop.specs.declared.stage.Stage.{Stage}
-use Rattle.driver_loop.specs.declared.stage.Stage.TheVariants.{Probe}
 use Rattle.driver_loop.specs.contracts.stage.StageOperator.TheImpl.{ghosts}
 use Rattle.plan_docs.specs.Nodes.{NodeForm}
 use Rattle.plan_trees.specs.TreeTypes.{types_of}
 use Rattle.plan_runs.specs.Nets as stage
 use Rattle.plan_runs.specs.RunPlans.{RunPlan, tree_of_run, scan, values, remote, filter, project, join, aggregate, aggregate_parts, sort, topn, topn_parts, limit, limit_parts, union}
 use Rattle.tree_evaluator.specs.Fits.{FitsTables}
-use Rattle.stage_meanings.specs.Meanings.{Means}
-use Rattle.stage_meanings.specs.Pipelines.{NodeStage, at_node}
+use Rattle.stage_meanings.specs.Pipelines.{at_node}
 use Rattle.plan_pipelines.specs.Fragments.{run_of}
 use Rattle.plan_nets.specs.Operators.{EndsIn}
-use Rattle.task_executor.specs.Cells.{Names, cell_of}
+use Rattle.driver_laws.specs.Cells.{Names}
+use Rattle.driver_laws.specs.Stages.{IsProbeOf, IsStageOf}
 use Rattle.task_executor.specs.declared.pipeline.Pipeline.{Pipeline}
 
 -- there are tables that the node fits
 pub record CanFit (node : NodeForm) : Type 0 where
   pub tables : List (List (List Value))
   pub fits : FitsTables (tree_of_run (run_of node)) tables
-
--- a stage has no note that may come to know a value
-abbrev pub NeverLearns : Stage → Type 0
-NeverLearns stage = (later : Stage) → ghosts.may_learn stage later → ⊥
-
--- a stage, as it was made, is that of a node, and looks into no cell
-pub record IsStageOf (at : NodeStage) (between given : List SqlType) (made : Stage) : Type 0 where
-  pub means : Means ghosts made between (at ∷ []) given
-  pub fixed : NeverLearns made
-  pub apart : cell_of made ≡ []
-
--- a stage, as it was made, looks rows up in the cell of this bell, for a join of these columns
-pub record ProbesFor (names : Names) (bell : ℕ) (kind : JoinKind) (on : List (ℕ × ℕ)) (made : Stage) : Type 0 where
-  pub op : ProbeState
-  pub types : List SqlType
-  pub is : made ≡ Probe op types
-  pub of_kind : op.kind ≡ kind
-  pub columns : op.on ≡ map (λ (pair : ℕ × ℕ). pair.0) on
-  pub rings : op.bell ≡ bell
-  pub cell : op.note.cell ≡ names bell
-
--- a stage behind some that give rows of the types `between`
-pub record IsProbeOf (names : Names) (bell : ℕ) (kind : JoinKind) (on : List (ℕ × ℕ)) (right between given : List SqlType) (made : Stage) : Type 0 where
-  pub probes : ProbesFor names bell kind on made
-  pub types : between ++ right ≡ given
 
 -- the stages are those of the nodes from the source up to this one. The bells are those of the cells of its joins,
 -- from the node down

@@ -6,8 +6,7 @@ use Rattle.split_source.specs.Scans.{ScanState}
 use Rattle.split_source.specs.Seats.{AreAllOf}
 use Rattle.split_source.specs.Splits.{split_count}
 use Rattle.driver_loop.specs.Ends.{rows_taken}
-use Rattle.driver_loop.specs.declared.source.Source.{Source}
-use Rattle.driver_loop.specs.declared.source.Source.TheVariants.{Scan, Rows, Local, Remote}
+use Rattle.driver_loop.specs.Sources.{Source, Scan, Rows, Local, Remote, Fetch}
 use Rattle.page_judges.specs.Typed.{AllFit}
 use Rattle.plan_trees.specs.Allowed.{scanned}
 use Rattle.plan_pipelines.specs.Built.{PipelineSource, from_plan, from_table}
@@ -25,6 +24,7 @@ Reads (Scan scan) rows = ReadsAlone scan rows
 Reads (Rows values) rows = values.rows ≡ rows
 Reads (Local local) rows = ⊥
 Reads (Remote remote) rows = ⊥
+Reads (Fetch fetch) rows = ⊥
 
 -- it gave nothing
 abbrev pub IsFresh : Source → Type 0
@@ -46,3 +46,4 @@ IsAlone (Scan scan) = AreAllOf scan.seat.claims (scan.seat ∷ [])
 IsAlone (Rows values) = Unit {0}
 IsAlone (Local local) = Unit {0}
 IsAlone (Remote remote) = Unit {0}
+IsAlone (Fetch fetch) = Unit {0}

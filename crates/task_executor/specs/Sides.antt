@@ -10,7 +10,7 @@ use Rattle.plan_trees.specs.TreeTypes.{types_of}
 use Rattle.plan_runs.specs.RunPlans.{RunPlan, tree_of_run, scan, values, remote, filter, project, join, aggregate, aggregate_parts, sort, topn, topn_parts, limit, limit_parts, union}
 use Rattle.plan_runs.specs.Spreads.{Tables}
 use Rattle.plan_nets.specs.Trees.{rows_of_source}
-use Rattle.task_executor.specs.Cells.{Names}
+use Rattle.driver_laws.specs.Cells.{Names}
 use Rattle.task_executor.specs.Pipelines.{Assembled}
 use Rattle.task_executor.specs.Reads.{Reads}
 

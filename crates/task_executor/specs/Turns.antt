@@ -12,7 +12,7 @@ use Rattle.driver_loop.specs.declared.run_fault.RunFault.TheVariants.{ExprFailed
 use Rattle.operator_core.specs.Rows.{Row}
 use Rattle.operator_core.specs.Stages.{AllCameFrom}
 use Rattle.driver_loop.specs.Turns.{note_of_stage, note_of_target}
-use Rattle.task_executor.specs.Cells.{AllLearnedFrom}
+use Rattle.driver_laws.specs.Cells.{AllLearnedFrom}
 use Rattle.task_executor.specs.Reads.{IsAlone}
 
 -- the driver is the other one, after some turns: its parts were made so, and its stages may have learned since

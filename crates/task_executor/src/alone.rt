@@ -5,7 +5,7 @@ ghost use Rattle.plan_reader.specs.Trees.{tree_of};
 ghost use Rattle.plan_trees.specs.Allowed.{Allows};
 ghost use Rattle.operator_core.specs.Rows.{Row};
 ghost use Rattle.driver_loop.specs.Drivers.{DriverState};
-ghost use Rattle.task_executor.specs.Cells.{AreNamed};
+ghost use Rattle.driver_laws.specs.Cells.{AreNamed};
 ghost use Rattle.task_executor.specs.Nets.{FailsFor, IsNetOf};
 ghost use Rattle.task_executor.specs.Turns.{AreAlone, AreFailing, AreFinished, AreLater, AreUnfailed, IsFailing, IsLater};
 
@@ -17,6 +17,7 @@ use crate::shape::Shape;
 use driver_loop::{Driver, RunFault, Stage, Turn};
 use futures::task::{Doorbell, Solo};
 use operator_core::laws;
+use run_ports::ReplayCourier;
 use sql_values::{Memory, RowList};
 use std::alloc::Global;
 use std::marker::PhantomData;
@@ -71,7 +72,7 @@ where
 fn drive<R: Threads + Wait + Sync>(
     rt: &R,
     solo: &Solo,
-    drivers: &mut Vec<Driver<'_>>,
+    drivers: &mut Vec<Driver<'_, ReplayCourier>>,
     bells: &mut RunBells,
     quantum: u32,
     picks: &[u32],
@@ -96,7 +97,7 @@ fn drive<R: Threads + Wait + Sync>(
 fn serve_picked<R: Threads + Wait + Sync>(
     rt: &R,
     solo: &Solo,
-    drivers: &mut Vec<Driver<'_>>,
+    drivers: &mut Vec<Driver<'_, ReplayCourier>>,
     bells: &mut RunBells,
     quantum: u32,
     picks: &[u32],
@@ -113,7 +114,7 @@ fn serve_picked<R: Threads + Wait + Sync>(
     Ok(())
 }
 
-fn are_finished(drivers: &Vec<Driver<'_>>) -> bool
+fn are_finished(drivers: &Vec<Driver<'_, ReplayCourier>>) -> bool
     ensures { result ≡ true → AreFinished drivers.now.items }
 {
     drivers.iter().all(|driver| driver.is_finished())
@@ -123,7 +124,7 @@ fn are_finished(drivers: &Vec<Driver<'_>>) -> bool
 fn serve_all<R: Threads + Wait + Sync>(
     rt: &R,
     solo: &Solo,
-    drivers: &mut Vec<Driver<'_>>,
+    drivers: &mut Vec<Driver<'_, ReplayCourier>>,
     bells: &mut RunBells,
     quantum: u32,
 ) -> Result<(), RunFault>
@@ -141,7 +142,7 @@ fn serve_all<R: Threads + Wait + Sync>(
 fn serve<R: Threads + Wait + Sync>(
     rt: &R,
     solo: &Solo,
-    drivers: &mut Vec<Driver<'_>>,
+    drivers: &mut Vec<Driver<'_, ReplayCourier>>,
     bells: &mut RunBells,
     place: usize,
     quantum: u32,
@@ -161,7 +162,7 @@ fn serve<R: Threads + Wait + Sync>(
 fn give_turn<R: Threads + Wait + Sync>(
     rt: &R,
     solo: &Solo,
-    driver: &mut Driver<'_>,
+    driver: &mut Driver<'_, ReplayCourier>,
     bells: &mut RunBells,
     quantum: u32,
 ) -> Result<(), RunFault>
@@ -181,7 +182,7 @@ fn give_turn<R: Threads + Wait + Sync>(
 }
 
 /// The rows of the root's driver, where all are finished.
-fn finish(alloc: Global, drivers: Vec<Driver<'_>>) -> Result<RowList, Memory>
+fn finish(alloc: Global, drivers: Vec<Driver<'_, ReplayCourier>>) -> Result<RowList, Memory>
     requires some { 0 < length drivers.items }
     requires unfailed { AreUnfailed drivers.items }
     requires finished { AreFinished drivers.items }

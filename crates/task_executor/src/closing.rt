@@ -3,13 +3,14 @@ ghost use Rattle.std.specs.Prelude.{◌≡◌, ◌<◌, ◌++◌, ◌∷◌, [],
 ghost use Rattle.driver_loop.specs.Drivers.{IsWhole};
 ghost use Rattle.driver_loop.specs.Ends.{rows_handed};
 ghost use Rattle.driver_loop.specs.Turns.{note_of_stage, note_of_target};
-ghost use Rattle.task_executor.specs.Cells.{AllLearnedFrom, AreNamed, AreOfCells, LearnedFrom};
+ghost use Rattle.driver_laws.specs.Cells.{AllLearnedFrom, AreNamed, AreOfCells, LearnedFrom};
 ghost use Rattle.task_executor.specs.Closing.{HaveKept, IsOneIf, WereTaken};
 ghost use Rattle.task_executor.specs.Reads.{IsAlone};
 ghost use Rattle.task_executor.specs.Turns.{AreAlone, AreStill, AreWholeDrivers, IsAll, IsStill, IsStopped};
 
 use driver_loop::{CellNote, Driver, Pieces};
 use operator_core::HeldPages;
+use run_ports::ReplayCourier;
 use split_source::{ClaimSeat, stop_claims};
 use sql_values::Memory;
 use std::alloc::Global;
@@ -26,7 +27,10 @@ struct Notes {
 /// Takes the drivers apart, and gives the rows that the first one was given. Each tells which splits it read, and
 /// what it knows of cells: no driver knows a source that its builder does not, or that its builder found there, else
 /// memory counts as wanting.
-pub(crate) fn close(alloc: Global, drivers: Vec<Driver<'_>>) -> Result<HeldPages, Memory>
+pub(crate) fn close(
+    alloc: Global,
+    drivers: Vec<Driver<'_, ReplayCourier>>,
+) -> Result<HeldPages, Memory>
     requires some { 0 < length drivers.items }
     requires whole { AreWholeDrivers drivers.items }
     requires named { AreNamed drivers.items }
@@ -51,7 +55,7 @@ pub(crate) fn close(alloc: Global, drivers: Vec<Driver<'_>>) -> Result<HeldPages
 /// Takes the drivers apart, and gives the rows that each was given for the result.
 fn take_all(
     alloc: Global,
-    drivers: Vec<Driver<'_>>,
+    drivers: Vec<Driver<'_, ReplayCourier>>,
     notes: &mut Notes,
 ) -> Result<Vec<HeldPages>, Memory>
     requires whole { AreWholeDrivers drivers.items }
@@ -66,7 +70,11 @@ fn take_all(
 }
 
 /// Takes a driver apart, and gives the rows that it was given for the result.
-fn take_apart(alloc: Global, driver: Driver<'_>, notes: &mut Notes) -> Result<HeldPages, Memory>
+fn take_apart(
+    alloc: Global,
+    driver: Driver<'_, ReplayCourier>,
+    notes: &mut Notes,
+) -> Result<HeldPages, Memory>
     requires whole { IsWhole driver.fault }
     requires alone { IsAlone driver.source }
     ensures still { IfOk result (λ _. IsStill driver.entry) }

@@ -16,6 +16,7 @@ use crate::source::source_of;
 use crate::wiring::{Wiring, root_of};
 use driver_loop::{Driver, ResultTarget, Target};
 use plan_reader::Plan;
+use run_ports::ReplayCourier;
 use sql_values::{Memory, Table};
 use std::alloc::Global;
 use std::marker::Model;
@@ -24,7 +25,7 @@ use std::marker::Model;
 /// right sides of joins, in the order of a walk that goes to left sides first.
 #[derive(Drop)]
 pub struct Net<'w> {
-    pub(crate) drivers: Vec<Driver<'w>>,
+    pub(crate) drivers: Vec<Driver<'w, ReplayCourier>>,
 }
 
 impl<'w> Model for Net<'w> {

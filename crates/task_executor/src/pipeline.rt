@@ -14,8 +14,9 @@ ghost use Rattle.sql_functions.specs.CallTypes.{type_at};
 ghost use Rattle.plan_trees.specs.TreeForms.{pair_view};
 ghost use Rattle.stage_meanings.specs.Pipelines.{at_node};
 ghost use Rattle.plan_pipelines.specs.Built.{IsBuilt};
-ghost use Rattle.task_executor.specs.Cells.{IsNamed, Names};
-ghost use Rattle.task_executor.specs.Pipelines.{CanFit, Extends, IsMadeFor, IsStageOf, ProbesFor};
+ghost use Rattle.driver_laws.specs.Cells.{IsNamed, Names};
+ghost use Rattle.driver_laws.specs.Stages.{IsStageOf, ProbesFor};
+ghost use Rattle.task_executor.specs.Pipelines.{CanFit, Extends, IsMadeFor};
 ghost use Rattle.task_executor.specs.Sides.{bells_along, sides_in};
 
 use crate::sides::count_sides;

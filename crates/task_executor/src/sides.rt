@@ -8,7 +8,7 @@ ghost use Rattle.plan_runs.specs.RunPlans.{tree_of_run};
 ghost use Rattle.plan_trees.specs.TreeTypes.{types_of};
 ghost use Rattle.tree_evaluator.specs.Fits.{FitsTables, TablesFit};
 ghost use Rattle.tree_evaluator.specs.Stops.{rows_of};
-ghost use Rattle.task_executor.specs.Cells.{IsNamed, Names};
+ghost use Rattle.driver_laws.specs.Cells.{IsNamed, Names};
 ghost use Rattle.task_executor.specs.Nets.{AreNumbered, IsNew};
 ghost use Rattle.task_executor.specs.Sides.{AddedSides, BuildsFor, RunsPipeline, bells_along, sides_in};
 ghost use Rattle.task_executor.specs.Wirings.{AreClaimsFor, AreFew, IsClaimFor, IsShape};
@@ -20,6 +20,7 @@ use crate::source::source_of;
 use driver_loop::{BuildTarget, Driver, Target};
 use hash_join::{LookupBuilder, LookupCell};
 use plan_reader::{Node, Pair};
+use run_ports::ReplayCourier;
 use split_source::Claims;
 use sql_values::{Memory, Table};
 use std::alloc::Global;
@@ -67,7 +68,7 @@ pub(crate) fn add_sides<'w>(
     cells: &'w [LookupCell],
     claims: &'w mut [Claims],
     shape: &Shape,
-    drivers: &mut Vec<Driver<'w>>,
+    drivers: &mut Vec<Driver<'w, ReplayCourier>>,
 ) -> Result<(), Memory>
     requires built { IsBuilt (node_view node.now) }
     requires fits { FitsTables (tree_of_run (run_of (node_view node.now))) (map rows_of tables.now) }
@@ -149,7 +150,7 @@ fn side_driver<'w>(
     claims: &'w mut Claims,
     shape: &Shape,
     number: usize,
-) -> Result<Driver<'w>, Memory>
+) -> Result<Driver<'w, ReplayCourier>, Memory>
     requires built { IsBuilt (node_view right.now) }
     requires fits { FitsTables (tree_of_run (run_of (node_view right.now))) (map rows_of tables.now) }
     requires read { AreRead tables.now (node_view right.now) }

@@ -17,6 +17,7 @@ use crate::wiring::take_seat;
 use driver_loop::{RowsSource, Source};
 use plan_reader::copy_rows;
 use row_ops::ValuesOp;
+use run_ports::ReplayCourier;
 use split_source::{ClaimSeat, Claims, ScanSource};
 use sql_values::{Memory, Places, RowList, SqlType, Table};
 use std::alloc::Global;
@@ -28,7 +29,7 @@ pub(crate) fn source_of<'w>(
     below: Below<'_>,
     shape: &Shape,
     claims: &'w mut Claims,
-) -> Result<Source<'w>, Memory>
+) -> Result<Source<'w, ReplayCourier>, Memory>
     requires there { CanBeRead tables.now (below_view below) }
     requires fits { RowsFit (below_view below) }
     requires readable { TablesFit tables.now }
@@ -45,11 +46,11 @@ pub(crate) fn source_of<'w>(
         Below::Scanned(table, columns) => {
             let seat = take_seat(claims)?;
             let scan = scan_source(alloc, tables, table, columns, shape, seat)?;
-            Ok(Source::Scan(scan))
+            Ok(Source::scan(scan))
         }
         Below::Constant(types, rows) => {
             let rows = rows_source(alloc, types.as_slice(), rows, shape.page)?;
-            Ok(Source::Rows(rows))
+            Ok(Source::rows(rows))
         }
     }
 }

@@ -1,6 +1,6 @@
 use Rattle.std.proofs.Common.{◌≡◌, take}
 use Rattle.std.specs.Prelude.{All}
-use Rattle.task_executor.specs.Cells.{LearnedFrom}
+use Rattle.driver_laws.specs.Cells.{LearnedFrom}
 use Rattle.driver_loop.specs.declared.pieces.CellNote.{CellNote}
 use Rattle.task_executor.proofs.closing.all_follow.Given as goal
 

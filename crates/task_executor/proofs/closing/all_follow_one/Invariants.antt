@@ -1,6 +1,6 @@
 use Rattle.std.proofs.Common.{◌≡◌, take}
 use Rattle.std.specs.Prelude.{All}
-use Rattle.task_executor.specs.Cells.{LearnedFrom}
+use Rattle.driver_laws.specs.Cells.{LearnedFrom}
 use Rattle.task_executor.proofs.closing.all_follow_one.Given as goal
 
 abbrev pub invariant-loop-place : goal.invariant-loop-place

@@ -10,7 +10,7 @@ use Rattle.plan_pipelines.specs.Fragments.{run_of}
 use Rattle.plan_runs.specs.RunPlans.{tree_of_run}
 use Rattle.tree_evaluator.specs.Fits.{FitsTables}
 use Rattle.tree_evaluator.specs.Stops.{rows_of}
-use Rattle.task_executor.specs.Cells.{IsNamed, Names}
+use Rattle.driver_laws.specs.Cells.{IsNamed, Names}
 use Rattle.task_executor.specs.Nets.{IsNew}
 use Rattle.task_executor.specs.Sides.{AddedSides, bells_along, sides_in}
 use Rattle.task_executor.specs.Wirings.{IsClaimFor}

@@ -6,7 +6,7 @@ use Rattle.plan_pipelines.specs.Fragments.{run_of}
 use Rattle.plan_runs.specs.RunPlans.{tree_of_run}
 use Rattle.tree_evaluator.specs.Stops.{rows_of}
 use Rattle.plan_pipelines.specs.Built.{PipelineSource}
-use Rattle.task_executor.specs.Cells.{IsNamed, Names}
+use Rattle.driver_laws.specs.Cells.{IsNamed, Names}
 use Rattle.task_executor.specs.Reads.{Reads, RowsFit, rows_below}
 use Rattle.task_executor.specs.Sides.{bells_along}
 use Rattle.task_executor.specs.Wirings.{below_view}

@@ -11,8 +11,9 @@ use Rattle.plan_runs.specs.Nets as stage
 use Rattle.sql_values.specs.declared.order.KeySpec.{KeySpec}
 use Rattle.stage_meanings.specs.Pipelines.{at_node}
 use Rattle.task_executor.specs.declared.pipeline.Pipeline.{Pipeline}
-use Rattle.task_executor.specs.Cells.{IsNamed, Names}
-use Rattle.task_executor.specs.Pipelines.{CanFit, Extends, IsMadeFor, IsStageOf, ProbesFor}
+use Rattle.driver_laws.specs.Cells.{IsNamed, Names}
+use Rattle.driver_laws.specs.Stages.{IsStageOf, ProbesFor}
+use Rattle.task_executor.specs.Pipelines.{CanFit, Extends, IsMadeFor}
 use Rattle.task_executor.specs.Sides.{bells_along, sides_in}
 use Rattle.task_executor.proofs.PipelineLemmas.{answer_behind, at_first, at_names, fresh_behind, filter_answer, filter_below, for_all, probe_answer, project_answer, project_some, single_answer, sort_below, topn_below, view_aggregate, view_filter, view_join, view_limit, view_project, view_sort, view_topn}
 use Rattle.task_executor.proofs.NetLemmas.{bells_at, bells_level, cell_named, cells_at, front_named, join_along, room_for_join}

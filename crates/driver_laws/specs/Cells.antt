@@ -5,7 +5,7 @@ use Rattle.hash_join.specs.Cells.{CellState}
 use Rattle.driver_loop.specs.Drivers.{DriverState}
 use Rattle.driver_loop.specs.declared.pieces.CellNote.{CellNote}
 use Rattle.driver_loop.specs.declared.stage.Stage.{Stage}
-use Rattle.driver_loop.specs.declared.stage.Stage.TheVariants.{Filter, Limit, Probe, Single, Sort, TopN}
+use Rattle.driver_loop.specs.declared.stage.Stage.TheVariants.{Filter, Final, Limit, Partial, Probe, Single, Sort, TopN}
 use Rattle.driver_loop.specs.declared.target.Target.{Target}
 use Rattle.driver_loop.specs.declared.target.Target.TheVariants.{Build, Deal, Put, Result}
 
@@ -23,6 +23,8 @@ cell_of (Limit op types) = []
 cell_of (Sort op) = []
 cell_of (TopN op) = []
 cell_of (Single op) = []
+cell_of (Partial op) = []
+cell_of (Final op) = []
 cell_of (Probe op types) = (op.bell, op.note.cell) ∷ []
 
 -- and of the one in which a target publishes

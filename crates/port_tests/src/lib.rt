@@ -3,8 +3,11 @@
 //! - `ports`: files, sinks, couriers and meetings of `run_ports`
 //! - `words`: the words of `command_line`, and what they ask for
 //! - `tables`: texts in CSV, read and printed by `csv_tables`
+//! - `demo`: the documents of `demo_documents`
 #![tactic(auto)]
 
+#[cfg(test)]
+mod demo;
 #[cfg(test)]
 mod ports;
 #[cfg(test)]

@@ -2,7 +2,7 @@ use csv_tables::{TableFault, read_table, text_of};
 use sql_values::{Column, Memory, SqlType, Table, Text};
 use std::alloc::Global;
 
-fn push_column(
+pub(crate) fn push_column(
     alloc: Global,
     columns: &mut Vec<Column>,
     name: &str,
@@ -59,7 +59,7 @@ fn print(alloc: Global, table: &Table) -> Result<Vec<u8>, Memory> {
     text_of(alloc, names.as_slice(), types.as_slice(), &table.rows)
 }
 
-fn is_printed(alloc: Global, table: &Table, want: &str) -> Result<bool, TableFault> {
+pub(crate) fn is_printed(alloc: Global, table: &Table, want: &str) -> Result<bool, TableFault> {
     let text = print(alloc, table)?;
     Ok(text.as_slice() == want.as_bytes())
 }

@@ -1,0 +1,1 @@
+use Rattle.demo_documents.proofs.customers.region.Goals as goal

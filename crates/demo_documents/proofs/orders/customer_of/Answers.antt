@@ -1,0 +1,1 @@
+use Rattle.demo_documents.proofs.orders.customer_of.Goals as goal

@@ -1,0 +1,4 @@
+pub mod Lines
+pub mod Orders
+pub mod Customers
+pub mod Plans

@@ -90,6 +90,23 @@ fn runs_end_the_same_on_any_number_of_workers(rt: HostRuntime) -> Result<(), Mem
     Ok(())
 }
 
+/// Whether one of two actors that fail is named, and all three came back.
+fn names_a_fault(text: &str) -> bool {
+    matches!(
+        text,
+        "failed1 0- 1x 2x" | "failed1 0- 1x 2-" | "failed2 0- 1x 2x" | "failed2 0- 1- 2x"
+    )
+}
+
+#[test]
+fn of_two_faults_one_is_named(rt: HostRuntime) -> Result<(), Memory> {
+    for workers in [1, 2, 8] {
+        let text = play(&rt, rt.alloc(), "wait:1 fail:1 fail:1", 1, workers)?;
+        assert!(rt; names_a_fault(text.as_str()));
+    }
+    Ok(())
+}
+
 /// The numbers of the actors in the order of their turns, on one worker.
 fn turns_of<R>(rt: &R, alloc: Global, cast: &str) -> Result<String, Memory>
 where

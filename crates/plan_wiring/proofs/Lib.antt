@@ -1,0 +1,4 @@
+pub mod BellLemmas
+pub mod ShareLemmas
+pub mod UnusedLemmas
+pub mod SeatLemmas

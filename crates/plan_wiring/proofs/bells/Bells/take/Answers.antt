@@ -1,0 +1,1 @@
+use Rattle.plan_wiring.proofs.bells.Bells.take.Goals as goal

@@ -1,0 +1,9 @@
+use Rattle.std.proofs.Common.{◌≡◌, ◌+◌, drop, map}
+use Rattle.plan_layout.specs.Pipes.{pipe_view}
+use Rattle.plan_wiring.specs.Shares.{union_putters}
+use Rattle.plan_wiring.proofs.counts.union_putters.Given as goal
+
+abbrev pub invariant-loop-pipe : goal.invariant-loop-pipe
+invariant-loop-pipe l =
+    union_putters l.at (map pipe_view l.pipes)
+    ≡ l.sum + union_putters l.at (map pipe_view (drop l.pipe-index l.pipes))

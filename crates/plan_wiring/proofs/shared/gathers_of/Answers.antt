@@ -1,0 +1,1 @@
+use Rattle.plan_wiring.proofs.shared.gathers_of.Goals as goal

@@ -1,0 +1,1 @@
+use Rattle.plan_wiring.proofs.shared.new_spread.Goals as goal

@@ -1,0 +1,4 @@
+pub mod Shares
+pub mod Bells
+pub mod Wirings
+pub mod Handed

@@ -2,7 +2,7 @@
 mod cases;
 
 use crate::lines::{Case, case_of, unquoted};
-use cases::{DOCUMENT, LAYOUTS, SCAN, VALUES};
+use cases::{DOCUMENT, LAYOUTS, NUMBERED, SCAN, VALUES};
 use plan_docs::{Output, Plan, read_plan_doc};
 use plan_layout::{Layout, Parallelism, Pipe, PipeSource, PipeStep, PipeTarget};
 use serde_json::Value;
@@ -160,5 +160,45 @@ fn untold(alloc: Global, lines: &'static str) -> Result<&'static str, Fail> {
 #[test]
 fn lays_plans_out(rt: HostRuntime) -> Result<(), Fail> {
     assert_eq!(rt; untold(rt.alloc(), LAYOUTS)?, "");
+    Ok(())
+}
+
+fn push_number(
+    alloc: Global,
+    text: &mut String,
+    pipe: &Pipe<'_>,
+    task: u32,
+    driver: u32,
+) -> Result<(), Fail> {
+    let number = pipe.number(task, driver)?;
+    let one = format!(in alloc; "{number} ")?;
+    Ok(text.push_str(one.as_str())?)
+}
+
+/// The numbers of two drivers in each task.
+fn push_numbers(alloc: Global, text: &mut String, pipe: &Pipe<'_>) -> Result<(), Fail> {
+    for task in 0..pipe.tasks {
+        push_number(alloc, text, pipe, task, 0)?;
+        push_number(alloc, text, pipe, task, 1)?;
+    }
+    Ok(())
+}
+
+/// The numbers of the drivers of the first pipe and of the last.
+fn numbers_text(alloc: Global, plan: &Plan) -> Result<String, Fail> {
+    let layout = Layout::of(alloc, plan, parallelism_of("2 2"))?;
+    let mut text = String::new(alloc);
+    if let (Some(first), Some(last)) = (layout.pipes.first(), layout.pipes.last()) {
+        push_numbers(alloc, &mut text, first)?;
+        push_numbers(alloc, &mut text, last)?;
+    }
+    Ok(text)
+}
+
+#[test]
+fn numbers_drivers_task_by_task(rt: HostRuntime) -> Result<(), Fail> {
+    let plan = plan_of(rt.alloc(), NUMBERED)?;
+    let text = numbers_text(rt.alloc(), &plan)?;
+    assert_eq!(rt; text.as_str(), "0 1 6 7 16 17 18 19 ");
     Ok(())
 }

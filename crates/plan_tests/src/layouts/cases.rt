@@ -52,3 +52,11 @@ f1 3x1 7+8 f3 > cell; f1 3x1 8+8 e4:1+2 > takers4; f1 3x1 9+8 e5:2+2 > takers5; 
 2 2 | {'placement':'SINGLE','root':{'id':1,'op':'remote','fragment':1}},\
 {'placement':'SOURCE','output':{'kind':'SINGLE'},'root':{'id':3,'op':'aggregate','step':'SINGLE','keys':[0],'calls':[],'input':{'id':4,SCAN}} \
 | f0 1x1 0+2 f1 > result; f0 1x1 1+2 e0:0+1 > takers0; f1 2x1 2+1 t0 group3 > one0";
+
+/// Three fragments. In two tasks with two drivers, the first has six drivers in each task: two that probe, two that build
+/// and two that fetch.
+pub const NUMBERED: &str = "\
+{'placement':'HASH','root':{'id':1,'op':'join','kind':'INNER','on':[[0,0]],'left':{'id':2,'op':'remote','fragment':1},\
+'right':{'id':3,'op':'join','kind':'INNER','on':[[0,0]],'left':{'id':4,'op':'remote','fragment':2},'right':{'id':5,SCAN}}},\
+{'placement':'SOURCE','output':{'kind':'HASH','columns':[0]},'root':{'id':6,SCAN},\
+{'placement':'SOURCE','output':{'kind':'HASH','columns':[0]},'root':{'id':7,SCAN}";

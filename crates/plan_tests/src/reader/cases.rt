@@ -181,7 +181,12 @@ pub const ANY: &str = "\
 'fragment':2 | 'fragment':0 | 6 /fragments/1/root/input/fragment\n\
 'fragment':2 | 'fragment':3 | 6 /fragments/1/root/input/fragment\n\
 'fragment':1 | 'fragment':2 | 6 /fragments/1/root/input/fragment\n\
+'fragment':1 | 'fragment':3 | 6 /fragments/0/root/input/fragment\n\
+{'id':2,'op':'remote','fragment':1} | {'id':2,'op':'union','left':{'id':7,'op':'remote','fragment':2},'right':{'id':8,'op':'remote','fragment':1}} \
+| 6 /fragments/1/root/input/fragment\n\
 {'id':4,'op':'remote','fragment':2} | {'id':4,'op':'scan','table':'t','columns':['a']} | 6 /fragments/2\n\
+# A fragment that is not read, after all ids and sources.\n\
+{'id':2,'op':'remote','fragment':1}}},{'id':1, | {'id':2,'op':'scan','table':'t','columns':['a']}}},{'id':4, | 6 /fragments/1/id\n\
 # Code 7: halves, before types.\n\
 'op':'aggregate','step':'FINAL', | 'op':'topn','step':'FINAL', | 7 /fragments/1/root/step\n\
 'step':'PARTIAL','keys':[1] | 'step':'SINGLE','keys':[7] | 7 /fragments/1/root/step\n\

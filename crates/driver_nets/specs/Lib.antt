@@ -1,0 +1,5 @@
+pub mod Types
+pub mod Nets
+pub mod Makes
+pub mod Settled
+pub mod States

@@ -22,24 +22,24 @@ use Rattle.layout_laws.proofs.CoverLemmas.{Holds, in_sum}
 use Rattle.layout_laws.proofs.FetchOnceLemmas.{length_numbered}
 
 -- pipes stand in a layout one behind the other
-stand_left : (layout : List PipeForm) (at : ℕ) (xs ys : List PipeForm) → Stand layout at (xs ++ ys) → Stand layout at xs
+pub stand_left : (layout : List PipeForm) (at : ℕ) (xs ys : List PipeForm) → Stand layout at (xs ++ ys) → Stand layout at xs
 stand_left layout at xs ys stand k lt =
     let more : k < length (xs ++ ys) = omega (arith, lt, length_append xs ys) in
     stand k more ∙ ap (option_map bare) (get_left xs ys k lt)
 
-stand_right : (layout : List PipeForm) (at : ℕ) (xs ys : List PipeForm) (n : ℕ) → at + length xs ≡ n → Stand layout at (xs ++ ys) → Stand layout n ys
+pub stand_right : (layout : List PipeForm) (at : ℕ) (xs ys : List PipeForm) (n : ℕ) → at + length xs ≡ n → Stand layout at (xs ++ ys) → Stand layout n ys
 stand_right layout at xs ys n long stand k lt =
     let place : n + k ≡ at + (length xs + k) = omega (arith, long) in
     let less : length xs + k < length (xs ++ ys) = omega (arith, lt, length_append xs ys) in
     ap (slice_get layout) place ∙ stand (length xs + k) less ∙ ap (option_map bare) (get_right xs ys k)
 
-stand_next : (layout : List PipeForm) (at : ℕ) (x : PipeForm) (xs : List PipeForm) → Stand layout at (x ∷ xs) → Stand layout (at + 1) xs
+pub stand_next : (layout : List PipeForm) (at : ℕ) (x : PipeForm) (xs : List PipeForm) → Stand layout at (x ∷ xs) → Stand layout (at + 1) xs
 stand_next layout at x xs stand k lt =
     let place : at + 1 + k ≡ at + suc k = omega arith in
     let less : suc k < length (x ∷ xs) = omega (arith, lt) in
     ap (slice_get layout) place ∙ stand (suc k) less
 
-stand_first : (layout : List PipeForm) (at : ℕ) (x : PipeForm) (xs : List PipeForm) → Stand layout at (x ∷ xs) → slice_get layout at ≡ Some (bare x)
+pub stand_first : (layout : List PipeForm) (at : ℕ) (x : PipeForm) (xs : List PipeForm) → Stand layout at (x ∷ xs) → slice_get layout at ≡ Some (bare x)
 stand_first layout at x xs stand =
     let place : at ≡ at + 0 = omega arith in
     let some : 0 < length (x ∷ xs) = omega arith in
@@ -146,6 +146,7 @@ module _ (layout : List PipeForm) (s : Site) (Told : ℕ → ℕ → Type 0) whe
           refl,
           (next, record { pipe = one.pipe; is = one.is; part = one.part; tasks = one.tasks; drivers = one.drivers; has = one.has; below = one.below.0 }),
           (at, record { pipe = two.pipe; is = two.is; part = two.part; tasks = two.tasks; drivers = two.drivers; has = two.has; below = two.below.0 }),
+          omega arith,
         ),
         (λ place low high.
             in_sum (λ inside. at_pipe next (side own) left one place inside.0 (omega (arith, inside.1)))

@@ -3,6 +3,7 @@ pub mod NumberLemmas
 pub mod LaneLemmas
 pub mod ReaderLemmas
 pub mod FetchOnceLemmas
+mod GiverLemmas
 pub mod LoneLemmas
 pub mod CoverLemmas
 pub mod RunPipeLemmas
@@ -10,4 +11,5 @@ pub mod BlockLemmas
 pub mod UnderLemmas
 pub mod ReachLemmas
 pub mod PlanPipeLemmas
+mod GivenLemmas
 pub mod ReadLemmas

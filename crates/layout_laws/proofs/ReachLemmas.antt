@@ -35,31 +35,31 @@ abbrev pub IsTold : List PipeForm → List FragmentForm → ℕ → ℕ → Type
 IsTold layout fragments number place = (n : ℕ) × Under fragments number n × IsOwn layout n place
 
 module _ (layout : List PipeForm) (p : Parallelism) (fragments : List FragmentForm) (number : ℕ) (f : FragmentForm) (b : HasBlock p fragments layout number f) where
-  abbrev s : Site
+  abbrev pub s : Site
   s = site_of p fragments number f
 
-  abbrev at : ℕ
+  abbrev pub at : ℕ
   at = length b.done
 
-  abbrev target : TargetForm
+  abbrev pub target : TargetForm
   target = target_of number f.output b.done
 
-  abbrev own : List PipeForm
+  abbrev pub own : List PipeForm
   own = pipes_of s at target f.root
 
-  abbrev fetches : List PipeForm
+  abbrev pub fetches : List PipeForm
   fetches = fetches_of (edge_numbers b.done own) at own
 
-  abbrev block : List PipeForm
+  abbrev pub block : List PipeForm
   block = block_of p fragments number b.done f
 
-  abbrev Told : ℕ → ℕ → Type 0
+  abbrev pub Told : ℕ → ℕ → Type 0
   Told = IsTold layout fragments
 
   all_fetch : Each Fetches fetches
   all_fetch = each_fetch Fetches (λ pipe. Unit {0}) (λ pipe place numbers h. refl) (edge_numbers b.done own) at own (each_by (λ pipe. Unit {0}) own (λ i pipe is. tt))
 
-  abbrev InOwn : ℕ → Type 0
+  abbrev pub InOwn : ℕ → Type 0
   InOwn place = (at ≤ place) × (place < at + (1 + side_count f.root))
 
   among_own : (k place : ℕ) (pipe : PipeForm) → place ≡ at + k → is_fetching pipe.target ≡ false → (k < length own) ⊎ Fetches pipe → InOwn place
@@ -84,11 +84,11 @@ module _ (layout : List PipeForm) (p : Parallelism) (fragments : List FragmentFo
       absurd (omega (arith, part, less))
   in_layout place pipe part stays (inr (k, is, there)) = in_block k place pipe is part stays (in_either block b.more k pipe there)
 
-  in_own : (place : ℕ) → IsOwn layout number place → InOwn place
+  pub in_own : (place : ℕ) → IsOwn layout number place → InOwn place
   in_own place o =
       in_layout place o.pipe o.part o.stays (in_either b.done (block ++ b.more) place o.pipe (subst (λ (l : List PipeForm). slice_get l place ≡ Some o.pipe) b.are o.is))
 
-  stand : Stand (map bare layout) at own
+  pub stand : Stand (map bare layout) at own
   stand = subst (λ (l : List PipeForm). Stand (map bare l) at own) (sym b.are) (stands (driver_numbers b.done (own ++ fetches)) b.done own fetches b.more)
 
   root_laid : PipeAt (map bare layout) s target at (Laid (map bare layout) s Told at (at + 1) f.root)
@@ -104,7 +104,7 @@ module _ (layout : List PipeForm) (p : Parallelism) (fragments : List FragmentFo
       let reads = subst (λ (h : FragmentForm). 0 < reads_of m h.root) same some in
       inr (source_holds (map bare layout) s Told m place (n, rest, o) f.root at l.pipe.source l.pipe.steps reads l.below.0)
 
-  all_later : Each (λ pipe. number ≤ pipe.fragment) (block ++ b.more)
+  pub all_later : Each (λ pipe. number ≤ pipe.fragment) (block ++ b.more)
   all_later =
       each_join (λ pipe. number ≤ pipe.fragment) block b.more (of_block p fragments (λ pipe. number ≤ pipe.fragment) number b.done f (λ pipe h. omega (arith, h)))
       (each_weaker (λ pipe. number < pipe.fragment) (λ pipe. number ≤ pipe.fragment) (λ pipe h. omega (arith, h)) b.more b.later)

@@ -321,6 +321,7 @@ module _ (layout : List PipeForm) (p : Parallelism) (fragments : List FragmentFo
           r.1,
           (i, record { pipe = first_side.pipe; is = first_side.is; tasks = first_side.tasks; has = first_side.has; so = first_side.so.0 }),
           (j, record { pipe = second_side.pipe; is = second_side.is; tasks = second_side.tasks; has = second_side.has; so = second_side.so.0 }),
+          r.4,
         ),
         (λ place h. in_sum (in_sum (λ same. same) (first_side.so.1 place)) (in_sum (λ same. same) (second_side.so.1 place)) h),
       )

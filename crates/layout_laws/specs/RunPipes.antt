@@ -1,6 +1,6 @@
 -- That the pipes of a layout run a plan as it runs: each node of it stands in a pipe, along inputs and left sides with the
 -- nodes below, and where it has to see all rows of its task the pipe has one driver there.
-use Rattle.std.specs.Prelude.{◌≡◌, ℕ, List, [], ◌∷◌, map, slice_get, Some}
+use Rattle.std.specs.Prelude.{◌≡◌, ◌<◌, ℕ, List, [], ◌∷◌, map, slice_get, Some}
 use Rattle.plan_docs.specs.declared.plan.Output.{Output}
 use Rattle.plan_trees.specs.declared.tree.Pair.{Pair}
 use Rattle.plan_trees.specs.TreeForms.{pair_view}
@@ -71,5 +71,6 @@ RunsAs layout n (plan.limit_parts id remote output m count input) own w source s
     × Takes layout own source output m (Into (λ half. limit half count) (RunsAs layout m input))
 RunsAs layout n (plan.union id left right) own w source steps =
     IsAlone w × (source ≡ sides) × (steps ≡ [])
-    × ((i : ℕ) × PipeIn layout n (side own) i (RunsAs layout n left))
-    × ((j : ℕ) × PipeIn layout n (side own) j (RunsAs layout n right))
+    × (first : (i : ℕ) × PipeIn layout n (side own) i (RunsAs layout n left))
+    × (second : (j : ℕ) × PipeIn layout n (side own) j (RunsAs layout n right))
+    × (first.0 < second.0)

@@ -7,6 +7,7 @@ ghost use Rattle.plan_layout.specs.Layouts.{drivers_in, layout_of};
 ghost use Rattle.plan_layout.specs.Pipes as pipes;
 ghost use Rattle.plan_links.specs.Consistent.{IsConsistent};
 ghost use Rattle.plan_spreads.specs.Runs.{plan_run};
+ghost use Rattle.layout_laws.specs.Givers.{GiveToReaders, GiveToUnions};
 ghost use Rattle.layout_laws.specs.Lanes.{AreManned};
 ghost use Rattle.layout_laws.specs.Numbers.{AreNumbered, edges_of, series_of};
 ghost use Rattle.layout_laws.specs.Reached.{AreReached};
@@ -38,6 +39,17 @@ pub fn pipes_have_drivers(plan: &Plan)
 /// reads a fragment.
 pub fn sources_are_fetched_once(plan: &Plan)
     ensures { (p : Parallelism) → AreFetchedOnce (layout_of p (plan_view plan.now)) }
+{}
+
+/// The law that what gives to a union is one of its two sides.
+pub fn unions_have_two_sides(plan: &Plan)
+    ensures { (p : Parallelism) → GiveToUnions (layout_of p (plan_view plan.now)) }
+{}
+
+/// The law that what gives to a pipe that reads a fragment is the one pipe of the fragment's root.
+pub fn readers_have_one_root(plan: &Plan)
+    ensures { IsConsistent (plan_view plan.now) → (p : Parallelism)
+        → GiveToReaders (layout_of p (plan_view plan.now)) }
 {}
 
 /// The law that in a consistent plan each fragment but the first is read by one pipe of the layout, of a fragment

@@ -131,6 +131,7 @@ module _ (layout : List PipeForm) (s : Site) where
           pipe_runs at (side own) right (nodes_run at (at + 1) right)
               (subst (λ (from : ℕ). Stand layout from second) place (stand_right layout next first second (1 + side_count left) long stand)),
         ),
+        omega arith,
       )
 
   pub pipes_run : (at : ℕ) (target : TargetForm) (n : NodeForm) → Stand layout at (pipes_of s at target n)

@@ -1,6 +1,6 @@
 -- What the pipes of a layout run: for each node of a fragment the pipe that it is in, and for each right side and each
 -- side of a union a pipe of its own.
-use Rattle.std.specs.Prelude.{◌≡◌, ◌≤◌, ℕ, List, [], ◌∷◌, ◌++◌, length, map, slice_get, true, Some}
+use Rattle.std.specs.Prelude.{◌≡◌, ◌<◌, ◌≤◌, ℕ, List, [], ◌∷◌, ◌++◌, length, map, slice_get, true, Some}
 use Rattle.plan_docs.specs.Nodes.{NodeForm}
 use Rattle.plan_docs.specs.Nodes as node
 use Rattle.plan_docs.specs.Plans.{FragmentForm}
@@ -61,8 +61,9 @@ Runs layout s own (node.limit_final id input) source steps =
     EndsWith (Runs layout s own input source) (final_over s.fragments id input) steps
 Runs layout s own (node.union id left right) source steps =
     (source ≡ sides) × (steps ≡ [])
-    × ((i : ℕ) × PipeAt layout s (side own) i (Runs layout s i left))
-    × ((j : ℕ) × PipeAt layout s (side own) j (Runs layout s j right))
+    × (first : (i : ℕ) × PipeAt layout s (side own) i (Runs layout s i left))
+    × (second : (j : ℕ) × PipeAt layout s (side own) j (Runs layout s j right))
+    × (first.0 < second.0)
 
 -- the root of a fragment has the first pipe behind those of the fragments before, and gives its rows to its reader
 pub record IsLaid (layout : List PipeForm) (p : Parallelism) (fragments : List FragmentForm) (number : ℕ) (f : FragmentForm) : Type 0 where

@@ -9,7 +9,6 @@ use Rattle.driver_loop.specs.Ends.{IsBegun, IsDrained, claim_of, has_ended}
 use Rattle.driver_loop.specs.Seats.{KeepsEnds, deal_of, gather_take_of, puts_of, spread_take_of}
 use Rattle.driver_loop.specs.Turns.{note_of_stage, note_of_target}
 use Rattle.driver_loop.specs.declared.pieces.CellNote.{CellNote}
-use Rattle.plan_runs.specs.Nets.{of_tasks}
 use Rattle.source_laws.specs.Edges.{GatherCameBack, SpreadCameBack}
 use Rattle.driver_laws.specs.Cells.{AllLearnedFrom}
 use Rattle.plan_layout.specs.Pipes.{PipeForm, SourceForm, TargetForm, driver_number, table, rows, sides, fragment, edge, result, cell, side, readers, takers}
@@ -30,7 +29,7 @@ of_lane of drivers pipe task lane = of_number of drivers (driver_number pipe tas
 
 -- what all drivers of a pipe have in a task, in their order
 abbrev pub in_task : {X : Type 0} → (DriverState → List X) → List DriverState → PipeForm → ℕ → List X
-in_task of drivers pipe task = of_tasks pipe.drivers (of_lane of drivers pipe) task
+in_task of drivers pipe task = gather pipe.drivers (of_lane of drivers pipe task)
 
 -- and in all tasks
 abbrev pub in_pipe : {X : Type 0} → (DriverState → List X) → List DriverState → PipeForm → List X

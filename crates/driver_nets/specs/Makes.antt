@@ -1,6 +1,6 @@
 -- What a layout has to be so that its drivers can be made: expressions have types, calls can be made, and sources can
 -- be read.
-use Rattle.std.specs.Prelude.{◌≡◌, ℕ, ◌+◌, ◌<◌, List, [], ◌∷◌, All, IsTrue, length, map, slice_get, Some}
+use Rattle.std.specs.Prelude.{◌≡◌, ℕ, ◌+◌, ◌<◌, List, [], ◌∷◌, IsTrue, length, slice_get, Some}
 use Rattle.sql_values.specs.declared.table.Table.{Table}
 use Rattle.sql_values.specs.declared.types.SqlType.{SqlType}
 use Rattle.accumulators.specs.Limits.{are_allowed}

@@ -1,5 +1,5 @@
 -- The drivers of a layout: each has the parts of its pipe in its task.
-use Rattle.std.specs.Prelude.{◌≡◌, ℕ, ◌<◌, List, [], ◌∷◌, ◌++◌, length, map, option_map, slice_get, Some, unwrap_or}
+use Rattle.std.specs.Prelude.{◌≡◌, ℕ, ◌<◌, List, [], ◌∷◌, length, map, option_map, slice_get, Some, unwrap_or}
 use Rattle.std.specs.List.{range_with_len}
 use Rattle.sql_values.specs.declared.types.SqlType.{SqlType}
 use Rattle.sql_values.specs.declared.value.Value.{Value}
@@ -20,7 +20,6 @@ use Rattle.driver_loop.specs.declared.stage.Stage.{Stage}
 use Rattle.driver_loop.specs.declared.target.Target.{Target}
 use Rattle.driver_loop.specs.declared.target.Target.TheVariants.{Result, Build, Put, Deal}
 use Rattle.driver_loop.specs.contracts.stage.StageOperator.TheImpl.{ghosts}
-use Rattle.plan_docs.specs.declared.plan.Output.{Output}
 use Rattle.plan_trees.specs.Allowed.{table_rows}
 use Rattle.plan_trees.specs.TreeForms.{pair_view}
 use Rattle.plan_trees.specs.declared.tree.Pair.{Pair}

@@ -1,5 +1,5 @@
 -- What is known of the drivers of a layout once all were taken apart and the seats of what they shared came back.
-use Rattle.std.specs.Prelude.{◌≡◌, ℕ, ◌<◌, ◌+◌, List, [], ◌∷◌, All, ◌==◌, true, Option, Some, None, flat_map, option_map, slice_get, unwrap_or, if◌then◌else◌}
+use Rattle.std.specs.Prelude.{◌≡◌, ℕ, ◌<◌, List, [], ◌∷◌, All, ◌==◌, true, Option, Some, None, flat_map, option_map, slice_get, unwrap_or, if◌then◌else◌}
 use Rattle.bag_laws.specs.Gather.{gather}
 use Rattle.split_source.specs.Gathered.{AreDistinct, AreWhole}
 use Rattle.split_source.specs.Seats.{AreAllOf, SeatState}

@@ -1,5 +1,5 @@
 -- The pipes of a layout as their drivers stand.
-use Rattle.std.specs.Prelude.{◌≡◌, ℕ, List, [], Bool, false, Option, Some, None, option_map, slice_get, unwrap_or}
+use Rattle.std.specs.Prelude.{◌≡◌, ℕ, List, [], false, Some, option_map, slice_get, unwrap_or}
 use Rattle.operator_core.specs.Rows.{Row}
 use Rattle.operator_core.specs.Stages.{last_finished}
 use Rattle.driver_loop.specs.Drivers.{DriverState, IsDriverTo}
@@ -9,7 +9,6 @@ use Rattle.driver_loop.specs.contracts.stage.StageOperator.TheImpl.{ghosts}
 use Rattle.driver_laws.specs.Made.{notes_known}
 use Rattle.pipe_laws.specs.Pipes.{PipeState}
 use Rattle.plan_layout.specs.Pipes.{PipeForm, driver_number}
-use Rattle.driver_nets.specs.Settled.{of_lane}
 
 -- a fact of the driver of a number, or what stands for it where there is none
 abbrev pub fact_of : {X : Type 0} → X → (DriverState → X) → List DriverState → PipeForm → ℕ → ℕ → X

@@ -1,7 +1,7 @@
 -- What gives to a union is one of its two sides, and what gives to a pipe that reads a fragment is the pipe of its root.
 use Rattle.std.proofs.Common.{◌≡◌, ℕ, ◌+◌, ◌<◌, ◌≤◌, suc, zero, List, [], ◌∷◌, ◌++◌, length, map, Bool, true, false, ◌⊎◌, inl, inr, refl, ap, sym, ◌∙◌, subst, arith, Some}
 use Rattle.std.specs.Prelude.{option_map, slice_get, ◌==◌, if◌then◌else◌}
-use Rattle.std.proofs.lemmas.Bool.{cases_order}
+use Rattle.std.proofs.lemmas.Bool.{cases_order, eqb-true}
 use Rattle.plan_docs.specs.declared.plan.Output.{Output}
 use Rattle.plan_docs.specs.Plans.{FragmentForm, PlanForm}
 use Rattle.plan_layout.specs.declared.pipe.Parallelism.{Parallelism}
@@ -18,7 +18,7 @@ use Rattle.layout_laws.specs.Givers.{GiveToReaders, GiveToUnions, HasSource, Has
 use Rattle.layout_laws.specs.Reached.{is_fetching}
 use Rattle.layout_laws.specs.Readers.{IsReader}
 use Rattle.layout_laws.proofs.BlockLemmas.{HasBlock, all_blocks, block_of, stand_first, stand_next}
-use Rattle.layout_laws.proofs.GiverLemmas.{HasUnion, Names, NoReader, few_sides, gives, has_three, is_the_side, no_reader, side_is, sides_name, sides_to, unions}
+use Rattle.layout_laws.proofs.GiverLemmas.{HasUnion, Names, NoReader, NoResult, few_sides, gives, has_three, is_the_side, no_reader, no_result, side_is, sides_name, sides_to, unions}
 use Rattle.layout_laws.proofs.LaneLemmas.{plan_manned}
 use Rattle.layout_laws.proofs.ReachLemmas.{all_later, in_own, stand}
 use Rattle.layout_laws.proofs.ReaderLemmas.{same_reader}
@@ -81,7 +81,7 @@ module _ (p : Parallelism) (plan : PlanForm) where
   abbrev layout : List PipeForm
   layout = layout_of p plan
 
-  block : (n : ℕ) (f : FragmentForm) → slice_get plan.fragments n ≡ Some f → HasBlock p plan.fragments layout n f
+  pub block : (n : ℕ) (f : FragmentForm) → slice_get plan.fragments n ≡ Some f → HasBlock p plan.fragments layout n f
   block n f is =
       let none : 0 + n ≡ n = omega arith in
       subst (λ (i : ℕ). HasBlock p plan.fragments layout i f) none (all_blocks p plan.fragments plan.fragments 0 [] tt n f is)
@@ -214,6 +214,19 @@ module _ (p : Parallelism) (plan : PlanForm) where
             (place_is, ap (λ (q : PipeForm). q.target) same ∙ gives_it)
         by (suc k) item so has gives_it = absurd (each_at NoReader (sides_of s at (at + 1) f.root) k item has (no_reader s at (at + 1) f.root) output x gives_it)
 
+    -- and so it is of the result, which fragment 0 gives
+    result_only : (place : ℕ) (pipe : PipeForm) → slice_get layout place ≡ Some pipe → pipe.fragment ≡ number → pipe.target ≡ result → (place ≡ at) × (target ≡ result)
+    result_only place pipe is part gives_it =
+        let here = own_at place pipe is part (ap is_fetching gives_it) in
+        by here.k here.item here.is here.has (target_same pipe here.item here.same ∙ gives_it)
+      where
+        by : (k : ℕ) (item : PipeForm) → place ≡ at + k → slice_get pipes k ≡ Some item → item.target ≡ result → (place ≡ at) × (target ≡ result)
+        by zero item so has so_is =
+            let same : pipe_of s (at + 1) target f.root ≡ item = cc has in
+            let place_is : place ≡ at = omega (arith, so) in
+            (place_is, ap (λ (q : PipeForm). q.target) same ∙ so_is)
+        by (suc k) item so has so_is = absurd (each_at NoResult (sides_of s at (at + 1) f.root) k item has (no_result s at (at + 1) f.root) so_is)
+
   -- the fragment of a pipe
   record PartOf (pipe : PipeForm) : Type 0 where
     f : FragmentForm
@@ -294,3 +307,16 @@ module _ (p : Parallelism) (plan : PlanForm) where
             let one = root_only g.pipe.fragment m.f m.is i g.pipe output x g.is refl g.gives in
             let two = root_only g.pipe.fragment m.f m.is j h.pipe other x h.is parts h.gives in
             one.0 ∙ sym two.0
+
+  -- the pipe of the result, where fragment 0 is in one task
+  zero_of : (n : ℕ) (form : Output) (y : ℕ) (c : Bool) → n == 0 ≡ c → (if c then result else readers form y) ≡ result → n ≡ 0
+  zero_of n form y true zero_is is = eqb-true n 0 zero_is
+  zero_of n form y false not is = absurd cc
+
+  pub result_at : (place : ℕ) (pipe : PipeForm) → slice_get layout place ≡ Some pipe → pipe.target ≡ result
+      → (pipe.fragment ≡ 0) × ((f : FragmentForm) (there : slice_get plan.fragments 0 ≡ Some f) → place ≡ length (HasBlock.done {p = p} (block 0 f there)))
+  result_at place pipe is gives_it =
+      let m = part_of place pipe is in
+      let root = result_only pipe.fragment m.f m.is place pipe is refl gives_it in
+      let first = zero_of pipe.fragment m.f.output (reader_of pipe.fragment (block pipe.fragment m.f m.is).done) (pipe.fragment == 0) refl root.1 in
+      (first, λ f so. (result_only 0 f so place pipe is first gives_it).0)

@@ -288,3 +288,29 @@ module _ (s : Site) where
       let at = next + 1 + side_count left in
       each_join NoReader (pipes_of s next (side own) left) (pipes_of s at (side own) right) ((λ output k is. cc is), no_reader next (next + 1) left)
       ((λ output k is. cc is), no_reader at (at + 1) right)
+
+-- nor gives one the result
+abbrev pub NoResult : PipeForm → Type 0
+NoResult pipe = pipe.target ≡ result → ⊥
+
+module _ (s : Site) where
+  pub no_result : (own next : ℕ) (n : NodeForm) → Each NoResult (sides_of s own next n)
+  no_result own next (node.scan id place columns types) = tt
+  no_result own next (node.values id types list) = tt
+  no_result own next (node.remote id number) = tt
+  no_result own next (node.filter id predicate input) = no_result own next input
+  no_result own next (node.project id columns input) = no_result own next input
+  no_result own next (node.join id kind on filters left right) =
+      let at = next + side_count left in
+      each_join NoResult (sides_of s own next left) (pipes_of s at (cell on) right) (no_result own next left) ((λ is. cc is), no_result at (at + 1) right)
+  no_result own next (node.aggregate id step keys calls input) = no_result own next input
+  no_result own next (node.aggregate_final id input) = no_result own next input
+  no_result own next (node.sort id keys input) = no_result own next input
+  no_result own next (node.top_n id step count keys input) = no_result own next input
+  no_result own next (node.top_n_final id input) = no_result own next input
+  no_result own next (node.limit id step count input) = no_result own next input
+  no_result own next (node.limit_final id input) = no_result own next input
+  no_result own next (node.union id left right) =
+      let at = next + 1 + side_count left in
+      each_join NoResult (pipes_of s next (side own) left) (pipes_of s at (side own) right) ((λ is. cc is), no_result next (next + 1) left)
+      ((λ is. cc is), no_result at (at + 1) right)

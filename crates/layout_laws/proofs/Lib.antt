@@ -12,4 +12,5 @@ pub mod UnderLemmas
 pub mod ReachLemmas
 pub mod PlanPipeLemmas
 mod GivenLemmas
+mod ResultLemmas
 pub mod ReadLemmas

@@ -7,7 +7,7 @@ ghost use Rattle.plan_layout.specs.Layouts.{drivers_in, layout_of};
 ghost use Rattle.plan_layout.specs.Pipes as pipes;
 ghost use Rattle.plan_links.specs.Consistent.{IsConsistent};
 ghost use Rattle.plan_spreads.specs.Runs.{plan_run};
-ghost use Rattle.layout_laws.specs.Givers.{GiveToReaders, GiveToUnions};
+ghost use Rattle.layout_laws.specs.Givers.{GiveToReaders, GiveToUnions, HasOneResult};
 ghost use Rattle.layout_laws.specs.Lanes.{AreManned};
 ghost use Rattle.layout_laws.specs.Numbers.{AreNumbered, edges_of, series_of};
 ghost use Rattle.layout_laws.specs.Reached.{AreReached};
@@ -50,6 +50,12 @@ pub fn unions_have_two_sides(plan: &Plan)
 pub fn readers_have_one_root(plan: &Plan)
     ensures { IsConsistent (plan_view plan.now) → (p : Parallelism)
         → GiveToReaders (layout_of p (plan_view plan.now)) }
+{}
+
+/// The law that one pipe gives the result, by one driver in one task.
+pub fn results_have_one_driver(plan: &Plan)
+    ensures { IsConsistent (plan_view plan.now) → (p : Parallelism)
+        → HasOneResult (layout_of p (plan_view plan.now)) }
 {}
 
 /// The law that in a consistent plan each fragment but the first is read by one pipe of the layout, of a fragment

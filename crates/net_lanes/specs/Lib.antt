@@ -1,0 +1,4 @@
+pub mod Halves
+pub mod Typed
+pub mod Along
+pub mod Later

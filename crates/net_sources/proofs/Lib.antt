@@ -1,0 +1,10 @@
+pub mod ListLemmas
+pub mod DriverLemmas
+pub mod TableLemmas
+pub mod RowLemmas
+pub mod PutLemmas
+pub mod GiveLemmas
+pub mod UnionLemmas
+pub mod FetchLemmas
+pub mod RemoteLemmas
+pub mod FragmentLemmas

@@ -1,0 +1,23 @@
+use Rattle.std.proofs.Common.{◌∙◌, ap, map, sym}
+use Rattle.plan_layout.specs.Pipes.{pipe_view}
+use Rattle.plan_wiring.specs.Handed.{SeatsForm, seats_view}
+use Rattle.seat_stocks.specs.Stocks.{stock_of}
+use Rattle.net_making.proofs.NetLemmas.{can_make, is_stocked, net_made}
+use Rattle.net_making.proofs.nets.drivers_of.Goals as goal
+
+pub make_all-requires-clause-can : goal.make_all-requires-clause-can
+make_all-requires-clause-can g c =
+    can_make _ (map pipe_view c.args.layout.now.pipes.items) c.in_ok-types.types.items (ap (map pipe_view) (sym c.as_slice-pipes.ensures.value)) c.as_slice-2.ensures.value c.in_ok-types.ensures
+    c.requires.fits c.requires.readable c.requires.few c.requires.split c.requires.page
+
+pub make_all-requires-clause-stocked : goal.make_all-requires-clause-stocked
+make_all-requires-clause-stocked g c =
+    is_stocked _ (map pipe_view c.args.layout.now.pipes.items) c.args.wiring.now.pipes.items c.in_ok-stock.stock (ap (map pipe_view) (sym c.as_slice-pipes.ensures.value)) c.requires.wired.shares
+    (c.in_ok-stock.ensures ∙ ap stock_of c.in_ok-seats.ensures)
+
+pub returns : goal.returns
+returns g c =
+    net_made (λ drivers. drivers.items) c.make_all.result _ (map pipe_view c.args.layout.now.pipes.items) c.args.wiring.now.pipes.items c.in_ok-stock.stock c.args.wiring.now.bells
+    (ap (map pipe_view) (sym c.as_slice-pipes.ensures.value)) c.requires.wired.shares (c.in_ok-stock.ensures ∙ ap stock_of c.in_ok-seats.ensures)
+    (c.in_ok-cells.ensures ∙ ap (λ seats. map (λ (s : SeatsForm). s.cells) (map seats_view seats)) c.as_slice.ensures.value ∙ ap (map (λ (s : SeatsForm). s.cells)) c.in_ok-seats.ensures)
+    c.requires.wired.bells c.make_all.ensures.fresh c.make_all.ensures.are

@@ -1,0 +1,20 @@
+//! The cells of a wiring.
+ghost use Rattle.std.specs.Prelude.{◌≡◌, map, IfOk};
+ghost use Rattle.plan_wiring.specs.Handed.{SeatsForm, seats_view};
+
+use pipe_stages::JoinCells;
+use plan_wiring::Seats;
+use sql_values::Memory;
+use std::alloc::Global;
+
+/// The cells in which the pipes publish.
+pub(crate) fn cells_of<'w>(alloc: Global, seats: &[Seats<'w>]) -> Result<JoinCells<'w>, Memory>
+    ensures { IfOk result
+        (λ cells. cells ≡ map (λ (s : SeatsForm). s.cells) (map seats_view seats.now)) }
+{
+    let mut cells = JoinCells::new(alloc);
+    for own in seats {
+        cells.push(own.cells)?;
+    }
+    Ok(cells)
+}

@@ -1,0 +1,50 @@
+//! A driver of its parts.
+ghost use Rattle.std.specs.Prelude.{◌≡◌, ℕ, Some, slice_get, IfOk, OnOk};
+ghost use Rattle.plan_layout.specs.Pipes.{driver_number, pipe_view};
+ghost use Rattle.driver_nets.specs.Nets.{IsDriverOf};
+ghost use Rattle.seat_stocks.specs.Stocks.{AreLeft};
+ghost use Rattle.net_making.specs.Makings.{CanMake, InNets, IsStocked, layout_in};
+ghost use Rattle.net_making.specs.Slots.{IsNew};
+
+use crate::making::Making;
+use crate::source::source_of;
+use crate::target::target_of;
+use driver_loop::Driver;
+use pipe_stages::stages_of;
+use plan_layout::Pipe;
+use run_ports::Courier;
+use seat_stocks::Stock;
+use sql_values::Memory;
+
+/// A driver of the pipe at the place `own`, in a task, of this number.
+pub(crate) fn driver_of<'w, C: Courier>(
+    making: &Making<'_, 'w>,
+    stock: &mut Stock<'w>,
+    own: usize,
+    pipe: &Pipe<'_>,
+    task: u32,
+    number: u32,
+    courier: &C,
+) -> Result<Driver<'w, C>, Memory>
+    requires can { CanMake making.now }
+    requires stocked { IsStocked making.now stock.old }
+    requires there { slice_get (layout_in making.now) own ≡ Some (pipe_view pipe.now) }
+    ensures left { OnOk result (AreLeft stock.old stock.new) }
+    ensures fresh { IfOk result IsNew }
+    ensures is { IfOk result (λ d. (lane : ℕ) → number ≡ driver_number (pipe_view pipe.now) task lane
+        → InNets making.now stock.old (λ net. IsDriverOf net own (pipe_view pipe.now) task lane d)) }
+{
+    let source = source_of(making, stock, own, task, pipe.source, courier)?;
+    let steps = pipe.steps.as_slice();
+    let stages = stages_of(
+        making.alloc,
+        making.types,
+        making.cells,
+        own,
+        task,
+        steps,
+        making.page,
+    )?;
+    let target = target_of(making, stock, own, task, pipe.target)?;
+    Driver::new(making.alloc, number, source, stages, target)
+}

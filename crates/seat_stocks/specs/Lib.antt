@@ -1,0 +1,4 @@
+pub mod Shelves
+pub mod Stocks
+pub mod Labels
+pub mod Lanes

@@ -1,0 +1,99 @@
+-- The notes of drivers that know each cell by its bell.
+use Rattle.std.proofs.Common.{◌≡◌, ℕ, List, [], ◌∷◌, ◌++◌, map, refl, ap, sym, subst, ◌∙◌}
+use Rattle.std.specs.Prelude.{All, flat_map}
+use Rattle.std.proofs.lemmas.List.{map-append}
+use Rattle.std.proofs.lemmas.List.Elements.{All-append, All-cons, All-head, All-nil, All-tail}
+use Rattle.bag_laws.proofs.TopLemmas.{All-back, All-front}
+use Rattle.driver_loop.specs.Drivers.{DriverState}
+use Rattle.driver_loop.specs.Turns.{note_of_stage, note_of_target}
+use Rattle.driver_loop.specs.declared.pieces.CellNote.{CellNote}
+use Rattle.driver_loop.specs.declared.stage.Stage.{Stage}
+use Rattle.driver_loop.specs.declared.stage.Stage.TheVariants.{Filter, Final, Limit, Partial, Probe, Single, Sort, TopN}
+use Rattle.driver_loop.specs.declared.target.Target.{Target}
+use Rattle.driver_loop.specs.declared.target.Target.TheVariants.{Build, Deal, Put, Result}
+use Rattle.driver_laws.specs.Cells.{AreNamed, AreOfCells, Names, cell_of, cells_of, target_cell}
+use Rattle.driver_nets.specs.Settled.{builds_of, looks_of}
+use Rattle.net_closing.specs.Closing.{HaveKept}
+use Rattle.net_closing.specs.declared.notes.Notes.{Notes}
+
+-- the cells of notes are those of their stages and targets
+abbrev pub cell_noted : CellNote → ℕ × ℕ
+cell_noted n = (n.bell, n.note.cell)
+
+stage_noted : (s : Stage) → map cell_noted (note_of_stage s) ≡ cell_of s
+stage_noted (Filter op) = refl
+stage_noted (Limit op types) = refl
+stage_noted (Sort op) = refl
+stage_noted (TopN op) = refl
+stage_noted (Single op) = refl
+stage_noted (Partial op) = refl
+stage_noted (Final op) = refl
+stage_noted (Probe op types) = refl
+
+stages_noted : (ss : List Stage) → map cell_noted (flat_map note_of_stage ss) ≡ flat_map cell_of ss
+stages_noted [] = refl
+stages_noted (s ∷ ss) = map-append cell_noted (note_of_stage s) (flat_map note_of_stage ss) ∙ (λ i. stage_noted s i ++ stages_noted ss i)
+
+target_noted : (t : Target) → map cell_noted (note_of_target t) ≡ target_cell t
+target_noted (Result result) = refl
+target_noted (Build b) = refl
+target_noted (Put put) = refl
+target_noted (Deal deal) = refl
+
+named_notes : (names : Names) (notes : List CellNote) → All (λ (c : ℕ × ℕ). c.1 ≡ names c.0) (map cell_noted notes) → All (λ (n : CellNote). n.note.cell ≡ names n.bell) notes
+named_notes names [] all = All-nil (λ (n : CellNote). n.note.cell ≡ names n.bell)
+named_notes names (n ∷ notes) all =
+    All-cons (λ (m : CellNote). m.note.cell ≡ names m.bell) n notes (All-head (λ (c : ℕ × ℕ). c.1 ≡ names c.0) (cell_noted n) (map cell_noted notes) all)
+    (named_notes names notes (All-tail (λ (c : ℕ × ℕ). c.1 ≡ names c.0) (cell_noted n) (map cell_noted notes) all))
+
+module _ (names : Names) where
+  abbrev Holds : ℕ × ℕ → Type 0
+  Holds c = c.1 ≡ names c.0
+
+  append_named : (xs ys : List CellNote) → All (λ (n : CellNote). n.note.cell ≡ names n.bell) xs → All (λ (n : CellNote). n.note.cell ≡ names n.bell) ys
+      → All (λ (n : CellNote). n.note.cell ≡ names n.bell) (xs ++ ys)
+  append_named xs ys first second = All-append (λ (n : CellNote). n.note.cell ≡ names n.bell) xs ys first second
+
+  looks_named : (ds : List DriverState) → All Holds (flat_map cells_of ds) → All (λ (n : CellNote). n.note.cell ≡ names n.bell) (looks_of ds)
+  looks_named [] all = All-nil (λ (n : CellNote). n.note.cell ≡ names n.bell)
+  looks_named (d ∷ ds) all =
+      append_named (flat_map note_of_stage d.stages) (looks_of ds)
+      (named_notes names (flat_map note_of_stage d.stages) (subst (All Holds) (sym (stages_noted d.stages))
+      (All-front Holds (flat_map cell_of d.stages) (target_cell d.target) (All-front Holds (cells_of d) (flat_map cells_of ds) all))))
+      (looks_named ds (All-back Holds (cells_of d) (flat_map cells_of ds) all))
+
+  builds_named : (ds : List DriverState) → All Holds (flat_map cells_of ds) → All (λ (n : CellNote). n.note.cell ≡ names n.bell) (builds_of ds)
+  builds_named [] all = All-nil (λ (n : CellNote). n.note.cell ≡ names n.bell)
+  builds_named (d ∷ ds) all =
+      append_named (note_of_target d.target) (builds_of ds)
+      (named_notes names (note_of_target d.target) (subst (All Holds) (sym (target_noted d.target))
+      (All-back Holds (flat_map cell_of d.stages) (target_cell d.target) (All-front Holds (cells_of d) (flat_map cells_of ds) all))))
+      (builds_named ds (All-back Holds (cells_of d) (flat_map cells_of ds) all))
+
+one_of_cells : (names : Names) (look : CellNote) (builds : List CellNote) → look.note.cell ≡ names look.bell → All (λ (n : CellNote). n.note.cell ≡ names n.bell) builds
+    → All (λ (build : CellNote). build.bell ≡ look.bell → build.note.cell ≡ look.note.cell) builds
+one_of_cells names look [] own all = All-nil (λ (build : CellNote). build.bell ≡ look.bell → build.note.cell ≡ look.note.cell)
+one_of_cells names look (b ∷ builds) own all =
+    All-cons (λ (build : CellNote). build.bell ≡ look.bell → build.note.cell ≡ look.note.cell) b builds
+    (λ same. All-head (λ (n : CellNote). n.note.cell ≡ names n.bell) b builds all ∙ ap names same ∙ sym own)
+    (one_of_cells names look builds own (All-tail (λ (n : CellNote). n.note.cell ≡ names n.bell) b builds all))
+
+all_of_cells : (names : Names) (looks builds : List CellNote) → All (λ (n : CellNote). n.note.cell ≡ names n.bell) looks → All (λ (n : CellNote). n.note.cell ≡ names n.bell) builds
+    → AreOfCells looks builds
+all_of_cells names [] builds own all = All-nil (λ (look : CellNote). All (λ (build : CellNote). build.bell ≡ look.bell → build.note.cell ≡ look.note.cell) builds)
+all_of_cells names (l ∷ looks) builds own all =
+    All-cons (λ (look : CellNote). All (λ (build : CellNote). build.bell ≡ look.bell → build.note.cell ≡ look.note.cell) builds) l looks
+    (one_of_cells names l builds (All-head (λ (n : CellNote). n.note.cell ≡ names n.bell) l looks own) all)
+    (all_of_cells names looks builds (All-tail (λ (n : CellNote). n.note.cell ≡ names n.bell) l looks own) all)
+
+-- notes of drivers with the same bell are of one cell
+pub of_cells : (ds : List DriverState) → AreNamed ds → AreOfCells (looks_of ds) (builds_of ds)
+of_cells ds (names, all) = all_of_cells names (looks_of ds) (builds_of ds) (looks_named names ds all) (builds_named names ds all)
+
+-- and so are all notes that were kept
+pub kept_of_cells : (ds : List DriverState) (old new : Notes) → AreNamed ds → old.looks.items ≡ [] → old.builds.items ≡ [] → HaveKept old new (looks_of ds) (builds_of ds)
+    → AreOfCells new.looks.items new.builds.items
+kept_of_cells ds old new named none empty kept =
+    let looks : new.looks.items ≡ looks_of ds = kept.looks ∙ ap (λ (ns : List CellNote). ns ++ looks_of ds) none in
+    let builds : new.builds.items ≡ builds_of ds = kept.builds ∙ ap (λ (ns : List CellNote). ns ++ builds_of ds) empty in
+    subst (λ (ls : List CellNote). AreOfCells ls new.builds.items) (sym looks) (subst (AreOfCells (looks_of ds)) (sym builds) (of_cells ds named))

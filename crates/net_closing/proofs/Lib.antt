@@ -1,0 +1,13 @@
+pub mod HeldLemmas
+pub mod LeftLemmas
+pub mod CollectLemmas
+pub mod PipeLemmas
+pub mod ResultLemmas
+pub mod NoteLemmas
+pub mod TakenLemmas
+pub mod SeatLemmas
+pub mod EdgeLemmas
+pub mod BackLemmas
+pub mod CellLemmas
+pub mod CellNoteLemmas
+pub mod CloseLemmas

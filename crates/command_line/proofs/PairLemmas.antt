@@ -1,10 +1,8 @@
 -- Options and what is written for them, two words at a time.
-use Rattle.std.proofs.Common.{◌≡◌, ℕ, suc, ◌+◌, ◌-◌, ◌<◌, ◌≤◌, List, [], ◌∷◌, length, get_or, drop, take, take_all, Bool, true, false, Option, Some, None, refl, ap, sym, ◌∙◌, arith, drop-cons, length-drop, option_and_then}
+use Rattle.std.proofs.Common.{◌≡◌, ℕ, suc, ◌+◌, ◌-◌, ◌<◌, ◌≤◌, List, [], ◌∷◌, length, get_or, drop, take, take_all, Bool, true, false, Some, None, refl, ap, sym, ◌∙◌, arith, drop-cons, length-drop}
 use Rattle.std.specs.Prelude.{◌&&◌, not}
 use Rattle.std.proofs.lemmas.Bool.{cond-true, cond-false}
-use Rattle.scalar_texts.specs.Numbers.{number_of}
-use Rattle.command_line.specs.declared.options.NumberOption.{NumberOption}
-use Rattle.command_line.specs.Options.{are_options, begins_with_dash, is_given, is_known, most_of, number_in, number_written, option_words, same_text, within, word_of, written_in}
+use Rattle.command_line.specs.Options.{are_options, begins_with_dash, is_given, is_known, option_words, same_text, written_in}
 
 -- the word at a place, and those behind it
 word_at : (words : List (List ℕ)) (i j : ℕ) (word : List ℕ) → j ≡ suc i → i < length words → drop i words ≡ get_or words i word ∷ drop j words
@@ -87,13 +85,6 @@ no_options (word ∷ written ∷ words) h = absurd (omega arith)
 
 pub options_end : (words : List (List ℕ)) (i : ℕ) → length words ≤ i + 1 → are_options (drop i words) ≡ true
 options_end words i h = no_options (drop i words) (few_left words i h)
-
--- the number of an option for which a text is written
-pub number_found : (option : NumberOption) (words : List (List ℕ)) (word text : List ℕ) (most : ℕ) (found : Option ℕ)
-    → word ≡ word_of option → Some text ≡ written_in word words → most ≡ most_of option → found ≡ option_and_then (within most) (number_of text) → found ≡ number_in option words
-number_found option words word text most found is written bound same =
-    same ∙ ap (λ (m : ℕ). option_and_then (within m) (number_of text)) bound
-    ∙ ap (number_written option) (written ∙ ap (λ (w : List ℕ). written_in w words) is)
 
 -- whether an option is given behind a place
 pub given_behind : (words : List (List ℕ)) (i : ℕ) (word lent : List ℕ) (found : Bool) → found ≡ is_given lent (take (length words - i) (drop i words)) → lent ≡ word

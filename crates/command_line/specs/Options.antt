@@ -1,9 +1,11 @@
 -- The options: which words are options with their numbers, and which number each option then has.
-use Rattle.std.specs.Prelude.{ℕ, List, [], ◌∷◌, length, Bool, true, not, ◌&&◌, ◌||◌, ◌==◌, ◌+◌, nat_eq, nat_le, nat_lt, slice_index, Option, Some, None, is_some, option_and_then, if◌then◌else◌, codes}
+use Rattle.std.specs.Prelude.{ℕ, List, [], ◌∷◌, length, Bool, true, not, ◌&&◌, ◌==◌, ◌+◌, ◌-◌, ◌^◌, nat_eq, nat_le, nat_lt, slice_index, Option, Some, None, is_some, option_and_then, if◌then◌else◌, codes}
+use Rattle.std.specs.List.{list_any}
 use Rattle.std.specs.Cmp.Lexicographic.{pointwise}
 use Rattle.scalar_texts.specs.Numbers.{number_of}
 use Rattle.command_line.specs.declared.options.NumberOption.{NumberOption}
 use Rattle.command_line.specs.declared.options.NumberOption.TheVariants as option
+use Rattle.command_line.specs.declared.options as options
 
 abbrev pub same_text : List ℕ → List ℕ → Bool
 same_text = pointwise nat_eq
@@ -15,26 +17,30 @@ dash = 45
 abbrev pub begins_with_dash : List ℕ → Bool
 begins_with_dash word = nat_lt 0 (length word) && slice_index word 0 == dash
 
--- the word of an option
-abbrev pub word_of : NumberOption → List ℕ
-word_of option.Split = codes "--split"
-word_of option.Page = codes "--page"
-word_of option.Quantum = codes "--quantum"
+-- the row of an option in the table of options: its word, the least and the greatest number that it may be given, and
+-- the one that it has where it is not given
+pub record OptionRow : Type 0 where
+  pub word : List ℕ
+  pub least : ℕ
+  pub most : ℕ
+  pub usual : ℕ
 
--- the greatest number that an option may be given; the least is 1
-abbrev pub most_of : NumberOption → ℕ
-most_of option.Split = 1000000
-most_of option.Page = 8192
-most_of option.Quantum = 1000000
+abbrev pub row_of : NumberOption → OptionRow
+row_of option.Split = record { word = codes "--split"; least = 1; most = 1000000; usual = 10000 }
+row_of option.Page = record { word = codes "--page"; least = 1; most = 8192; usual = 1024 }
+row_of option.Quantum = record { word = codes "--quantum"; least = 1; most = 1000000; usual = 100000 }
+row_of option.Tasks = record { word = codes "--tasks"; least = 1; most = 16; usual = 2 }
+row_of option.Drivers = record { word = codes "--drivers"; least = 1; most = 16; usual = 2 }
+row_of option.Replay = record { word = codes "--replay"; least = 0; most = 2 ^ 64 - 1; usual = 0 }
 
--- the number of an option that is not given
-abbrev pub usual_of : NumberOption → ℕ
-usual_of option.Split = 10000
-usual_of option.Page = 1024
-usual_of option.Quantum = 100000
+abbrev pub every_option : List NumberOption
+every_option = option.Split ∷ option.Page ∷ option.Quantum ∷ option.Tasks ∷ option.Drivers ∷ option.Replay ∷ []
+
+abbrev pub is_word_of : List ℕ → NumberOption → Bool
+is_word_of word option = same_text word (row_of option).word
 
 abbrev pub is_known : List ℕ → Bool
-is_known word = same_text word (word_of option.Split) || same_text word (word_of option.Page) || same_text word (word_of option.Quantum)
+is_known word = list_any (is_word_of word) every_option
 
 -- how many words at the front are options and what is written for them: each begins with `-`, and a word follows
 abbrev pub option_words : List (List ℕ) → ℕ
@@ -57,15 +63,19 @@ are_options [] = true
 are_options (word ∷ []) = true
 are_options (word ∷ written ∷ words) = is_known word && not (is_given word words) && are_options words
 
--- a number from 1 to the most
-abbrev pub within : ℕ → ℕ → Option ℕ
-within most number = if nat_le 1 number && nat_le number most then Some number else None
+-- a number within the bounds of an option's row
+abbrev pub within : OptionRow → ℕ → Option ℕ
+within row number = if nat_le row.least number && nat_le number row.most then Some number else None
 
--- the number of an option, by what is written for it: digits alone, within the bounds
-abbrev pub number_written : NumberOption → Option (List ℕ) → Option ℕ
-number_written option None = Some (usual_of option)
-number_written option (Some text) = option_and_then (within (most_of option)) (number_of text)
+-- the number of an option, by what is written for it: digits alone, within its bounds
+abbrev pub number_written : OptionRow → Option (List ℕ) → Option ℕ
+number_written row None = Some row.usual
+number_written row (Some text) = option_and_then (within row) (number_of text)
 
 -- the number that the options give to one of them; None where it is no such number
 abbrev pub number_in : NumberOption → List (List ℕ) → Option ℕ
-number_in option words = number_written option (written_in (word_of option) words)
+number_in option words = number_written (row_of option) (written_in (row_of option).word words)
+
+-- a row that borrows its word
+abbrev pub row : options.OptionRow.OptionRow → OptionRow
+row told = record { word = told.word.now; least = told.least; most = told.most; usual = told.usual }

@@ -1,7 +1,8 @@
 -- The command line: which words are one, and what it asks for.
-use Rattle.std.specs.Prelude.{ℕ, List, length, map, drop, take, Bool, true, not, ◌&&◌, ◌==◌, ◌≤◌, nat_lt, slice_index_or, [], ◌∷◌, Option, None, option_map, option_and_then, unwrap_or, slice_get, if◌then◌else◌, codes}
+use Rattle.std.specs.Prelude.{ℕ, List, length, map, drop, take, Bool, true, not, ◌&&◌, ◌==◌, ◌≤◌, ◌<◌, ◌^◌, nat_lt, slice_index_or, [], ◌∷◌, Option, Some, None, option_map, option_and_then, unwrap_or, slice_get, if◌then◌else◌, codes}
 use Rattle.std.specs.List.{before_first, after_first, list_all, list_any, position_from}
 use Rattle.command_line.specs.Options.{are_options, begins_with_dash, number_in, option_words, same_text}
+use Rattle.command_line.specs.declared.options.NumberOption.{NumberOption}
 use Rattle.command_line.specs.declared.options.NumberOption.TheVariants as option
 use Rattle.command_line.specs.declared.words as words
 
@@ -10,13 +11,17 @@ pub record NamedFile : Type 0 where
   pub name : List ℕ
   pub file : List ℕ
 
--- what a command line asks for: the plan's file, the most rows of a split and of a page, the rows after
--- whose move a driver's turn ends, and the files of tables by their names
+-- what a command line asks for: the plan's file, the most rows of a split and of a page, the rows after whose move a
+-- driver's turn ends, the tasks of a fragment and the drivers of a pipeline that may have several, the number under
+-- which pages are delivered late, and the files of tables by their names
 pub record Job : Type 0 where
   pub plan : List ℕ
   pub split : ℕ
   pub page : ℕ
   pub quantum : ℕ
+  pub tasks : ℕ
+  pub drivers : ℕ
+  pub replay : ℕ
   pub files : List NamedFile
 
 -- the numbers of a job are within their bounds
@@ -27,6 +32,11 @@ pub record HasBounds (job : Job) : Type 0 where
   pub page_is_bounded : job.page ≤ 8192
   pub quantum_has_rows : 1 ≤ job.quantum
   pub quantum_is_bounded : job.quantum ≤ 1000000
+  pub tasks_are_some : 1 ≤ job.tasks
+  pub tasks_are_bounded : job.tasks ≤ 16
+  pub drivers_are_some : 1 ≤ job.drivers
+  pub drivers_are_bounded : job.drivers ≤ 16
+  pub replay_is_bounded : job.replay < 2 ^ 64
 
 -- the byte of `=`
 abbrev pub equals_sign : ℕ
@@ -63,13 +73,30 @@ names_differ (word ∷ words) = not (list_any (names (name_part word)) words) &&
 abbrev pub are_named_files : List (List ℕ) → Bool
 are_named_files words = list_all is_named_file words && names_differ words
 
+-- what follows from the number of an option
+abbrev pub with_number : NumberOption → List (List ℕ) → (ℕ → Option Job) → Option Job
+with_number option options job = option_and_then job (number_in option options)
+
 -- what the options and the files behind a plan's file ask for
 abbrev pub job_with : List ℕ → List (List ℕ) → List (List ℕ) → Option Job
 job_with plan options files =
     if are_options options && are_named_files files
-    then option_and_then (λ split. option_and_then (λ page. option_map (λ quantum.
-    record { plan = plan; split = split; page = page; quantum = quantum; files = map named_file files })
-    (number_in option.Quantum options)) (number_in option.Page options)) (number_in option.Split options)
+    then with_number option.Split options (λ split.
+    with_number option.Page options (λ page.
+    with_number option.Quantum options (λ quantum.
+    with_number option.Tasks options (λ tasks.
+    with_number option.Drivers options (λ drivers.
+    with_number option.Replay options (λ replay.
+    Some (record {
+      plan = plan;
+      split = split;
+      page = page;
+      quantum = quantum;
+      tasks = tasks;
+      drivers = drivers;
+      replay = replay;
+      files = map named_file files;
+    })))))))
     else None
 
 -- the words `--plan FILE`, then options with their numbers, then `NAME=FILE ..`
@@ -93,6 +120,9 @@ asked job = record {
   split = job.split;
   page = job.page;
   quantum = job.quantum;
+  tasks = job.tasks;
+  drivers = job.drivers;
+  replay = job.replay;
   files = map named_file job.files.now;
 }
 

@@ -1,12 +1,12 @@
 //! The options that take a number. They stand in pairs, a word and its number, before the files.
 ghost use Rattle.std.specs.Prelude.{◌≡◌, ◌≤◌, ◌<◌, ◌^◌, length, option_and_then, option_map, IfSome};
 ghost use Rattle.scalar_texts.specs.Numbers.{number_of};
-ghost use Rattle.command_line.specs.Options.{are_options, begins_with_dash, is_given, is_known, most_of, number_in, number_written, option_words, usual_of, within, word_of, written_in};
+ghost use Rattle.command_line.specs.Options.{are_options, begins_with_dash, is_given, is_known, number_in, number_written, option_words, row, row_of, within, written_in};
 
 use scalar_texts::read_number;
 use sql_values::Text;
 
-/// An option whose value is a number of rows.
+/// An option whose value is a number.
 #[derive(Clone, Copy)]
 pub enum NumberOption {
     /// The most rows of a split.
@@ -15,66 +15,93 @@ pub enum NumberOption {
     Page,
     /// The rows after whose move a driver's turn ends.
     Quantum,
+    /// The tasks of a fragment that may have several.
+    Tasks,
+    /// The drivers of a pipeline that may have several, in each task.
+    Drivers,
+    /// The number under which pages are delivered late, again or not at all.
+    Replay,
+}
+
+const EVERY_OPTION: [NumberOption; 6] = [
+    NumberOption::Split,
+    NumberOption::Page,
+    NumberOption::Quantum,
+    NumberOption::Tasks,
+    NumberOption::Drivers,
+    NumberOption::Replay,
+];
+
+/// An option's word, the bounds of its number, and the number that it has where it is not given.
+#[derive(Clone, Copy)]
+struct OptionRow {
+    word: &'static str,
+    least: u64,
+    most: u64,
+    usual: u64,
+}
+
+fn row_with(word: &'static str, least: u64, most: u64, usual: u64) -> OptionRow
+    ensures { row result ≡ record { word = word.now; least = least; most = most; usual = usual } }
+{
+    OptionRow {
+        word,
+        least,
+        most,
+        usual,
+    }
 }
 
 impl NumberOption {
-    fn word(self) -> &'static str
-        ensures { result.now ≡ word_of self }
+    fn row(self) -> OptionRow
+        ensures { row result ≡ row_of self }
     {
         match self {
-            NumberOption::Split => "--split",
-            NumberOption::Page => "--page",
-            NumberOption::Quantum => "--quantum",
-        }
-    }
-
-    fn most(self) -> u32
-        ensures { result ≡ most_of self }
-    {
-        match self {
-            NumberOption::Page => 8192,
-            NumberOption::Split | NumberOption::Quantum => 1_000_000,
-        }
-    }
-
-    fn usual(self) -> u32
-        ensures { result ≡ usual_of self }
-    {
-        match self {
-            NumberOption::Split => 10_000,
-            NumberOption::Page => 1024,
-            NumberOption::Quantum => 100_000,
+            NumberOption::Split => row_with("--split", 1, 1_000_000, 10_000),
+            NumberOption::Page => row_with("--page", 1, 8192, 1024),
+            NumberOption::Quantum => row_with("--quantum", 1, 1_000_000, 100_000),
+            NumberOption::Tasks => row_with("--tasks", 1, 16, 2),
+            NumberOption::Drivers => row_with("--drivers", 1, 16, 2),
+            NumberOption::Replay => row_with("--replay", 0, u64::MAX, 0),
         }
     }
 
     /// The number that the words give to this option, or the usual one; None where it is no number of digits
     /// alone, or out of bounds.
-    pub fn number_in(self, options: &[Text]) -> Option<u32>
+    pub fn number_in(self, options: &[Text]) -> Option<u64>
         ensures number { result ≡ number_in self options.now }
-        ensures bounds { IfSome result (λ n. (1 ≤ n) × (n ≤ most_of self)) }
+        ensures bounds { IfSome result (λ n. ((row_of self).least ≤ n) × (n ≤ (row_of self).most)) }
     {
-        match written_in(self.word(), options) {
-            Some(text) => bounded(self.most(), text),
-            None => Some(self.usual()),
+        let row = self.row();
+        match written_in(row.word, options) {
+            Some(text) => bounded(row, text),
+            None => Some(row.usual),
         }
+    }
+
+    /// The same of an option whose numbers have 32 bits.
+    pub fn short_number_in(self, options: &[Text]) -> Option<u32>
+        requires { (row_of self).most < 2 ^ 32 }
+        ensures number { result ≡ number_in self options.now }
+        ensures bounds { IfSome result (λ n. ((row_of self).least ≤ n) × (n ≤ (row_of self).most)) }
+    {
+        Some(self.number_in(options)? as u32)
     }
 }
 
-/// The number of some digits, where it is from 1 to the most.
-#[tactic(auto, using(crate::proofs::BoundLemmas::bounds))]
-fn bounded(most: u32, text: &str) -> Option<u32>
-    ensures number { result ≡ option_and_then (within most) (number_of text.now) }
-    ensures bounds { IfSome result (λ n. (1 ≤ n) × (n ≤ most)) }
+/// The number of some digits, where it is within the bounds of the row.
+#[tactic(auto, using(crate::proofs::BoundLemmas::bounds, crate::proofs::BoundLemmas::out_of_bounds))]
+fn bounded(of: OptionRow, text: &str) -> Option<u64>
+    ensures number { result ≡ option_and_then (within (row of)) (number_of text.now) }
+    ensures bounds { IfSome result (λ n. (of.least ≤ n) × (n ≤ of.most)) }
 {
-    within(most, read_number(text.as_bytes())?)
+    within(of, read_number(text.as_bytes())?)
 }
 
-fn within(most: u32, number: u64) -> Option<u32>
-    ensures number { result ≡ within most number }
-    ensures bounds { IfSome result (λ n. (1 ≤ n) × (n ≤ most)) }
+fn within(of: OptionRow, number: u64) -> Option<u64>
+    ensures { result ≡ within (row of) number }
 {
-    let number = u32::try_from(number).ok()?;
-    if number < 1 || number > most {
+    if number < of.least || number > of.most {
         return None;
     }
     Some(number)
@@ -120,9 +147,7 @@ fn is_given(option: &str, words: &[Text]) -> bool
 fn is_known(word: &str) -> bool
     ensures { result ≡ is_known word.now }
 {
-    word == NumberOption::Split.word()
-        || word == NumberOption::Page.word()
-        || word == NumberOption::Quantum.word()
+    EVERY_OPTION.iter().any(|option| word == option.row().word)
 }
 
 /// Whether each option is known and stands once.

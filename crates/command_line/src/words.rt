@@ -16,6 +16,12 @@ pub struct Job<'a> {
     pub page: u32,
     /// The rows after whose move a driver's turn ends.
     pub quantum: u32,
+    /// The tasks of a fragment that may have several.
+    pub tasks: u32,
+    /// The drivers of a pipeline that may have several, in each task.
+    pub drivers: u32,
+    /// The number under which pages are delivered late, again or not at all; 0 delivers at once.
+    pub replay: u64,
     pub files: &'a [Text],
 }
 
@@ -49,14 +55,20 @@ fn job_with<'a>(plan: &'a str, options: &[Text], files: &'a [Text]) -> Option<Jo
     if !are_options(options) || !are_named_files(files) {
         return None;
     }
-    let split = NumberOption::Split.number_in(options)?;
-    let page = NumberOption::Page.number_in(options)?;
-    let quantum = NumberOption::Quantum.number_in(options)?;
+    let split = NumberOption::Split.short_number_in(options)?;
+    let page = NumberOption::Page.short_number_in(options)?;
+    let quantum = NumberOption::Quantum.short_number_in(options)?;
+    let tasks = NumberOption::Tasks.short_number_in(options)?;
+    let drivers = NumberOption::Drivers.short_number_in(options)?;
+    let replay = NumberOption::Replay.number_in(options)?;
     Some(Job {
         plan,
         split,
         page,
         quantum,
+        tasks,
+        drivers,
+        replay,
         files,
     })
 }

@@ -3,7 +3,7 @@ use Rattle.std.proofs.Common.{◌≡◌, inl, ℕ, List, Option, Some, None, ref
 use Rattle.std.specs.Option.{option_or}
 use Rattle.plan_checks.specs.declared.fault.PlanFault.{PlanFault}
 use Rattle.plan_checks.specs.declared.fault.PlanFault.TheVariants.{Refused, Memory}
-use Rattle.plan_checks.specs.Documents.{InconsistentFor, NotJsonFor, RefusedFor}
+use Rattle.plan_checks.specs.Documents.{NotJsonFor, RefusedFor}
 
 pub grouped : {A : Type 0} (a b c d : Option A) → option_or (option_or a (option_or b c)) d ≡ option_or a (option_or b (option_or c d))
 grouped (Some x) b c d = refl
@@ -27,9 +27,3 @@ pub ruleset three_first = (told_first, told_later)
 pub not_json : (bytes : List ℕ) (fault : PlanFault) → NotJsonFor bytes fault → RefusedFor bytes fault
 not_json bytes (Refused code path) why = inl why
 not_json bytes Memory why = tt
-
-pub not_any_json : (bytes : List ℕ) (fault : PlanFault) → NotJsonFor bytes fault → InconsistentFor bytes fault
-not_any_json bytes (Refused code path) why = inl why
-not_any_json bytes Memory why = tt
-
-pub ruleset no_json = (not_json, not_any_json)

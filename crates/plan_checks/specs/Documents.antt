@@ -22,8 +22,8 @@ use Rattle.plan_checks.specs.Shapes.{fault_path, is_misshapen}
 abbrev pub at : ℕ → Option Spot → Option (ℕ × Spot)
 at code place = option_map (λ s. (code, s)) place
 
--- the first failing check over the places of a document: code 10 comes before the codes that
--- presuppose that all forms are built
+-- the first failing check over the places of a document: code 10 comes once each place is in its form and has its
+-- name, before what fragments and halves have to do with one another
 abbrev pub first_refused : Data → List Spot → Option (ℕ × Spot)
 first_refused document all =
     option_or (at 2 (find is_misshapen all))
@@ -70,11 +70,6 @@ pub record IsDocument (bytes : List ℕ) (document : Data) : Type 0 where
   pub json : IsJson bytes document
   pub passes : refusal_of document ≡ None
 
--- the same whether or not all of the document is built
-pub record IsAnyDocument (bytes : List ℕ) (document : Data) : Type 0 where
-  pub json : IsJson bytes document
-  pub passes : inconsistency_of document ≡ None
-
 -- code 1: the bytes are no JSON
 pub record IsNotJson (bytes : List ℕ) (code : ℕ) (path : List ℕ) : Type 0 where
   pub is_one : code ≡ 1
@@ -101,14 +96,3 @@ RefusedFor bytes Memory = Unit {0}
 abbrev pub NotJsonFor : List ℕ → PlanFault → Type 0
 NotJsonFor bytes (Refused code path) = IsNotJson bytes code path
 NotJsonFor bytes Memory = Unit {0}
-
--- the bytes are a document, and the first check that fails, whether or not all of it is built, has the code and the path
-pub record IsInconsistent (bytes : List ℕ) (code : ℕ) (path : List ℕ) : Type 0 where
-  pub document : Data
-  pub json : IsJson bytes document
-  pub refused : inconsistency_of document ≡ Some (code, path)
-
--- why bytes are no plan document, whether or not all of one is built
-abbrev pub InconsistentFor : List ℕ → PlanFault → Type 0
-InconsistentFor bytes (Refused code path) = IsNotJson bytes code path ⊎ IsInconsistent bytes code path
-InconsistentFor bytes Memory = Unit {0}

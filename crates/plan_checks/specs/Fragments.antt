@@ -10,7 +10,6 @@ use Rattle.plan_grammar.specs.declared.kind.Kind.{Kind}
 use Rattle.plan_grammar.specs.declared.kind.Kind.TheVariants as kind
 use Rattle.plan_grammar.specs.Json.{entries_under, number_of}
 use Rattle.plan_grammar.specs.Spots.{Spot}
-use Rattle.plan_checks.specs.Built.{is_further}
 use Rattle.plan_checks.specs.Names.{part_index}
 
 abbrev pub is_source_kind : Kind → Bool
@@ -42,6 +41,14 @@ abbrev pub first_mislinked : Data → List Spot → List Spot → Option Spot
 first_mislinked document before [] = None
 first_mislinked document before (s ∷ rest) =
     if is_mislinked document before s then Some s else first_mislinked document (before ++ s ∷ []) rest
+
+-- each fragment but the first
+abbrev pub is_further_kind : Kind → Bool
+is_further_kind kind.Fragment = true
+is_further_kind k = false
+
+abbrev pub is_further : Spot → Bool
+is_further s = is_further_kind s.kind
 
 -- a fragment but the first that no source reads
 abbrev pub is_unread : List Spot → Spot → Bool

@@ -2,9 +2,8 @@ ghost use Rattle.std.specs.Prelude.{◌≡◌, [], map, option_map};
 ghost use Rattle.std.specs.List.{find, list_any};
 ghost use Rattle.serde_json.specs.View.{view};
 ghost use Rattle.plan_grammar.specs.Spots.{spot_of};
-ghost use Rattle.plan_checks.specs.Fragments.{first_mislinked, first_unlinked, fragments_count, is_mislinked, is_unread, reads, reads_amiss};
+ghost use Rattle.plan_checks.specs.Fragments.{first_mislinked, first_unlinked, fragments_count, is_further, is_mislinked, is_unread, reads, reads_amiss};
 
-use crate::built::is_further;
 use crate::names::part_index;
 use plan_grammar::{Kind, Place, entries_under, number_of};
 use plan_places::Key;
@@ -87,6 +86,12 @@ fn first_unread<'p, 'v>(places: &'p [Place<'v>]) -> Option<&'p Place<'v>>
         }
     }
     None
+}
+
+fn is_further(place: &Place<'_>) -> bool
+    ensures { result ≡ is_further (spot_of place.now) }
+{
+    matches!(place.kind, Kind::Fragment)
 }
 
 fn is_unread(all: &[Place<'_>], place: &Place<'_>) -> bool

@@ -6,11 +6,11 @@
 //! - `shapes`: code 2, kinds of JSON, keys and words
 //! - `limits`: code 3
 //! - `names`, `types`: code 4, names that nothing has or that are given twice
-//! - `built`: code 10, what is not built yet
+//! - `built`: code 10, what is not built yet: the dynamic filters of joins
 //! - `fragments`: code 6, which fragment reads which
 //! - `halves`: code 7, the two halves of an operator
 //! - `refusal`, `fault`: the first of all, and as the answer
-//! - `read`: `read_document`, and `read_any_document`, which does not ask whether all is built
+//! - `read`: `read_document`
 #![tactic(auto)]
 
 mod built;
@@ -25,4 +25,4 @@ mod shapes;
 mod types;
 
 pub use fault::PlanFault;
-pub use read::{documents_are_one, read_any_document, read_document};
+pub use read::{documents_are_one, read_document};

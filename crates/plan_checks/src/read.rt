@@ -1,16 +1,16 @@
 ghost use Rattle.std.specs.Prelude.{◌≡◌, ◌≤◌, [], IfOk, MatchResult};
 ghost use Rattle.serde_json.specs.Data.{Data, depth};
 ghost use Rattle.serde_json.specs.View.{view};
-ghost use Rattle.plan_checks.specs.Documents.{InconsistentFor, IsAnyDocument, IsDocument, IsJson, NotJsonFor, RefusedFor};
+ghost use Rattle.plan_checks.specs.Documents.{IsDocument, IsJson, NotJsonFor, RefusedFor};
 
 use crate::fault::PlanFault;
-use crate::refusal::{judge, judge_any};
+use crate::refusal::judge;
 use serde_json::Value;
 use sql_values::Text;
 use std::alloc::Global;
 
 /// The document that the bytes are, where no check fails at any of its places.
-#[tactic(auto, using(crate::proofs::RefusalLemmas::no_json))]
+#[tactic(auto, using(crate::proofs::RefusalLemmas::not_json))]
 pub fn read_document(alloc: Global, bytes: &[u8]) -> Result<Value, PlanFault>
     ensures result { MatchResult result (λ document. IsDocument bytes.now (view document))
         (RefusedFor bytes.now) }
@@ -22,23 +22,6 @@ pub fn read_document(alloc: Global, bytes: &[u8]) -> Result<Value, PlanFault>
     };
     match judge(alloc, &document) {
         Ok(()) => Ok(document),
-        Err(fault) => Err(fault),
-    }
-}
-
-/// The document that the bytes are, where no check fails at any of its places, whether or not all of it is built.
-#[tactic(auto, using(crate::proofs::RefusalLemmas::no_json))]
-pub fn read_any_document(alloc: Global, bytes: &[u8]) -> Result<Value, PlanFault>
-    ensures result { MatchResult result (λ document. IsAnyDocument bytes.now (view document))
-        (InconsistentFor bytes.now) }
-    ensures nests { IfOk result (λ document. depth (view document) ≤ 127) }
-{
-    let read = match parse(alloc, bytes) {
-        Ok(read) => read,
-        Err(fault) => return Err(fault),
-    };
-    match judge_any(alloc, &read) {
-        Ok(()) => Ok(read),
         Err(fault) => Err(fault),
     }
 }

@@ -3,7 +3,7 @@ ghost use Rattle.serde_json.specs.Data.{depth};
 ghost use Rattle.serde_json.specs.View.{view};
 ghost use Rattle.plan_grammar.specs.Spots.{spot_of};
 ghost use Rattle.plan_places.specs.Places.{pointer_text};
-ghost use Rattle.plan_checks.specs.Documents.{RefusedAs, first_inconsistent, first_malformed, first_refused, first_unjoined, inconsistency_of, refusal as refusal_text, refusal_of};
+ghost use Rattle.plan_checks.specs.Documents.{RefusedAs, first_malformed, first_refused, first_unjoined, refusal as refusal_text, refusal_of};
 ghost use Rattle.plan_checks.specs.Shapes.{fault_path};
 
 use crate::built::first_unbuilt;
@@ -39,19 +39,6 @@ pub fn judge(alloc: Global, document: &Value) -> Result<(), PlanFault>
     }
 }
 
-/// The same whether or not all of the document is built.
-pub fn judge_any(alloc: Global, document: &Value) -> Result<(), PlanFault>
-    requires { depth (view document.now) ≤ 127 }
-    ensures { MatchResult result (λ _. inconsistency_of (view document.now) ≡ None)
-        (RefusedAs (inconsistency_of (view document.now))) }
-{
-    let places = places_of(alloc, document)?;
-    match first_inconsistent(document, places.as_slice()) {
-        Some(refusal) => Err(refused(alloc, &refusal)),
-        None => Ok(()),
-    }
-}
-
 #[tactic(auto, using(crate::proofs::RefusalLemmas::three_first))]
 fn first_refused<'p, 'v>(document: &Value, places: &'p [Place<'v>]) -> Option<Refusal<'p, 'v>>
     ensures { option_map (λ r. (r.code, spot_of r.place.now)) result
@@ -60,18 +47,8 @@ fn first_refused<'p, 'v>(document: &Value, places: &'p [Place<'v>]) -> Option<Re
     if let Some(refusal) = first_malformed(document, places) {
         return Some(refusal);
     }
-    if let Some(place) = first_unbuilt(places) {
-        return Some(Refusal { code: 10, place });
-    }
-    first_unjoined(document, places)
-}
-
-fn first_inconsistent<'p, 'v>(document: &Value, places: &'p [Place<'v>]) -> Option<Refusal<'p, 'v>>
-    ensures { option_map (λ r. (r.code, spot_of r.place.now)) result
-        ≡ first_inconsistent (view document.now) (map spot_of places.now) }
-{
-    match first_malformed(document, places) {
-        Some(refusal) => Some(refusal),
+    match first_unbuilt(places) {
+        Some(place) => Some(Refusal { code: 10, place }),
         None => first_unjoined(document, places),
     }
 }

@@ -1,9 +1,8 @@
-pub mod FindLemmas
-pub mod PlaceLemmas
 pub mod NumberLemmas
 pub mod CellLemmas
-pub mod NodeLemmas
-pub mod TreeLemmas
-pub mod PlanLemmas
-pub mod NameLemmas
-pub mod PipeLemmas
+pub mod ScanLemmas
+pub mod TypedLemmas
+pub mod SoundLemmas
+mod RunFitLemmas
+mod ReadLemmas
+pub mod ConsistentLemmas

@@ -1,20 +1,26 @@
-ghost use Rattle.std.specs.Prelude.{map};
+ghost use Rattle.std.specs.Prelude.{ℕ, List, map};
 ghost use Rattle.plan_docs.specs.Plans.{plan_view};
+ghost use Rattle.plan_links.specs.Consistent.{IsConsistent};
 ghost use Rattle.plan_reader.specs.Trees.{tree_of};
+ghost use Rattle.sql_values.specs.declared.table.Table.{Table as TableForm};
+ghost use Rattle.plan_runs.specs.RunPlans.{tree_of_run};
+ghost use Rattle.plan_spreads.specs.Runs.{plan_run};
 ghost use Rattle.tree_evaluator.specs.Fits.{FitsTables, TablesFit};
 ghost use Rattle.tree_evaluator.specs.Stops.{rows_of};
-ghost use Rattle.plan_fits.specs.Tables.{HaveColumns, WasRead};
+ghost use Rattle.plan_fits.specs.Reads.{ReadsTables};
+ghost use Rattle.plan_fits.specs.Tables.{HaveColumns};
 
 use plan_reader::Plan;
-use sql_values::Table;
 
-/// The law that the tree of a plan that was read fits tables of the columns that the plan declares:
-/// scans, constants, filters, projects, joins, aggregates, sorts, top ns and limits, of which plans
-/// are built today.
-#[tactic(auto, using(crate::proofs::PlanLemmas::plan_fits))]
-pub fn tree_of_a_plan_fits(plan: &Plan, tables: &[Table])
-    requires read { WasRead (plan_view plan.now) }
-    requires columns { HaveColumns (plan_view plan.now).tables tables.now }
-    requires fit { TablesFit tables.now }
-    ensures { FitsTables (tree_of (plan_view plan.now)) (map rows_of tables.now) }
+/// The law that the tree of a consistent plan, of any number of fragments and with all nodes, fits tables of the columns
+/// that the plan declares; also as it runs, with any number of tasks, and that the tables which it reads are there, with
+/// their columns.
+pub fn consistent_plans_fit(plan: &Plan)
+    ensures tree { IsConsistent (plan_view plan.now) → (tables : List TableForm)
+        → HaveColumns (plan_view plan.now).tables tables → TablesFit tables
+        → FitsTables (tree_of (plan_view plan.now)) (map rows_of tables) }
+    ensures run { IsConsistent (plan_view plan.now) → (tables : List TableForm)
+        → HaveColumns (plan_view plan.now).tables tables → TablesFit tables → (tasks : ℕ)
+        → FitsTables (tree_of_run (plan_run tasks (plan_view plan.now))) (map rows_of tables)
+        × ReadsTables tables (plan_run tasks (plan_view plan.now)) }
 {}

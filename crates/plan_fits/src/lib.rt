@@ -1,16 +1,14 @@
-//! The laws of a plan that was read, over the tables that are read for it.
+//! The laws of a plan that was read, over the tables that are read for it, in any number of fragments.
 //!
-//! - `laws`: `tree_of_a_plan_fits`: its tree fits the tables: each column that a scan takes has the
+//! - `laws`: `consistent_plans_fit`: its tree fits the tables: each column that a scan takes has the
 //!   type that the plan declares, each constant the type of its column, each expression has a type,
 //!   each aggregate call can be made, and each node has a column. So an evaluator may ask for it, and
-//!   no run refuses a plan that was read.
-//! - `pipelines`: `plans_are_pipelines`: it is one fragment, whose pipelines are built, each over a
-//!   table that there is, or over rows of the plan. So an executor may ask for it, and finds the
-//!   tables with their columns.
+//!   no run refuses a plan that was read. So it is of the plan as it runs, and each table that it
+//!   reads is there, with its columns.
+//!
+//! `specs/Tables.antt` says which plans were read, and which tables have the columns that are declared.
 #![tactic(auto)]
 
 mod laws;
-mod pipelines;
 
-pub use laws::tree_of_a_plan_fits;
-pub use pipelines::plans_are_pipelines;
+pub use laws::consistent_plans_fit;

@@ -17,9 +17,9 @@ use Rattle.plan_checks.specs.Halves.{first_alone, is_alone}
 use Rattle.plan_checks.specs.Limits.{bound_of, exceeds, first_beyond, is_beyond, is_crowded, is_filter, is_node, lacks_work}
 use Rattle.plan_checks.specs.Names.{first_misnamed}
 use Rattle.plan_checks.specs.Shapes.{is_misshapen}
-use Rattle.plan_docs.specs.Documents.{fragment_of, plan_of}
+use Rattle.plan_docs.specs.Documents.{fragment_of, plan_of, table_of}
 use Rattle.plan_docs.specs.Plans.{FragmentForm, PlanForm}
-use Rattle.plan_reader.specs.Judgement.{IsAnyPlan, IsPlan, any_judgement_of, misplaced, plan_refusal, untyped}
+use Rattle.plan_reader.specs.Judgement.{IsPlan, any_judgement_of, misplaced, plan_refusal, untyped}
 use Rattle.plan_reader.specs.Trees.{tree_of}
 use Rattle.plan_runs.specs.Placements.{Placed}
 use Rattle.plan_runs.specs.RunPlans.{tree_of_run}
@@ -37,8 +37,9 @@ use Rattle.plan_spreads.proofs.PlanLemmas.{plan_placed, roots_placed}
 use Rattle.plan_spreads.proofs.ReadingLemmas.{halves_read}
 use Rattle.plan_pipelines.proofs.SourceLemmas.{plan_runs_as}
 use Rattle.plan_links.specs.Consistent.{IsConsistent}
-use Rattle.plan_spreads.proofs.EachLemmas.{Each, each_by, neither, none_passes}
+use Rattle.plan_spreads.proofs.EachLemmas.{Each, each_by, neither, none_passes, nor_second}
 use Rattle.plan_links.proofs.LeafLemmas.{fragments_leaves}
+use Rattle.plan_links.proofs.MissingLemmas.{is_missing, none_missing}
 use Rattle.plan_links.proofs.MeetLemmas.{fragments_meet}
 use Rattle.plan_links.proofs.PlaceLemmas.{Checked}
 use Rattle.plan_links.proofs.ReadLemmas.{document_found, read_some}
@@ -58,14 +59,18 @@ unmapped f None h = refl
 unmapped f (Some x) h = absurd cc
 
 -- the places of a document that passes the checks
-all_checked : (d : Data) (all : List Spot) → find is_misshapen all ≡ None → first_beyond all ≡ None → first_mislinked d [] all ≡ None → first_alone d all ≡ None
+pub all_checked : (d : Data) (all : List Spot) → find is_misshapen all ≡ None → first_beyond all ≡ None → first_misnamed d [] all ≡ None → first_mislinked d [] all ≡ None → first_alone d all ≡ None
     → Each (Checked d all) all
-all_checked d all shaped within linked joined = each_by (Checked d all) all (λ i s is. record {
+all_checked d all shaped within named linked joined = each_by (Checked d all) all (λ i s is. record {
   shaped = none_passes is_misshapen all i s shaped is;
   within =
       let beyond = none_passes (is_beyond (count_by is_node all) (count_by is_filter all)) all i s within is in
       neither (exceeds (bound_of s.kind) s) (is_crowded (count_by is_node all) (count_by is_filter all) s.kind)
       (neither (exceeds (bound_of s.kind) s || is_crowded (count_by is_node all) (count_by is_filter all) s.kind) (lacks_work s) beyond);
+  works =
+      let beyond = none_passes (is_beyond (count_by is_node all) (count_by is_filter all)) all i s within is in
+      nor_second (exceeds (bound_of s.kind) s || is_crowded (count_by is_node all) (count_by is_filter all) s.kind) (lacks_work s) beyond;
+  named = none_passes (is_missing d) all i s (none_missing d [] all named) is;
   ahead = none_back d [] all i s linked is;
   joined = none_passes (is_alone d all) all i s joined is;
   place = i;
@@ -98,11 +103,11 @@ none_fails d all e =
       joined = unmapped (λ (s : Spot). (7, s)) (first_alone d all) (second_option links halves unjoined);
     }
 
-document_checked : (d : Data) → inconsistency_of d ≡ None → Each (Checked d (places_of d)) (places_of d)
+pub document_checked : (d : Data) → inconsistency_of d ≡ None → Each (Checked d (places_of d)) (places_of d)
 document_checked d e =
     let all = places_of d in
     let none = none_fails d all (unmapped refusal (first_inconsistent d all) e) in
-    all_checked d all none.shaped none.within (first_option (first_mislinked d [] all) (find (is_unread all) all) none.linked) none.joined
+    all_checked d all none.shaped none.within none.named (first_option (first_mislinked d [] all) (find (is_unread all) all) none.linked) none.joined
 
 document_meets : (d : Data) → inconsistency_of d ≡ None → HalvesMeet (map (fragment_of d) (entries_under key.Fragments d))
 document_meets d e =
@@ -126,11 +131,15 @@ document_reads d e n some lt =
     let found = document_found n d all checked in
     omega (arith, least, most, found)
 
-fragments_of : (d : Data) → (plan_of d).fragments ≡ map (fragment_of d) (entries_under key.Fragments d)
+pub fragments_of : (d : Data) → (plan_of d).fragments ≡ map (fragment_of d) (entries_under key.Fragments d)
 unfolding plan_of
 fragments_of d = refl
 
-passes_first : (d : Data) → any_judgement_of d ≡ None → inconsistency_of d ≡ None
+pub tables_of : (d : Data) → (plan_of d).tables ≡ map table_of (entries_under key.Tables d)
+unfolding plan_of
+tables_of d = refl
+
+pub passes_first : (d : Data) → any_judgement_of d ≡ None → inconsistency_of d ≡ None
 passes_first d h = first_option (inconsistency_of d) (plan_refusal (plan_of d)) h
 
 pub plan_meets : (plan : PlanForm) → IsConsistent plan → HalvesMeet plan.fragments
@@ -231,6 +240,3 @@ read_consistent plan bytes p =
       passes = neither_one (inconsistency_of d) (plan_refusal (plan_of d)) none (second_option (refusal_of d) (plan_refusal (plan_of d)) p.passes);
       means = p.means;
     }
-
-pub any_consistent : (plan : PlanForm) (bytes : List ℕ) → IsAnyPlan bytes plan → IsConsistent plan
-any_consistent plan bytes p = record { document = p.document; passes = p.passes; means = p.means }

@@ -1,4 +1,4 @@
--- At which place of their objects the steps and the inputs of nodes stand.
+-- At which place of their objects the words, the steps and the inputs of nodes stand.
 use Rattle.std.proofs.Common.{◌≡◌, ℕ, List, Bool, true, false, Some, refl, ap}
 use Rattle.std.specs.Prelude.{slice_get}
 use Rattle.serde_json.specs.Data.{Data}
@@ -10,8 +10,36 @@ use Rattle.plan_grammar.specs.declared.words.OpWord.TheVariants as op
 use Rattle.plan_grammar.specs.declared.words.StepWord.{StepWord}
 use Rattle.plan_grammar.specs.declared.words.StepWord.TheVariants as word
 use Rattle.plan_grammar.specs.Grammar.{aggregate_parts, has_steps, join_parts, limit_parts, parts_of_node, topn_parts}
+use Rattle.plan_grammar.specs.Json.{has_key}
 use Rattle.plan_grammar.specs.Tables.{part}
 use Rattle.plan_grammar.specs.Words.{step_of}
+
+-- each node has its word second
+join_word : (b : Bool) → slice_get (join_parts b) 1 ≡ Some (part key.Op kind.Op)
+join_word true = refl
+join_word false = refl
+
+aggregate_word : (w : StepWord) → slice_get (aggregate_parts w) 1 ≡ Some (part key.Op kind.Op)
+aggregate_word word.Single = refl
+aggregate_word word.Partial = refl
+aggregate_word w = refl
+
+topn_word : (w : StepWord) → slice_get (topn_parts w) 1 ≡ Some (part key.Op kind.Op)
+topn_word word.Single = refl
+topn_word word.Partial = refl
+topn_word w = refl
+
+limit_word : (w : StepWord) → slice_get (limit_parts w) 1 ≡ Some (part key.Op kind.Op)
+limit_word word.Single = refl
+limit_word word.Partial = refl
+limit_word w = refl
+
+pub word_second : (w : OpWord) (d : Data) → slice_get (parts_of_node w d) 1 ≡ Some (part key.Op kind.Op)
+word_second op.Join d = join_word (has_key key.Filters d)
+word_second op.Aggregate d = aggregate_word (step_of d)
+word_second op.TopN d = topn_word (step_of d)
+word_second op.Limit d = limit_word (step_of d)
+word_second w d = refl
 
 -- an operator that has steps has them third
 aggregate_step : (w : StepWord) → slice_get (aggregate_parts w) 2 ≡ Some (part key.Step kind.Step)

@@ -2,6 +2,7 @@ pub mod WalkLemmas
 pub mod CountLemmas
 pub mod SourceLemmas
 pub mod StepLemmas
+pub mod MissingLemmas
 pub mod PlaceLemmas
 pub mod InputLemmas
 pub mod HalfLemmas

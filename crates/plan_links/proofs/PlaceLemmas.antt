@@ -23,22 +23,23 @@ use Rattle.plan_grammar.specs.Words.{op_of}
 use Rattle.plan_checks.specs.declared.shapes.Shape.TheVariants as shape
 use Rattle.plan_checks.specs.Fragments.{fragments_count, reads}
 use Rattle.plan_checks.specs.Halves.{is_alone}
-use Rattle.plan_checks.specs.Limits.{bound_of, exceeds}
+use Rattle.plan_checks.specs.Limits.{bound_of, exceeds, lacks_work}
 use Rattle.plan_checks.specs.Names.{part_index}
 use Rattle.plan_checks.specs.Shapes.{has_keys, has_shape, is_misshapen, shape_of}
 use Rattle.plan_docs.specs.Words.{small, small_under}
 use Rattle.plan_spreads.proofs.EachLemmas.{first_true, neither, nor_second, second_true}
+use Rattle.plan_links.proofs.MissingLemmas.{is_missing}
 use Rattle.plan_links.proofs.SourceLemmas.{reads_back}
 use Rattle.plan_links.proofs.WalkLemmas.{From, place_entry, place_here, place_under}
 
--- the number that a key has, and the text
+-- the number that a key has, the text, and the entries
 pub number_is : (k : Key) (d e : Data) → under k d ≡ Some e → number_under k d ≡ number_of e
 number_is k d e is = ap (λ (o : Option Data). unwrap_or (option_and_then as_u64 (option_and_then as_number o)) 0) is
 
 pub text_is : (k : Key) (d e : Data) → under k d ≡ Some e → text_under k d ≡ text_of e
 text_is k d e is = ap (λ (o : Option Data). unwrap_or (option_and_then as_str o) []) is
 
-entries_are : (k : Key) (d e : Data) → under k d ≡ Some e → entries_under k d ≡ entries_in e
+pub entries_are : (k : Key) (d e : Data) → under k d ≡ Some e → entries_under k d ≡ entries_in e
 entries_are k d e is = ap (λ (o : Option Data). entries (option_and_then as_array o)) is
 
 small_low : (n : ℕ) → n < 2 ^ 31 → small n ≡ n
@@ -48,7 +49,8 @@ pub not_false : (b : Bool) → not b ≡ false → b ≡ true
 not_false true h = refl
 not_false false h = absurd cc
 
-some_is : {A : Type 0} (o : Option A) → is_some o ≡ true → (x : A) × (o ≡ Some x)
+-- what there is
+pub some_is : {A : Type 0} (o : Option A) → is_some o ≡ true → (x : A) × (o ≡ Some x)
 some_is None h = absurd cc
 some_is (Some x) h = (x, refl)
 
@@ -74,10 +76,12 @@ found_at [] i h = absurd (omega (arith, h))
 found_at (x ∷ xs) zero h = (x, refl)
 found_at (x ∷ xs) (suc i) h = found_at xs i (omega (arith, h))
 
--- no check of shapes, limits, sources or halves fails at the place, and it is one of the document's
+-- no check of shapes, limits, names, sources or halves fails at the place, and it is one of the document's
 pub record Checked (document : Data) (all : List Spot) (s : Spot) : Type 0 where
   pub shaped : is_misshapen s ≡ false
   pub within : exceeds (bound_of s.kind) s ≡ false
+  pub works : lacks_work s ≡ false
+  pub named : is_missing document s ≡ false
   pub ahead : reads_back (fragments_count document) s.kind s.path s.value ≡ false
   pub joined : is_alone document all s ≡ false
   pub place : ℕ

@@ -1,7 +1,7 @@
 //! What follows from the definitions.
 ghost use Rattle.std.specs.Prelude.{◌≡◌, ◌<◌, ℕ, List, None, Ok, Some, slice_get};
 ghost use Rattle.plan_docs.specs.Plans.{FragmentForm, plan_view};
-ghost use Rattle.plan_reader.specs.Judgement.{IsAnyPlan, IsPlan};
+ghost use Rattle.plan_reader.specs.Judgement.{IsPlan};
 ghost use Rattle.plan_reader.specs.Trees.{tree_of};
 ghost use Rattle.plan_runs.specs.Placements.{Placed};
 ghost use Rattle.plan_runs.specs.RunPlans.{tree_of_run};
@@ -16,11 +16,9 @@ ghost use Rattle.plan_links.specs.Consistent.{IsConsistent};
 
 use plan_docs::Plan;
 
-/// The law that a plan that was read is consistent, whether or not it was asked that all of it is built.
+/// The law that a plan that was read is consistent.
 pub fn read_plans_are_consistent(plan: &Plan)
-    ensures built { (bytes : List ℕ) → IsPlan bytes (plan_view plan.now)
-        → IsConsistent (plan_view plan.now) }
-    ensures any { (bytes : List ℕ) → IsAnyPlan bytes (plan_view plan.now)
+    ensures { (bytes : List ℕ) → IsPlan bytes (plan_view plan.now)
         → IsConsistent (plan_view plan.now) }
 {}
 

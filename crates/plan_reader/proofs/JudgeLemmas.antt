@@ -7,7 +7,7 @@ use Rattle.plan_checks.specs.declared.fault.PlanFault.TheVariants.{Refused, Memo
 use Rattle.plan_checks.specs.Documents as document
 use Rattle.plan_docs.specs.Documents.{plan_of}
 use Rattle.plan_docs.specs.Plans.{PlanForm}
-use Rattle.plan_reader.specs.Judgement.{InconsistentFor, IsAnyPlan, IsPlan, RefusedFor, plan_refusal}
+use Rattle.plan_reader.specs.Judgement.{IsPlan, RefusedFor, plan_refusal}
 
 first_told : {A : Type 0} (o p : Option A) (x : A) → o ≡ Some x → option_or o p ≡ Some x
 first_told o p x is = ap (λ r. option_or r p) is
@@ -48,36 +48,3 @@ accepted bytes d plan is means passes = record {
 }
 
 pub ruleset judged = (refused_first, refused_later, accepted)
-
--- the same whether or not all of the document is built
-pub inconsistent_first : (bytes : List ℕ) (fault : PlanFault) → document.InconsistentFor bytes fault → InconsistentFor bytes fault
-inconsistent_first bytes (Refused code path) why =
-    elim why [
-      | inl none ↦ inl none
-      | inr refused ↦ inr (record {
-        document = refused.document;
-        json = refused.json;
-        refused = first_told (document.inconsistency_of refused.document) (plan_refusal (plan_of refused.document)) (code, path) refused.refused;
-      })
-    ]
-inconsistent_first bytes Memory why = tt
-
-pub inconsistent_later : (bytes : List ℕ) (d : Data) (plan : PlanForm) (fault : PlanFault) → document.IsAnyDocument bytes d → plan ≡ plan_of d
-    → document.RefusedAs (plan_refusal plan) fault → InconsistentFor bytes fault
-inconsistent_later bytes d plan (Refused code path) is means why =
-    inr (record {
-      document = d;
-      json = is.json;
-      refused = second_told (document.inconsistency_of d) (plan_refusal (plan_of d)) is.passes ∙ (ap plan_refusal (sym means) ∙ why);
-    })
-inconsistent_later bytes d plan Memory is means why = tt
-
-pub accepted_any : (bytes : List ℕ) (d : Data) (plan : PlanForm) → document.IsAnyDocument bytes d → plan ≡ plan_of d → plan_refusal plan ≡ None → IsAnyPlan bytes plan
-accepted_any bytes d plan is means passes = record {
-  document = d;
-  json = is.json;
-  passes = second_told (document.inconsistency_of d) (plan_refusal (plan_of d)) is.passes ∙ (ap plan_refusal (sym means) ∙ passes);
-  means = means;
-}
-
-pub ruleset any_judged = (inconsistent_first, inconsistent_later, accepted_any)

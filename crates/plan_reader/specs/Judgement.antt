@@ -55,21 +55,3 @@ pub record IsRefused (bytes : List ℕ) (code : ℕ) (path : List ℕ) : Type 0 
 abbrev pub RefusedFor : List ℕ → PlanFault → Type 0
 RefusedFor bytes (Refused code path) = IsNotJson bytes code path ⊎ IsRefused bytes code path
 RefusedFor bytes Memory = Unit {0}
-
--- the bytes are a document that no check refuses, whether or not all of it is built, and the plan is what it means
-pub record IsAnyPlan (bytes : List ℕ) (plan : PlanForm) : Type 0 where
-  pub document : Data
-  pub json : IsJson bytes document
-  pub passes : any_judgement_of document ≡ None
-  pub means : plan ≡ plan_of document
-
--- the bytes are a document, and the first check that fails, whether or not all of it is built, has the code and the path
-pub record IsInconsistent (bytes : List ℕ) (code : ℕ) (path : List ℕ) : Type 0 where
-  pub document : Data
-  pub json : IsJson bytes document
-  pub refused : any_judgement_of document ≡ Some (code, path)
-
--- why bytes are no plan, whether or not all of one is built
-abbrev pub InconsistentFor : List ℕ → PlanFault → Type 0
-InconsistentFor bytes (Refused code path) = IsNotJson bytes code path ⊎ IsInconsistent bytes code path
-InconsistentFor bytes Memory = Unit {0}

@@ -5,7 +5,7 @@
 //! is the one that the document means. `specs/Trees.antt` says which tree of operators a plan is.
 //!
 //! - `judge`: the checks of a plan
-//! - `read`: `read_plan`, and `read_any_plan`, which does not ask whether all is built
+//! - `read`: `read_plan`
 //! - `copies`: copies of a plan's parts
 //! - `trees`: the tree of a plan
 #![tactic(auto)]
@@ -22,5 +22,5 @@ pub use plan_docs::{
     Pair, Pairs, Placement, Plan, TableDoc, TableDocs,
 };
 pub use plan_trees::Tree;
-pub use read::{read_any_plan, read_plan};
+pub use read::read_plan;
 pub use trees::tree;

@@ -1,9 +1,9 @@
 ghost use Rattle.std.specs.Prelude.{◌≡◌, MatchResult};
 ghost use Rattle.plan_docs.specs.Plans.{plan_view};
-ghost use Rattle.plan_reader.specs.Judgement.{InconsistentFor, IsAnyPlan, IsPlan, RefusedFor};
+ghost use Rattle.plan_reader.specs.Judgement.{IsPlan, RefusedFor};
 
 use crate::judge::judge;
-use plan_checks::{PlanFault, read_any_document, read_document};
+use plan_checks::{PlanFault, read_document};
 use plan_docs::{Plan, read_plan_doc};
 use std::alloc::Global;
 
@@ -21,23 +21,6 @@ pub fn read_plan(alloc: Global, bytes: &[u8]) -> Result<Plan, PlanFault>
     let plan = read_plan_doc(alloc, &document)?;
     match judge(alloc, &plan) {
         Ok(()) => Ok(plan),
-        Err(fault) => Err(fault),
-    }
-}
-
-/// The same whether or not all of the document is built: plans of several fragments are read so.
-#[tactic(auto, using(crate::proofs::JudgeLemmas::any_judged))]
-pub fn read_any_plan(alloc: Global, bytes: &[u8]) -> Result<Plan, PlanFault>
-    ensures { MatchResult result (λ plan. IsAnyPlan bytes.now (plan_view plan))
-        (InconsistentFor bytes.now) }
-{
-    let document = match read_any_document(alloc, bytes) {
-        Ok(document) => document,
-        Err(fault) => return Err(fault),
-    };
-    let read = read_plan_doc(alloc, &document)?;
-    match judge(alloc, &read) {
-        Ok(()) => Ok(read),
         Err(fault) => Err(fault),
     }
 }

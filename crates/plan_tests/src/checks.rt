@@ -1,8 +1,8 @@
 mod cases;
 
 use crate::lines::{Case, case_of, is_fault, unquoted};
-use cases::{CASES, FILTERED, LINKS, LISTS, MORE, NAMES, ROOTS, SCAN, SMALL, WHOLE};
-use plan_checks::{documents_are_one, read_any_document, read_document};
+use cases::{CASES, DYNAMIC, FILTERED, LINKS, LISTS, MORE, NAMES, ROOTS, SCAN, SMALL, WHOLE};
+use plan_checks::{documents_are_one, read_document};
 use std::alloc::Global;
 use std::test::Fail;
 
@@ -175,7 +175,14 @@ fn limits_names(rt: HostRuntime) -> Result<(), Fail> {
 #[test]
 fn a_name_may_have_128_bytes(rt: HostRuntime) -> Result<(), Fail> {
     let longest = name_of(rt.alloc(), 128)?;
-    assert!(rt; is_told_with(rt.alloc(), "'x'", longest.as_str(), "10 /fragments/1")?);
+    assert!(rt;
+        is_told_with(
+            rt.alloc(),
+            "'x'",
+            longest.as_str(),
+            "10 /fragments/1/root/input/filters"
+        )?
+    );
     Ok(())
 }
 
@@ -322,29 +329,22 @@ fn limits_the_nodes_of_all_fragments(rt: HostRuntime) -> Result<(), Fail> {
     Ok(())
 }
 
-/// Whether the code and the path are told whether or not all forms are built.
-fn is_any_told(alloc: Global, quoted: &str, want: &str) -> Result<bool, Fail> {
-    let document = unquoted(alloc, quoted)?;
-    match read_any_document(alloc, document.as_bytes()) {
-        Ok(_document) => Ok(want == "0"),
-        Err(fault) => is_fault(alloc, &fault, want),
-    }
-}
-
-fn is_any_case(alloc: Global, line: &str) -> Result<bool, Fail> {
+/// Whether the line tells what is told of the document without its dynamic filter.
+fn is_link(alloc: Global, line: &str) -> Result<bool, Fail> {
     match case_of(line) {
         Some(case) => {
-            let document = WHOLE.replace(alloc, case.from, case.to)?;
-            is_any_told(alloc, document.as_str(), case.told)
+            let document = WHOLE.replace(alloc, DYNAMIC, "")?;
+            let document = document.replace(alloc, case.from, case.to)?;
+            is_told(alloc, document.as_str(), case.told)
         }
         None => Ok(line.starts_with('#')),
     }
 }
 
-/// The first line that does not tell what is told whether or not all forms are built.
-fn untold_any(alloc: Global, lines: &'static str) -> Result<&'static str, Fail> {
+/// The first line that does not tell what is told without dynamic filters.
+fn untold_link(alloc: Global, lines: &'static str) -> Result<&'static str, Fail> {
     for line in lines.lines() {
-        if !is_any_case(alloc, line)? {
+        if !is_link(alloc, line)? {
             return Ok(line);
         }
     }
@@ -353,6 +353,6 @@ fn untold_any(alloc: Global, lines: &'static str) -> Result<&'static str, Fail> 
 
 #[test]
 fn joins_fragments_and_halves(rt: HostRuntime) -> Result<(), Fail> {
-    assert_eq!(rt; untold_any(rt.alloc(), LINKS)?, "");
+    assert_eq!(rt; untold_link(rt.alloc(), LINKS)?, "");
     Ok(())
 }

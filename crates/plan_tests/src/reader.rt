@@ -1,9 +1,9 @@
 mod cases;
 
 use crate::lines::{case_of, is_fault, unquoted};
-use cases::{ANY, CASES, GROUPED, P1, P2, P3, ROOTS, SCAN, SMALL, WHOLE};
+use cases::{CASES, GROUPED, P1, P2, P3, ROOTS, SCAN, SEVERAL, SMALL, WHOLE};
 use plan_docs::{Plan, read_plan_doc};
-use plan_reader::{Tree, read_any_plan, read_plan, tree};
+use plan_reader::{Tree, read_plan, tree};
 use serde_json::Value;
 use std::alloc::Global;
 use std::test::Fail;
@@ -78,37 +78,20 @@ fn tells_the_order_of_codes(rt: HostRuntime) -> Result<(), Fail> {
     Ok(())
 }
 
-#[test]
-fn tells_that_fragments_are_not_built(rt: HostRuntime) -> Result<(), Fail> {
-    for plan in [P1, P2, P3] {
-        assert!(rt; is_told(rt.alloc(), plan, "10 /fragments/1")?);
-    }
-    Ok(())
-}
-
-/// Whether the code and the path are told whether or not all forms are built.
-fn is_any_told(alloc: Global, quoted: &str, want: &str) -> Result<bool, Fail> {
-    let document = unquoted(alloc, quoted)?;
-    match read_any_plan(alloc, document.as_bytes()) {
-        Ok(_plan) => Ok(want == "0"),
-        Err(fault) => is_fault(alloc, &fault, want),
-    }
-}
-
-fn is_any_case(alloc: Global, line: &str) -> Result<bool, Fail> {
+fn is_several(alloc: Global, line: &str) -> Result<bool, Fail> {
     match case_of(line) {
         Some(case) => {
             let document = GROUPED.replace(alloc, case.from, case.to)?;
-            is_any_told(alloc, document.as_str(), case.told)
+            is_told(alloc, document.as_str(), case.told)
         }
         None => Ok(line.starts_with('#')),
     }
 }
 
 /// The first line that does not tell what is told of several fragments.
-fn untold_any(alloc: Global, lines: &'static str) -> Result<&'static str, Fail> {
+fn untold_several(alloc: Global, lines: &'static str) -> Result<&'static str, Fail> {
     for line in lines.lines() {
-        if !is_any_case(alloc, line)? {
+        if !is_several(alloc, line)? {
             return Ok(line);
         }
     }
@@ -117,19 +100,19 @@ fn untold_any(alloc: Global, lines: &'static str) -> Result<&'static str, Fail> 
 
 #[test]
 fn refuses_several_fragments_at_the_first_place(rt: HostRuntime) -> Result<(), Fail> {
-    assert_eq!(rt; untold_any(rt.alloc(), ANY)?, "");
+    assert_eq!(rt; untold_several(rt.alloc(), SEVERAL)?, "");
     Ok(())
 }
 
 #[test]
 fn reads_several_fragments(rt: HostRuntime) -> Result<(), Fail> {
     for plan in [P1, P2, P3] {
-        assert!(rt; is_any_told(rt.alloc(), plan, "0")?);
+        assert!(rt; is_told(rt.alloc(), plan, "0")?);
     }
     Ok(())
 }
 
-/// The tree that a document means, whether or not all of its forms are built.
+/// The tree that a document means.
 fn tree_of(alloc: Global, quoted: &str) -> Result<Tree, Fail> {
     let plan = plan_of(alloc, quoted)?;
     Ok(tree(alloc, &plan)?)

@@ -1,5 +1,6 @@
 -- Rows of a values node that fit its types have them.
 use Rattle.std.proofs.Common.{◌≡◌, ℕ, ◌+◌, List, [], ◌∷◌, ◌++◌, get_or, length, length-append, append_assoc, true, false, Option, Some, None, refl, sym, ◌∙◌, ap, subst}
+use Rattle.std.specs.Cmp.Derive.{both_true}
 use Rattle.std.specs.Prelude.{All, ◌&&◌, unwrap_or}
 use Rattle.std.proofs.lemmas.List.Elements.{All-head, All-map, All-tail}
 use Rattle.serde_json.specs.Data.{Data}
@@ -17,7 +18,7 @@ use Rattle.plan_docs.specs.Cells.{cell_by, cell_of, cells_from, misfit, row_of, 
 use Rattle.plan_docs.specs.Parts.{kinds_of}
 use Rattle.plan_docs.specs.Words.{type_of}
 use Rattle.page_judges.specs.Typed.{AllFit}
-use Rattle.plan_fits.proofs.FindLemmas.{both_true, first_true, second_true}
+use Rattle.plan_spreads.proofs.EachLemmas.{first_true, second_true}
 use Rattle.text_type_laws.proofs.TextLemmas.{parsed_has_type}
 use Rattle.tree_type_laws.specs.TypedTrees.{HaveTypes}
 use Rattle.plan_type_laws.proofs.FormLemmas.{named_type}
@@ -64,7 +65,7 @@ cells_typed before (kind ∷ kinds) (d ∷ ds) are f =
     (cells_typed (before ++ kind ∷ []) kinds ds (All-tail IsType kind kinds are)
     (subst (λ (vs : List Value). fits_row kinds vs ≡ true) (sym same) (second_true (fits kind v) (fits_row kinds rest) fit))) in
     subst (λ (k : SqlType). has_type kind (cell_of k d) && row_has_types kinds rest ≡ true) (sym here)
-    (both_true (has_type kind v) (row_has_types kinds rest) first others)
+    (both_true first others)
 
 -- each type of a list of types is a type
 kinds_are_types : (ds : List Data) → All IsType (kinds_of ds)

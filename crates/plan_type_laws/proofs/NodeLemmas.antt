@@ -1,7 +1,9 @@
--- The tree of a node of a document over tables whose rows have the types of the declared columns.
-use Rattle.std.proofs.Common.{ℕ, zero, suc, List, map, Option, Some, None, refl}
+-- The trees of the fragments of a document over tables whose rows have the types of the declared columns.
+use Rattle.std.proofs.Common.{ℕ, zero, suc, List, [], ◌∷◌, map, Option, Some, None, refl}
+use Rattle.std.specs.Prelude.{slice_get}
 use Rattle.serde_json.specs.Data.{Data}
 use Rattle.sql_values.specs.declared.table.Table.{Table}
+use Rattle.sql_values.specs.declared.value.Value.{Value}
 use Rattle.plan_places.specs.declared.key.Key.TheVariants as key
 use Rattle.plan_grammar.specs.declared.words.OpWord.{OpWord}
 use Rattle.plan_grammar.specs.declared.words.OpWord.TheVariants as op
@@ -10,15 +12,18 @@ use Rattle.plan_grammar.specs.declared.words.StepWord.TheVariants as word
 use Rattle.plan_grammar.specs.Json.{entries_under, under}
 use Rattle.plan_grammar.specs.Words.{op_of, step_of}
 use Rattle.plan_docs.specs.declared.plan.TableDoc.{TableDoc}
+use Rattle.plan_docs.specs.Documents.{fragment_of}
 use Rattle.plan_docs.specs.Nodes.{NodeForm, scan, values, remote, filter, project, join, aggregate, aggregate_final, sort, top_n, top_n_final, limit, limit_final, union}
-use Rattle.plan_docs.specs.ReadNodes.{aggregate_of, inner_node, limit_of, node_at, node_by, top_n_of}
-use Rattle.plan_reader.specs.Trees.{node_tree}
+use Rattle.plan_docs.specs.ReadNodes.{aggregate_of, inner_node, limit_of, node_at, node_by, node_form, top_n_of}
+use Rattle.plan_docs.specs.Plans.{FragmentForm}
+use Rattle.plan_reader.specs.Trees.{fragment_tree, node_tree, root_tree, whole, whole_over}
 use Rattle.plan_trees.specs.TreeForms.{TreeForm}
+use Rattle.plan_trees.specs.TreeForms as tree
 use Rattle.page_judges.specs.Typed.{AllFit}
 use Rattle.tree_evaluator.specs.Fits.{FitsTables}
 use Rattle.tree_evaluator.specs.Stops.{rows_of}
 use Rattle.plan_fits.specs.Tables.{HaveColumns}
-use Rattle.plan_fits.proofs.NodeLemmas.{IsSound}
+use Rattle.plan_fits.proofs.SoundLemmas.{AllWellMade, IsWellMade}
 use Rattle.type_laws.specs.Keeps.{CastsToTypes}
 use Rattle.tree_type_laws.specs.TypedTrees.{EachCastsToTypes, HaveTypes, TypedTables}
 use Rattle.plan_type_laws.specs.Tables.{TablesTyped}
@@ -42,6 +47,10 @@ NamesTypes (top_n_final id input) = NamesTypes input
 NamesTypes (limit id half count input) = NamesTypes input
 NamesTypes (limit_final id input) = NamesTypes input
 NamesTypes (union id left right) = NamesTypes left × NamesTypes right
+
+abbrev pub AllNameTypes : List FragmentForm → Type 0
+AllNameTypes [] = Unit {0}
+AllNameTypes (f ∷ fs) = NamesTypes f.root × AllNameTypes fs
 
 inner_names : (inner : Data → NodeForm) → ((d : Data) → NamesTypes (inner d)) → (o : Option Data) → NamesTypes (inner_node inner o)
 inner_names inner each None = λ fit. refl
@@ -79,25 +88,59 @@ by_word inner each document d op.Limit = limit_names (step_of d) d (inner_node i
 by_word inner each document d op.Union = (inner_names inner each (under key.Left d), inner_names inner each (under key.Right d))
 by_word inner each document d op.Unknown = λ fit. refl
 
-pub node_names : (n : ℕ) (document d : Data) → NamesTypes (node_at n document d)
+node_names : (n : ℕ) (document d : Data) → NamesTypes (node_at n document d)
 unfolding node_at
 node_names zero document d = λ fit. refl
 node_names (suc n) document d = by_word (node_at n document) (node_names n document) document d (op_of d)
 
-pub node_typed : (docs : List TableDoc) (tables : List Table) → HaveColumns docs tables → TablesTyped tables → (reads : ℕ → TreeForm) (form : NodeForm)
-    → IsSound docs form → NamesTypes form → FitsTables (node_tree reads form) (map rows_of tables) → TypedTables (node_tree reads form) (map rows_of tables)
-node_typed docs tables own typed reads (scan id table columns types) sound names fit = scan_typed docs tables table columns types own typed sound.1 sound.2
-node_typed docs tables own typed reads (values id types rows) sound names fit = names fit.1
-node_typed docs tables own typed reads (remote id fragment) sound names fit = absurd sound
-node_typed docs tables own typed reads (filter id predicate input) sound names fit = (names.0, node_typed docs tables own typed reads input sound names.1 fit.1)
-node_typed docs tables own typed reads (project id columns input) sound names fit = (names.0, node_typed docs tables own typed reads input sound.1 names.1 fit.2)
-node_typed docs tables own typed reads (join id kind on filters left right) sound names fit =
-    (node_typed docs tables own typed reads left sound.1 names.0 fit.0, node_typed docs tables own typed reads right sound.2 names.1 fit.1)
-node_typed docs tables own typed reads (aggregate id half keys calls input) sound names fit = node_typed docs tables own typed reads input sound.2 names fit.2
-node_typed docs tables own typed reads (aggregate_final id input) sound names fit = absurd sound
-node_typed docs tables own typed reads (sort id keys input) sound names fit = node_typed docs tables own typed reads input sound names fit
-node_typed docs tables own typed reads (top_n id half count keys input) sound names fit = node_typed docs tables own typed reads input sound.1 names fit
-node_typed docs tables own typed reads (top_n_final id input) sound names fit = absurd sound
-node_typed docs tables own typed reads (limit id half count input) sound names fit = node_typed docs tables own typed reads input sound.1 names fit
-node_typed docs tables own typed reads (limit_final id input) sound names fit = absurd sound
-node_typed docs tables own typed reads (union id left right) sound names fit = absurd sound
+pub fragments_name : (document : Data) (gs : List Data) → AllNameTypes (map (fragment_of document) gs)
+unfolding node_form
+fragments_name document [] = tt
+fragments_name document (g ∷ gs) = (inner_names (node_form document) (node_names 32 document) (under key.Root g), fragments_name document gs)
+
+-- a tree that fits the tables is typed over them
+abbrev pub IsKept : List (List (List Value)) → TreeForm → Type 0
+IsKept views t = FitsTables t views → TypedTables t views
+
+over_kept : (views : List (List (List Value))) (id source : ℕ) (t : TreeForm) → IsKept views t → IsKept views (whole_over id source t)
+over_kept views id source (tree.aggregate half keys calls input) h = h
+over_kept views id source (tree.topn half count keys input) h = h
+over_kept views id source (tree.limit half count input) h = h
+over_kept views id source t h = h
+
+whole_kept : (views : List (List (List Value))) (id : ℕ) (t : TreeForm) → IsKept views t → IsKept views (whole id t)
+whole_kept views id (tree.remote source input) h = over_kept views id source input h
+whole_kept views id t h = h
+
+module _ (docs : List TableDoc) (tables : List Table) (own : HaveColumns docs tables) (typed : TablesTyped tables) where
+  abbrev views : List (List (List Value))
+  views = map rows_of tables
+
+  node_kept : (reads : ℕ → TreeForm) → ((k : ℕ) → IsKept views (reads k)) → (form : NodeForm) → IsWellMade docs form → NamesTypes form → IsKept views (node_tree reads form)
+  node_kept reads known (scan id table columns types) made names = λ fit. scan_typed docs tables table columns types own typed made.1 made.2
+  node_kept reads known (values id types rows) made names = λ fit. names fit.1
+  node_kept reads known (remote id fragment) made names = known fragment
+  node_kept reads known (filter id predicate input) made names = λ fit. (names.0, node_kept reads known input made names.1 fit.1)
+  node_kept reads known (project id columns input) made names = λ fit. (names.0, node_kept reads known input made.1 names.1 fit.2)
+  node_kept reads known (join id kind on filters left right) made names =
+      λ fit. (node_kept reads known left made.0 names.0 fit.0, node_kept reads known right made.1 names.1 fit.1)
+  node_kept reads known (aggregate id half keys calls input) made names = λ fit. node_kept reads known input made.1 names fit.2
+  node_kept reads known (aggregate_final id input) made names = whole_kept views id (node_tree reads input) (node_kept reads known input made names)
+  node_kept reads known (sort id keys input) made names = node_kept reads known input made names
+  node_kept reads known (top_n id half count keys input) made names = node_kept reads known input made names
+  node_kept reads known (top_n_final id input) made names = whole_kept views id (node_tree reads input) (node_kept reads known input made names)
+  node_kept reads known (limit id half count input) made names = node_kept reads known input made names
+  node_kept reads known (limit_final id input) made names = whole_kept views id (node_tree reads input) (node_kept reads known input made names)
+  node_kept reads known (union id left right) made names =
+      λ fit. (node_kept reads known left made.0 names.0 fit.1, node_kept reads known right made.1 names.1 fit.2)
+
+  root_kept : (reads : ℕ → TreeForm) → ((k : ℕ) → IsKept views (reads k)) → (fs : List FragmentForm) → AllWellMade docs fs → AllNameTypes fs → (k : ℕ)
+      → IsKept views (root_tree reads (slice_get fs k))
+  root_kept reads known [] made names k = λ fit. refl
+  root_kept reads known (f ∷ fs) made names zero = node_kept reads known f.root made.0 names.0
+  root_kept reads known (f ∷ fs) made names (suc k) = root_kept reads known fs made.1 names.1 k
+
+  pub fragment_kept : (more : ℕ) (fs : List FragmentForm) → AllWellMade docs fs → AllNameTypes fs → (k : ℕ) → IsKept views (fragment_tree more fs k)
+  unfolding fragment_tree
+  fragment_kept zero fs made names k = λ fit. refl
+  fragment_kept (suc more) fs made names k = root_kept (fragment_tree more fs) (fragment_kept more fs made names) fs made names k

@@ -1,12 +1,12 @@
 -- A scan over tables whose rows have the types of their columns.
 use Rattle.std.proofs.Common.{◌≡◌, ℕ, zero, suc, List, [], ◌∷◌, length, get_or, map, true, refl, subst, arith}
+use Rattle.std.specs.Cmp.Derive.{both_true}
 use Rattle.std.specs.Prelude.{slice_get}
 use Rattle.std.specs.List.{list_all}
 use Rattle.std.proofs.lemmas.List.Sums.{AllPass-from_list_all}
 use Rattle.sql_values.specs.declared.types.SqlType.{SqlType}
 use Rattle.sql_values.specs.declared.table.Table.{Table}
 use Rattle.sql_values.specs.declared.value.Value.{Value}
-use Rattle.sql_values.specs.Blocks.{fits}
 use Rattle.sql_values.specs.Cells.{cell, cut}
 use Rattle.sql_values.specs.ColumnRows.{fits_row}
 use Rattle.sql_values.specs.Types.{has_type, row_has_types}
@@ -17,8 +17,8 @@ use Rattle.page_judges.specs.Typed.{AllFit}
 use Rattle.tree_evaluator.specs.Fits.{ColumnFits, ColumnsFit, TablesFit, kinds}
 use Rattle.tree_evaluator.specs.Stops.{rows_of}
 use Rattle.plan_fits.specs.Tables.{HaveColumns}
-use Rattle.plan_fits.proofs.FindLemmas.{both_true, first_true, second_true}
-use Rattle.plan_fits.proofs.NodeLemmas.{ScanFits}
+use Rattle.plan_spreads.proofs.EachLemmas.{first_true, second_true}
+use Rattle.plan_fits.proofs.ScanLemmas.{ScanFits}
 use Rattle.tree_type_laws.specs.TypedTrees.{HaveTypes}
 use Rattle.plan_type_laws.specs.Tables.{TablesTyped}
 
@@ -43,7 +43,7 @@ rows_cut own [] columns types l f h = refl
 rows_cut own (row ∷ rows) columns types l f h =
     let first = first_true (row_has_types own row) (list_all (row_has_types own) rows) f in
     let rest = second_true (row_has_types own row) (list_all (row_has_types own) rows) f in
-    both_true (row_has_types types (cut columns row)) (list_all (row_has_types types) (map (cut columns) rows))
+    both_true
     (cut_typed own row columns types l first h) (rows_cut own rows columns types l rest h)
 
 pub scan_typed : (docs : List TableDoc) (tables : List Table) (n : ℕ) (columns : List ℕ) (types : List SqlType) → HaveColumns docs tables → TablesTyped tables
@@ -64,7 +64,7 @@ row_fits [] [] h = refl
 row_fits [] (v ∷ row) h = cc
 row_fits (kind ∷ types) [] h = cc
 row_fits (kind ∷ types) (v ∷ row) h =
-    both_true (fits kind v) (fits_row types row) (typed_fits kind v (first_true (has_type kind v) (row_has_types types row) h))
+    both_true (typed_fits kind v (first_true (has_type kind v) (row_has_types types row) h))
     (row_fits types row (second_true (has_type kind v) (row_has_types types row) h))
 
 rows_fit : (types : List SqlType) (rows : List (List Value)) → HaveTypes types rows → AllFit types rows

@@ -72,41 +72,74 @@ fn a_plan_may_have_no_table(rt: HostRuntime) -> Result<(), Fail> {
     Ok(())
 }
 
-/// Options and files, and the most rows of a split and of a page and the rows of a turn that they
-/// ask for, or `none`.
+/// Options and files, and the numbers that they ask for, or `none`: the most rows of a split and of a page, the
+/// rows of a turn, the tasks, the drivers, and the number of late deliveries.
 const NUMBERS: &str = "\
- | 10000 1024 100000\n\
-t=t | 10000 1024 100000\n\
---split 1 t=t | 1 1024 100000\n\
---split 1000000 | 1000000 1024 100000\n\
+ | 10000 1024 100000 2 2 0\n\
+t=t | 10000 1024 100000 2 2 0\n\
+--split 1 t=t | 1 1024 100000 2 2 0\n\
+--split 1000000 | 1000000 1024 100000 2 2 0\n\
 --split 1000001 | none\n\
 --split 0 | none\n\
---page 1 t=t u=u | 10000 1 100000\n\
---page 8192 | 10000 8192 100000\n\
+--page 1 t=t u=u | 10000 1 100000 2 2 0\n\
+--page 8192 | 10000 8192 100000 2 2 0\n\
 --page 8193 | none\n\
 --page 0 | none\n\
---quantum 1 | 10000 1024 1\n\
---quantum 1000000 | 10000 1024 1000000\n\
+--quantum 1 | 10000 1024 1 2 2 0\n\
+--quantum 1000000 | 10000 1024 1000000 2 2 0\n\
 --quantum 1000001 | none\n\
 --quantum 0 | none\n\
---quantum 3 --split 007 --page 2 t=t | 7 2 3\n\
+--tasks 1 | 10000 1024 100000 1 2 0\n\
+--tasks 16 t=t | 10000 1024 100000 16 2 0\n\
+--tasks 17 | none\n\
+--tasks 0 | none\n\
+--drivers 1 t=t u=u | 10000 1024 100000 2 1 0\n\
+--drivers 16 | 10000 1024 100000 2 16 0\n\
+--drivers 17 | none\n\
+--drivers 0 | none\n\
+--replay 0 t=t | 10000 1024 100000 2 2 0\n\
+--replay 4294967296 | 10000 1024 100000 2 2 4294967296\n\
+--replay 18446744073709551615 | 10000 1024 100000 2 2 18446744073709551615\n\
+--replay 18446744073709551616 | none\n\
+--replay 99999999999999999999999 | none\n\
+--replay 5 --quantum 3 --tasks 010 --split 007 --drivers 4 --page 2 t=t | 7 2 3 10 4 5\n\
 --split 18446744073709551617 | none\n\
+--tasks 4294967297 | none\n\
 --split 1 --split 1 | none\n\
 --page 1 --split 1 --page 1 t=t | none\n\
+--tasks 1 --drivers 1 --tasks 2 | none\n\
+--replay 0 --replay 0 | none\n\
+--drivers 3 --drivers 3 t=t | none\n\
 --workers 1 | none\n\
 --spli 1 | none\n\
+--task 1 | none\n\
+--drivers8 1 | none\n\
+-replay 1 | none\n\
+--Replay 1 | none\n\
 --split | none\n\
 --page 1 --split | none\n\
+--tasks 1 --replay | none\n\
 --split t=t | none\n\
+--drivers t=t | none\n\
 --split=1 | none\n\
+--tasks=1 | none\n\
 --split +1 | none\n\
+--replay +0 | none\n\
 --split -1 | none\n\
+--replay -0 | none\n\
 --split 1.0 | none\n\
-t=t --split 1 | none";
+--tasks two | none\n\
+--drivers 0x2 | none\n\
+--replay 1_000 | none\n\
+t=t --split 1 | none\n\
+t=t --replay 1 | none";
 
 /// Whether the job has the numbers.
 fn has_numbers(alloc: Global, job: &Job<'_>, want: &str) -> Result<bool, Fail> {
-    let found = format!(in alloc; "{} {} {}", job.split, job.page, job.quantum)?;
+    let found = format!(in alloc;
+        "{} {} {} {} {} {}",
+        job.split, job.page, job.quantum, job.tasks, job.drivers, job.replay
+    )?;
     Ok(found.as_str() == want)
 }
 

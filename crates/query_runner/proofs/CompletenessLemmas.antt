@@ -1,5 +1,5 @@
 -- A run of what is sound, which met no fault of the outside, has no cause to refuse.
-use Rattle.std.proofs.Common.{◌≡◌, ◌⊎◌, inl, inr, ℕ, List, Option, Some, None, refl, sym, ◌∙◌, ap, subst}
+use Rattle.std.proofs.Common.{◌≡◌, ◌⊎◌, inl, inr, ℕ, List, Option, Some, None, refl, subst}
 use Rattle.run_ports.specs.Reading.{AreBytesOf}
 use Rattle.plan_docs.specs.Plans.{PlanForm}
 use Rattle.plan_reader.specs.Judgement.{IsPlan, RefusedFor}
@@ -9,7 +9,7 @@ use Rattle.plan_checks.specs.declared.fault.PlanFault.TheVariants as plan_fault
 use Rattle.command_line.specs.Words.{Job}
 use Rattle.query_runner.specs.Jobs.{AreTablesAsked, IsPlanAsked, Row}
 use Rattle.query_runner.specs.Loading.{IsNoPlan, PlanFails, TableIsRefused}
-use Rattle.query_runner.specs.Answers.{Answered, Heard, IsComplete, IsSound, JobAnswered, MetNoFault, PlanAnswered, PlanIsUnread, PlanRan, Seen}
+use Rattle.query_runner.specs.Answers.{Answered, Heard, IsComplete, IsSound, JobAnswered, MetNoFault, PlanAnswered, Seen}
 use Rattle.query_runner.specs.declared.status.Status.{Status}
 use Rattle.query_runner.specs.declared.status.Status.TheVariants as status
 use Rattle.query_runner.proofs.TableLemmas.{all_have_files, one_list_of_tables, tables_serve}

@@ -1,22 +1,19 @@
 -- The tables that are asked for, one after the other, and as a whole.
-use Rattle.std.proofs.Common.{◌≡◌, ◌≤◌, ◌<◌, ℕ, zero, suc, ◌+◌, ◌^◌, take, length, map, slice_index_or, List, [], ◌∷◌, ◌++◌, Option, Some, None, true, false, refl, sym, ◌∙◌, ap, subst, slice_get, unwrap_or, is_none, cond, add-one}
+use Rattle.std.proofs.Common.{◌≡◌, ◌≤◌, ◌<◌, ℕ, zero, suc, ◌+◌, ◌^◌, take, length, map, slice_index_or, List, [], ◌∷◌, ◌++◌, Option, Some, None, refl, sym, ◌∙◌, ap, subst, slice_get, unwrap_or, is_none, add-one}
 use native.Mathlib.Omega.{arith}
 use Rattle.std.specs.List.{position_from}
-use Rattle.sql_values.specs.declared.value.Value.{Value}
 use Rattle.run_ports.specs.Reading.{AreBytesOf}
 use Rattle.plan_docs.specs.declared.plan.TableDoc.{TableDoc}
-use Rattle.csv_tables.specs.Tables.{IsTable}
-use Rattle.csv_tables.specs.declared.fault.TableFault.TheVariants as table_fault
 use Rattle.command_line.specs.Words.{Job, file_of}
-use Rattle.query_runner.specs.Jobs.{AreTablesAsked, Contents, first_without_file, IsFileOf, IsTableAsked, Row, row_limit, rows_of}
+use Rattle.query_runner.specs.Jobs.{AreTablesAsked, Contents, first_without_file, IsFileOf, IsTableAsked, Row, rows_of}
 use Rattle.sql_values.specs.declared.table.Table.{Table}
 use Rattle.std.proofs.lemmas.List.{map-append}
 use Rattle.std.proofs.lemmas.List.Elements.{All-push}
 use Rattle.page_judges.specs.Typed.{AllFit}
 use Rattle.plan_fits.specs.Tables.{HaveColumns}
 use Rattle.tree_evaluator.specs.Fits.{TablesFit, kinds}
-use Rattle.task_executor.specs.Wirings.{AreFew}
-use Rattle.query_runner.specs.Loading.{FirstIsRefused, SomeTableIsUnread, TableFails, TableIsRefused, TablesFail}
+use Rattle.task_executor.specs.Shapes.{AreFew}
+use Rattle.query_runner.specs.Loading.{TableFails, TableIsRefused, TablesFail}
 use Rattle.query_runner.specs.declared.status.Status.{Status}
 use Rattle.query_runner.specs.declared.status.Status.TheVariants as status
 

@@ -14,12 +14,13 @@ use Rattle.csv_tables.proofs.FitLemmas.{table_has_types}
 use Rattle.command_line.specs.Words.{Job}
 use Rattle.tree_evaluator.specs.Fits.{TablesFit, kinds}
 use Rattle.plan_fits.specs.Tables.{HaveColumns, WasRead}
-use Rattle.plan_fits.proofs.PlanLemmas.{plan_fits}
+use Rattle.plan_links.proofs.DocumentLemmas.{read_consistent}
+use Rattle.plan_fits.proofs.ConsistentLemmas.{consistent_fits}
 use Rattle.tree_type_laws.specs.TypedTrees.{HaveTypes}
 use Rattle.tree_type_laws.proofs.TreeLemmas.{rows_keep}
 use Rattle.plan_type_laws.specs.Tables.{TablesTyped}
 use Rattle.plan_type_laws.proofs.PlanLemmas.{declared_types, plan_typed}
-use Rattle.query_runner.specs.Jobs.{AreTablesAsked, Contents, Row, row_limit, rows_of}
+use Rattle.query_runner.specs.Jobs.{AreTablesAsked, Contents, row_limit, rows_of}
 use Rattle.query_runner.specs.Answers.{IsResult, IsTextOf}
 
 abbrev AreTypes : TableDoc → Type 0
@@ -48,6 +49,6 @@ result_typed held job plan tables text read own fit asked is = record {
   tables = map rows_of tables;
   are_tables = asked;
   is_text = is;
-  typed = rows_keep strict (tree_of plan) (map rows_of tables) (plan_fits plan tables read own fit)
+  typed = rows_keep strict (tree_of plan) (map rows_of tables) (consistent_fits plan (read_consistent plan read.bytes read.is_plan) tables own fit)
       (plan_typed plan tables read own (asked_typed held job plan.tables tables own (declared_types plan read) asked)) is.list is.allowed;
 }

@@ -121,7 +121,7 @@ JobAnswered job seen heard answer = PlanIsUnread job seen heard answer ⊎ PlanR
 
 -- a job of no file and of the usual numbers, for the message of words that are no command line
 abbrev pub no_job : Job
-no_job = record { plan = []; split = 10000; page = 1024; quantum = 100000; files = [] }
+no_job = record { plan = []; split = 10000; page = 1024; quantum = 100000; tasks = 2; drivers = 2; replay = 0; files = [] }
 
 -- the words are no command line
 pub record WordsAreBad (seen : Seen) (heard : Heard) (answer : Status) : Type 0 where

@@ -43,6 +43,9 @@ pub fn tell_first<E: Sink>(err: &mut E, status: &Status)
         split: 10_000,
         page: 1024,
         quantum: 100_000,
+        tasks: 2,
+        drivers: 2,
+        replay: 0,
         files: &[],
     };
     tell(err, &none, &[], status);

@@ -3,7 +3,7 @@ ghost use Rattle.run_ports.specs.Reading.{AreBytesOf};
 ghost use Rattle.plan_docs.specs.Plans.{plan_view};
 ghost use Rattle.command_line.specs.Words.{asked, asked_file, file_of};
 ghost use Rattle.page_judges.specs.Typed.{AllFit};
-ghost use Rattle.task_executor.specs.Wirings.{AreFew};
+ghost use Rattle.task_executor.specs.Shapes.{AreFew};
 ghost use Rattle.tree_evaluator.specs.Fits.{TablesFit, kinds};
 ghost use Rattle.plan_fits.specs.Tables.{HaveColumns, WasRead};
 ghost use Rattle.query_runner.specs.Jobs.{AreTablesAsked, first_without_file, IsPlanAsked, IsTableAsked, rows_of};

@@ -2,7 +2,10 @@ ghost use Rattle.std.specs.Prelude.{◌≡◌, ◌↔◌, ◌≤◌, ℕ, [], ma
 ghost use Rattle.plan_docs.specs.Plans.{plan_view};
 ghost use Rattle.command_line.specs.Words.{HasBounds, Job as Asked, asked, job_of};
 ghost use Rattle.plan_fits.specs.Tables.{HaveColumns, WasRead};
-ghost use Rattle.task_executor.specs.Wirings.{AreFew, IsShape};
+ghost use Rattle.plan_reader.specs.Trees.{tree_of};
+ghost use Rattle.plan_trees.specs.Allowed.{Allows};
+ghost use Rattle.task_executor.specs.Nets.{FailsFor};
+ghost use Rattle.task_executor.specs.Shapes.{AreFew, IsShape};
 ghost use Rattle.tree_evaluator.specs.Fits.{TablesFit};
 ghost use Rattle.query_runner.specs.Answers.{Answered, IsComplete, IsResult, IsTextOf, JobAnswered, PlanAnswered, RunFails, status_of};
 ghost use Rattle.query_runner.specs.Jobs.{AreTablesAsked, Contents, rows_of};
@@ -12,7 +15,7 @@ use crate::load::{files_of, load_plan, load_tables};
 use crate::status::Status;
 use command_line::{Job, read_words};
 use csv_tables::text_of;
-use plan_fits::{plans_are_pipelines, tree_of_a_plan_fits};
+use plan_links::read_plans_are_consistent;
 use plan_reader::{Plan, tree};
 use plan_trees::types_of_tree;
 use run_ports::{Courier, Files, Meet, Sink, write_whole};
@@ -21,7 +24,7 @@ use std::alloc::Global;
 use std::random::RandomSource;
 use std::sync::Wait;
 use std::thread::Threads;
-use task_executor::{Net, RunFault, Shape, Wiring, run_alone};
+use task_executor::{Net, RunDone, RunFault, Shape, Wiring, run_alone};
 
 /// Runs the plan that the words name over the tables that they name, and writes the result's text
 /// to `out`. For each answer but Ok it writes one line to `err`.
@@ -33,7 +36,7 @@ pub fn run<R, F, O, E, C, M>(
     files: &mut F,
     out: &mut O,
     err: &mut E,
-    _courier: &C,
+    courier: &C,
     _meet: &M,
 ) -> Status
 where
@@ -74,23 +77,25 @@ where
         tell_first(err, &Status::BadWords);
         return Status::BadWords;
     };
-    run_job(rt, alloc, &job, files, out, err)
+    run_job(rt, alloc, &job, files, out, err, courier)
 }
 
 /// Does what the words ask for.
-fn run_job<R, F, O, E>(
+fn run_job<R, F, O, E, C>(
     rt: &R,
     alloc: Global,
     job: &Job<'_>,
     files: &mut F,
     out: &mut O,
     err: &mut E,
+    courier: &C,
 ) -> Status
 where
     R: Threads + Wait + Sync + RandomSource + AllocGlobal,
     F: Files,
     O: Sink,
     E: Sink,
+    C: Courier,
     requires { HasBounds (asked job.now) }
     ensures answer { JobAnswered (asked job.now) (record {
       held = F.holds files.old;
@@ -115,7 +120,7 @@ where
             return status;
         }
     };
-    let status = status_of(run_plan(rt, alloc, job, &plan, files, out));
+    let status = status_of(run_plan(rt, alloc, job, &plan, files, out, courier));
     tell(err, job, plan.tables.as_slice(), &status);
     status
 }
@@ -131,18 +136,20 @@ fn status_of(done: Result<(), Status>) -> Status
 }
 
 /// Runs the plan over its tables.
-fn run_plan<R, F, O>(
+fn run_plan<R, F, O, C>(
     rt: &R,
     alloc: Global,
     job: &Job<'_>,
     plan: &Plan,
     files: &mut F,
     out: &mut O,
+    courier: &C,
 ) -> Result<(), Status>
 where
     R: Threads + Wait + Sync + RandomSource + AllocGlobal,
     F: Files,
     O: Sink,
+    C: Courier,
     requires bounds { HasBounds (asked job.now) }
     requires read { WasRead (plan_view plan.now) }
     ensures same { F.holds files.new ≡ F.holds files.old }
@@ -162,7 +169,15 @@ where
 {
     let found = files_of(alloc, job, plan.tables.as_slice())?;
     let tables = load_tables(alloc, job, plan.tables.as_slice(), found.as_slice(), files)?;
-    let text = result_of(rt, alloc, &shape_of(job), plan, tables.as_slice(), &[])?;
+    let text = result_of(
+        rt,
+        alloc,
+        &shape_of(job),
+        plan,
+        tables.as_slice(),
+        courier,
+        &[],
+    )?;
     results_are_typed(plan, tables.as_slice(), text.as_slice());
     write_whole(out, text.as_slice())?;
     Ok(())
@@ -180,16 +195,18 @@ fn results_are_typed(plan: &Plan, tables: &[Table], text: &[u8])
 {}
 
 /// The text of what the plan gives over its tables, under these picks of drivers.
-pub fn result_of<R>(
+pub fn result_of<R, C>(
     rt: &R,
     alloc: Global,
     shape: &Shape,
     plan: &Plan,
     tables: &[Table],
+    courier: &C,
     picks: &[u32],
 ) -> Result<Vec<u8>, Status>
 where
     R: Threads + Wait + Sync + RandomSource + AllocGlobal,
+    C: Courier,
     requires shape { IsShape shape.now }
     requires read { WasRead (plan_view plan.now) }
     requires columns { HaveColumns (plan_view plan.now).tables tables.now }
@@ -200,11 +217,7 @@ where
         (RunFails (plan_view plan.now) (map rows_of tables.now)) }
 {
     let types = types_of_tree(alloc, &tree(alloc, plan)?)?;
-    tree_of_a_plan_fits(plan, tables);
-    plans_are_pipelines(plan, tables);
-    let mut wiring = Wiring::build(alloc, plan, tables, shape)?;
-    let net = Net::build(alloc, plan, tables, &mut wiring, shape)?;
-    match run_alone(rt, alloc, net, shape, picks) {
+    match run_of(rt, alloc, shape, plan, tables, courier, picks) {
         Ok(done) => {
             let rows = &done.rows;
             Ok(text_of(alloc, plan.output.as_slice(), types.as_slice(), rows)?)
@@ -214,14 +227,49 @@ where
     }
 }
 
+/// What the drivers of the plan give over its tables.
+fn run_of<R, C>(
+    rt: &R,
+    alloc: Global,
+    shape: &Shape,
+    plan: &Plan,
+    tables: &[Table],
+    courier: &C,
+    picks: &[u32],
+) -> Result<RunDone, RunFault>
+where
+    R: Threads + Wait + Sync + RandomSource + AllocGlobal,
+    C: Courier,
+    requires shape { IsShape shape.now }
+    requires read { WasRead (plan_view plan.now) }
+    requires columns { HaveColumns (plan_view plan.now).tables tables.now }
+    requires fit { TablesFit tables.now }
+    requires few { AreFew tables.now }
+    ensures { MatchResult result
+        (λ done. Allows (tree_of (plan_view plan.now)) (map rows_of tables.now) done.rows)
+        (FailsFor (tree_of (plan_view plan.now)) (map rows_of tables.now)) }
+{
+    read_plans_are_consistent(plan);
+    let Ok(mut wiring) = Wiring::build(alloc, plan, tables, shape) else {
+        return Err(RunFault::Memory);
+    };
+    let Ok(net) = Net::build(alloc, plan, tables, &mut wiring, shape, courier) else {
+        return Err(RunFault::Memory);
+    };
+    run_alone(rt, alloc, plan, net, shape, picks)
+}
+
 /// How a job cuts its tables and its work.
 pub fn shape_of(job: &Job<'_>) -> Shape
     requires { HasBounds (asked job.now) }
     ensures { IsShape result }
 {
     Shape {
+        tasks: job.tasks,
+        drivers: job.drivers,
         split: job.split,
         page: job.page,
         quantum: job.quantum,
+        replay: job.replay,
     }
 }

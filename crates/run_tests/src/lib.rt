@@ -8,13 +8,18 @@
 //! - `plans`: the plan of a case
 //! - `answers`: runs of `run`
 //! - `plain`: texts under given words and picks, and those of the plain evaluator
-//! - `scans`, `orders`, `aggregates`, `joins`: the cases
+//! - `scans`, `orders`, `aggregates`, `joins`: the cases of one fragment
+//! - `fragments`: the cases of several, and `couriers`: a courier for them
 #![tactic(auto)]
 
 #[cfg(test)]
 mod aggregates;
 #[cfg(test)]
 mod answers;
+#[cfg(test)]
+mod couriers;
+#[cfg(test)]
+mod fragments;
 #[cfg(test)]
 mod joins;
 #[cfg(test)]

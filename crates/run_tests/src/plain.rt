@@ -2,19 +2,20 @@
 ghost use Rattle.command_line.specs.Words.{HasBounds, asked};
 ghost use Rattle.plan_docs.specs.Plans.{plan_view};
 ghost use Rattle.plan_fits.specs.Tables.{HaveColumns, WasRead};
-ghost use Rattle.task_executor.specs.Wirings.{AreFew, IsShape};
+ghost use Rattle.task_executor.specs.Shapes.{AreFew, IsShape};
 ghost use Rattle.tree_evaluator.specs.Fits.{TablesFit};
 
 use crate::answers::{Given, files_of, is_text, words_in};
 use command_line::{Job, read_words};
 use csv_tables::text_of;
-use plan_fits::tree_of_a_plan_fits;
+use plan_fits::consistent_plans_fit;
+use plan_links::read_plans_are_consistent;
 use plan_reader::{Plan, tree};
 use plan_trees::types_of_tree;
 use query_runner::{
     Status, files_of as files_of_tables, load_plan, load_tables, result_of, shape_of,
 };
-use run_ports::MemFiles;
+use run_ports::{MemFiles, ReplayCourier};
 use sql_values::Table;
 use std::alloc::Global;
 use std::random::RandomSource;
@@ -112,7 +113,15 @@ fn tables_give<R: Threads + Wait + Sync + RandomSource + AllocGlobal>(
     requires fit { TablesFit tables.now }
     requires few { AreFew tables.now }
 {
-    match result_of(rt, rt.alloc(), shape, plan, tables, picks) {
+    match result_of(
+        rt,
+        rt.alloc(),
+        shape,
+        plan,
+        tables,
+        &ReplayCourier::new(),
+        picks,
+    ) {
         Ok(bytes) => Ok(
             is_text(bytes.as_slice(), text) && evaluates_to(rt.alloc(), plan, tables, text)?,
         ),
@@ -130,7 +139,8 @@ fn evaluates_to(alloc: Global, plan: &Plan, tables: &[Table], text: &str) -> Res
     requires fit { TablesFit tables.now }
 {
     let tree = tree(alloc, plan)?;
-    tree_of_a_plan_fits(plan, tables);
+    read_plans_are_consistent(plan);
+    consistent_plans_fit(plan);
     let rows = evaluate(alloc, &tree, tables)?;
     let types = types_of_tree(alloc, &tree)?;
     let bytes = text_of(alloc, plan.output.as_slice(), types.as_slice(), &rows)?;

@@ -13,10 +13,14 @@ $c {'name':'t','columns':[{'name':'a','type':'bigint'},{'name':'c','type':'varch
 $d {'name':'t','columns':[{'name':'a','type':'decimal(2,1)'}]}
 $e {'name':'t','columns':[{'name':'a','type':'decimal(38,0)'}]}
 $g {'name':'t','columns':[{'name':'g','type':'varchar'},{'name':'v','type':'bigint'},{'name':'d','type':'decimal(3,1)'}]}
+$p {'name':'t','columns':[{'name':'g','type':'varchar'},{'name':'v','type':'bigint'}]}
+$i {'name':'t','columns':[{'name':'day','type':'date'},{'name':'flag','type':'varchar'},{'name':'qty','type':'bigint'},{'name':'price','type':'decimal(12,2)'},{'name':'disc','type':'decimal(4,2)'}]}
 $k {'name':'t','columns':[{'name':'k','type':'bigint'},{'name':'x','type':'varchar'}]},{'name':'u','columns':[{'name':'k','type':'bigint'},{'name':'y','type':'varchar'}]}
 @a {'id':9,'op':'scan','table':'t','columns':['a']}
 @c {'id':9,'op':'scan','table':'t','columns':['a','c']}
 @g {'id':9,'op':'scan','table':'t','columns':['g','v','d']}
+@p {'id':9,'op':'scan','table':'t','columns':['g','v']}
+@i {'id':9,'op':'scan','table':'t','columns':['day','flag','qty','price','disc']}
 @t {'id':9,'op':'scan','table':'t','columns':['k','x']}
 @u {'id':8,'op':'scan','table':'u','columns':['k','y']}
 @v {'id':7,'op':'scan','table':'t','columns':['k','x']}

@@ -1,15 +1,3 @@
-pub mod MemberLemmas
-pub mod ZipLemmas
-pub mod NodeLemmas
-pub mod SourceLemmas
-pub mod ReadLemmas
-pub mod LaterLemmas
-pub mod TurnLemmas
-pub mod NoteLemmas
-pub mod StandLemmas
-pub mod FailLemmas
-pub mod KeptLemmas
-pub mod ClosingLemmas
-pub mod PipelineLemmas
-pub mod WiringLemmas
-pub mod NetLemmas
+mod LaterLemmas
+mod TurnLemmas
+mod EndLemmas

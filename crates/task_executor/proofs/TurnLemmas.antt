@@ -5,8 +5,10 @@ use Rattle.std.proofs.lemmas.List.Elements.{All-cons, All-head, All-nil, All-tai
 use Rattle.driver_loop.specs.Drivers.{DriverState, IsWhole}
 use Rattle.driver_loop.specs.declared.run_fault.RunFault.{RunFault}
 use Rattle.driver_loop.specs.declared.run_fault.RunFault.TheVariants.{ExprFailed, Memory}
-use Rattle.task_executor.specs.Turns.{AreFailing, AreLater, AreUnfailed, AreWholeDrivers, IsFailing, IsLater}
-use Rattle.task_executor.proofs.LaterLemmas.{all_same, later_same}
+use Rattle.net_lanes.specs.Later.{AreLater, IsLater}
+use Rattle.net_lanes.proofs.LaterLemmas.{later_same}
+use Rattle.task_executor.specs.Turns.{AreFailing, AreUnfailed, AreWholeDrivers, IsFailing}
+use Rattle.task_executor.proofs.LaterLemmas.{all_same}
 
 pub later_at : (ds : List DriverState) (k : ℕ) (e d : DriverState) → k < length ds → e ≡ get_or ds k e → IsLater e d → AreLater ds (slice_set ds k d)
 later_at [] k e d lt is later = absurd (omega (arith, lt))

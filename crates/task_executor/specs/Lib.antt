@@ -1,8 +1,4 @@
-pub mod Reads
-pub mod Pipelines
-pub mod Sides
-pub mod Wirings
+pub mod RunBells
+pub mod Shapes
 pub mod Turns
 pub mod Nets
-pub mod Closing
-pub mod RunBells

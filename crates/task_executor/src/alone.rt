@@ -1,23 +1,26 @@
 //! A run on one thread.
-ghost use Rattle.std.specs.Prelude.{◌≡◌, ◌<◌, List, None, false, true, length, IfOk, MatchResult};
-ghost use Rattle.plan_docs.specs.Plans.{PlanForm};
+ghost use Rattle.std.specs.Prelude.{◌≡◌, ◌<◌, List, None, Some, false, true, length, map, IfOk, MatchResult};
+ghost use Rattle.plan_docs.specs.Plans.{plan_view};
+ghost use Rattle.plan_layout.specs.Pipes.{pipe_view};
 ghost use Rattle.plan_reader.specs.Trees.{tree_of};
 ghost use Rattle.plan_trees.specs.Allowed.{Allows};
 ghost use Rattle.operator_core.specs.Rows.{Row};
-ghost use Rattle.driver_loop.specs.Drivers.{DriverState};
-ghost use Rattle.driver_laws.specs.Cells.{AreNamed};
-ghost use Rattle.task_executor.specs.Nets.{FailsFor, IsNetOf};
-ghost use Rattle.task_executor.specs.Turns.{AreAlone, AreFailing, AreFinished, AreLater, AreUnfailed, IsFailing, IsLater};
+ghost use Rattle.net_lanes.specs.Later.{AreLater, IsLater};
+ghost use Rattle.task_executor.specs.Nets.{FailsFor, IsNetOf, IsSomeNet};
+ghost use Rattle.driver_loop.specs.declared.run_fault.RunFault.{RunFault};
+ghost use Rattle.task_executor.specs.Turns.{AreFailing, AreFinished, AreUnfailed, AreWholeDrivers, IsFailing};
 
-use crate::closing::close;
 use crate::net::Net;
 use crate::result::rows_of;
 use crate::run_bells::RunBells;
 use crate::shape::Shape;
 use driver_loop::{Driver, RunFault, Stage, Turn};
 use futures::task::{Doorbell, Solo};
+use net_closing::close;
+use net_stands::{plans_fail, plans_give};
 use operator_core::laws;
-use run_ports::ReplayCourier;
+use plan_reader::Plan;
+use run_ports::Courier;
 use sql_values::{Memory, RowList};
 use std::alloc::Global;
 use std::marker::PhantomData;
@@ -33,52 +36,85 @@ pub struct RunDone {
 
 /// Gives turns to the drivers of a net on this thread: first to those that the picks name, each modulo the
 /// number of drivers, and then to each that is not finished.
-pub fn run_alone<R>(
+pub fn run_alone<R, C>(
     rt: &R,
     alloc: Global,
-    net: Net<'_>,
+    plan: &Plan,
+    net: Net<'_, '_, C>,
     shape: &Shape,
     picks: &[u32],
 ) -> Result<RunDone, RunFault>
 where
     R: Threads + Wait + Sync + RandomSource + AllocGlobal,
-    ensures { (plan : PlanForm) (tables : List (List Row)) → IsNetOf plan tables net.entry
-        → MatchResult result (λ done. Allows (tree_of plan) tables done.rows)
-        (FailsFor (tree_of plan) tables) }
+    C: Courier,
+    requires { IsSomeNet (map pipe_view net.pipes.now) net.drivers.items }
+    ensures { (tables : List (List Row))
+        → IsNetOf (plan_view plan.now) tables (map pipe_view net.entry.pipes.now) net.entry.drivers.items
+        → MatchResult result (λ done. Allows (tree_of (plan_view plan.now)) tables done.rows)
+        (FailsFor (tree_of (plan_view plan.now)) tables) }
 {
     laws::laws::<Stage<'_>>(PhantomData);
-    let Net { mut drivers } = net;
+    plans_give(plan, PhantomData);
+    plans_fail(plan, PhantomData);
+    let Net {
+        pipes,
+        mut drivers,
+        bells,
+    } = net;
     let Ok(solo) = Solo::new(rt, Doorbell::spinning()) else {
         return Err(RunFault::Memory);
     };
-    // A net has a bell for each right side, and a driver of its own for it.
-    let Ok(mut bells) = RunBells::new(alloc, drivers.len()) else {
+    let Ok(mut bells) = RunBells::new(alloc, bells as usize) else {
         return Err(RunFault::Memory);
     };
-    match drive(rt, &solo, &mut drivers, &mut bells, shape.quantum, picks) {
-        Ok(()) => match finish(alloc, drivers) {
-            Ok(rows) => Ok(RunDone { rows }),
-            Err(Memory) => Err(RunFault::Memory),
-        },
-        Err(RunFault::Memory) => Err(RunFault::Memory),
-        Err(fault) => match close(alloc, drivers) {
-            Ok(_) => Err(fault),
-            Err(Memory) => Err(RunFault::Memory),
-        },
+    let Ok(failed) = drive_whole(rt, &solo, &mut drivers, &mut bells, shape.quantum, picks) else {
+        return Err(RunFault::Memory);
+    };
+    let Ok(pages) = close(alloc, pipes, drivers) else {
+        return Err(RunFault::Memory);
+    };
+    if let Some(fault) = failed {
+        return Err(fault);
+    }
+    let Ok(rows) = rows_of(alloc, pages) else {
+        return Err(RunFault::Memory);
+    };
+    Ok(RunDone { rows })
+}
+
+/// Gives turns until each driver is finished, or an expression failed in one, which is told.
+fn drive_whole<R: Threads + Wait + Sync, C: Courier>(
+    rt: &R,
+    solo: &Solo,
+    drivers: &mut Vec<Driver<'_, C>>,
+    bells: &mut RunBells,
+    quantum: u32,
+    picks: &[u32],
+) -> Result<Option<RunFault>, Memory>
+    requires { AreUnfailed drivers.old.items }
+    ensures later { AreLater drivers.old.items drivers.new.items }
+    ensures whole { IfOk result (λ _. AreWholeDrivers drivers.new.items) }
+    ensures finished { IfOk result (λ failed. failed ≡ None → AreFinished drivers.new.items) }
+    ensures failing { IfOk result (λ failed. (fault : RunFault) → failed ≡ Some fault
+        → AreFailing drivers.new.items fault) }
+{
+    match drive(rt, solo, drivers, bells, quantum, picks) {
+        Ok(()) => Ok(None),
+        Err(RunFault::ExprFailed { node, kind }) => Ok(Some(RunFault::ExprFailed { node, kind })),
+        Err(RunFault::Memory) => Err(Memory),
     }
 }
 
 /// Gives turns until each driver is finished: first to those that are picked, and then to each in turn.
-fn drive<R: Threads + Wait + Sync>(
+fn drive<R: Threads + Wait + Sync, C: Courier>(
     rt: &R,
     solo: &Solo,
-    drivers: &mut Vec<Driver<'_, ReplayCourier>>,
+    drivers: &mut Vec<Driver<'_, C>>,
     bells: &mut RunBells,
     quantum: u32,
     picks: &[u32],
 ) -> Result<(), RunFault>
-    requires some { 0 < length drivers.old.items }
-    requires unfailed { AreUnfailed drivers.old.items }
+    requires { AreUnfailed drivers.old.items }
     ensures later { AreLater drivers.old.items drivers.new.items }
     ensures done { MatchResult result (λ _. AreUnfailed drivers.new.items × AreFinished drivers.new.items)
         (AreFailing drivers.new.items) }
@@ -94,37 +130,38 @@ fn drive<R: Threads + Wait + Sync>(
 }
 
 /// Gives a turn to each driver that is picked, unless it is finished. A pick counts round and round.
-fn serve_picked<R: Threads + Wait + Sync>(
+fn serve_picked<R: Threads + Wait + Sync, C: Courier>(
     rt: &R,
     solo: &Solo,
-    drivers: &mut Vec<Driver<'_, ReplayCourier>>,
+    drivers: &mut Vec<Driver<'_, C>>,
     bells: &mut RunBells,
     quantum: u32,
     picks: &[u32],
 ) -> Result<(), RunFault>
-    requires some { 0 < length drivers.old.items }
-    requires unfailed { AreUnfailed drivers.old.items }
+    requires { AreUnfailed drivers.old.items }
     ensures later { AreLater drivers.old.items drivers.new.items }
     ensures done { MatchResult result (λ _. AreUnfailed drivers.new.items) (AreFailing drivers.new.items) }
 {
     for pick in picks {
-        let place = *pick as usize % drivers.len();
+        let Some(place) = (*pick as usize).checked_rem(drivers.len()) else {
+            return Ok(());
+        };
         serve(rt, solo, drivers, bells, place, quantum)?;
     }
     Ok(())
 }
 
-fn are_finished(drivers: &Vec<Driver<'_, ReplayCourier>>) -> bool
+fn are_finished<C: Courier>(drivers: &Vec<Driver<'_, C>>) -> bool
     ensures { result ≡ true → AreFinished drivers.now.items }
 {
     drivers.iter().all(|driver| driver.is_finished())
 }
 
 /// Gives a turn to each driver that is not finished.
-fn serve_all<R: Threads + Wait + Sync>(
+fn serve_all<R: Threads + Wait + Sync, C: Courier>(
     rt: &R,
     solo: &Solo,
-    drivers: &mut Vec<Driver<'_, ReplayCourier>>,
+    drivers: &mut Vec<Driver<'_, C>>,
     bells: &mut RunBells,
     quantum: u32,
 ) -> Result<(), RunFault>
@@ -139,10 +176,10 @@ fn serve_all<R: Threads + Wait + Sync>(
 }
 
 /// Gives a turn to the driver at a place, unless it is finished.
-fn serve<R: Threads + Wait + Sync>(
+fn serve<R: Threads + Wait + Sync, C: Courier>(
     rt: &R,
     solo: &Solo,
-    drivers: &mut Vec<Driver<'_, ReplayCourier>>,
+    drivers: &mut Vec<Driver<'_, C>>,
     bells: &mut RunBells,
     place: usize,
     quantum: u32,
@@ -159,10 +196,10 @@ fn serve<R: Threads + Wait + Sync>(
 }
 
 /// Gives a turn. A driver that waits is asked again at its next one.
-fn give_turn<R: Threads + Wait + Sync>(
+fn give_turn<R: Threads + Wait + Sync, C: Courier>(
     rt: &R,
     solo: &Solo,
-    driver: &mut Driver<'_, ReplayCourier>,
+    driver: &mut Driver<'_, C>,
     bells: &mut RunBells,
     quantum: u32,
 ) -> Result<(), RunFault>
@@ -179,20 +216,4 @@ fn give_turn<R: Threads + Wait + Sync>(
         Turn::Finished => Ok(()),
         Turn::Failed(fault) => Err(fault),
     }
-}
-
-/// The rows of the root's driver, where all are finished.
-fn finish(alloc: Global, drivers: Vec<Driver<'_, ReplayCourier>>) -> Result<RowList, Memory>
-    requires some { 0 < length drivers.items }
-    requires unfailed { AreUnfailed drivers.items }
-    requires finished { AreFinished drivers.items }
-    requires named { AreNamed drivers.items }
-    requires alone { AreAlone drivers.items }
-    ensures { (plan : PlanForm) (tables : List (List Row)) (before : List DriverState)
-        → IsNetOf plan tables before → AreLater before drivers.entry.items
-        → IfOk result (λ rows. Allows (tree_of plan) tables rows) }
-{
-    laws::laws::<Stage<'_>>(PhantomData);
-    let pages = close(alloc, drivers)?;
-    rows_of(alloc, pages)
 }

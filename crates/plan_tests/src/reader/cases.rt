@@ -117,17 +117,19 @@ SCAN | 8 /fragments/0/placement\n\
 {'id':1,'op':'sort','keys':[{'column':0,'order':'ASC'},{'column':9,'order':'ASC'}],'input':SCAN} | 5 /fragments/0/root/keys/1\n\
 {'id':1,'op':'topn','step':'SINGLE','count':1,'keys':[{'column':1,'order':'ASC'}],'input':SCAN} | 5 /fragments/0/root/keys/0\n\
 {'id':1,'op':'limit','step':'SINGLE','count':1,'input':SCAN} | 8 /fragments/0/placement\n\
-{'id':1,'op':'topn','step':'PARTIAL','count':1,'keys':[{'column':9,'order':'ASC'}],'input':SCAN} | 10 /fragments/0/root/step\n\
+{'id':1,'op':'topn','step':'PARTIAL','count':1,'keys':[{'column':9,'order':'ASC'}],'input':SCAN} | 7 /fragments/0/root/step\n\
 {'id':1,'op':'aggregate','step':'SINGLE','keys':[9],'calls':[],'input':SCAN} | 5 /fragments/0/root/keys/0\n\
 {'id':1,'op':'aggregate','step':'SINGLE','keys':[],'calls':[{'name':'sum','column':0}],'input':SCAN} | 8 /fragments/0/placement\n\
 {'id':1,'op':'aggregate','step':'SINGLE','keys':[],'calls':[{'name':'avg','column':0}],'input':SCAN} | 5 /fragments/0/root/calls/0\n\
 {'id':1,'op':'aggregate','step':'SINGLE','keys':[0],'calls':[{'name':'count_all'}],'input':SCAN} | 5 /output\n\
-{'id':1,'op':'aggregate','step':'PARTIAL','keys':[9],'calls':[],'input':SCAN} | 10 /fragments/0/root/step\n\
+{'id':1,'op':'aggregate','step':'PARTIAL','keys':[9],'calls':[],'input':SCAN} | 7 /fragments/0/root/step\n\
 {'id':1,'op':'project','columns':[{'col':1}],'input':{'id':2,'op':'join','kind':'LEFT','on':[[0,0]],'left':SCAN,'right':{'id':8,'op':'scan','table':'t','columns':['a']},'filters':[]}} | 8 /fragments/0/placement\n\
 {'id':1,'op':'join','kind':'INNER','on':[[0,0]],'left':SCAN,'right':{'id':8,'op':'scan','table':'t','columns':['a']}} | 5 /output\n\
 {'id':1,'op':'join','kind':'INNER','on':[[0,0],[0,1]],'left':SCAN,'right':{'id':8,'op':'scan','table':'t','columns':['a']}} | 5 /fragments/0/root/on/1\n\
 {'id':1,'op':'join','kind':'INNER','on':[[0,1]],'left':SCAN,'right':{'id':8,'op':'scan','table':'t','columns':['a']},'filters':[{'id':0,'key':7,'scan':9,'column':0,'wait':true}]} | 10 /fragments/0/root/filters\n\
-{'id':1,'op':'project','columns':[{'col':9}],'input':{'id':2,'op':'union','left':SCAN,'right':{'id':3,'op':'remote','fragment':0}}} | 10 /fragments/0/root/input/op";
+{'id':1,'op':'project','columns':[{'col':9}],'input':{'id':2,'op':'union','left':SCAN,'right':{'id':3,'op':'remote','fragment':0}}} | 6 /fragments/0/root/input/right/fragment\n\
+{'id':1,'op':'union','left':SCAN,'right':{'id':3,'op':'values','types':['date'],'rows':[]}} | 5 /fragments/0/root\n\
+{'id':1,'op':'union','left':SCAN,'right':{'id':3,'op':'scan','table':'t','columns':['a']}} | 8 /fragments/0/placement";
 
 pub const SCAN: &str = "{'id':9,'op':'scan','table':'t','columns':['a']}";
 
@@ -164,9 +166,8 @@ pub const GROUPED: &str = "{'version':1,'output':['k','s'],'tables':[{'name':'t'
     {'id':5,'op':'aggregate','step':'PARTIAL','keys':[1],'calls':[{'name':'sum','column':0}],\
     'input':{'id':6,'op':'scan','table':'t','columns':['a','b']}}}]}";
 
-/// A text of that document, what is put in its place, and the code and the path that are told whether or not all
-/// forms are built, 0 where it is a plan.
-pub const ANY: &str = "\
+/// A text of that document, what is put in its place, and the code and the path that are told, 0 where it is a plan.
+pub const SEVERAL: &str = "\
 'version':1, | 'version':1 , | 0\n\
 'placement':'SOURCE' | 'placement':'SINGLE' | 0\n\
 # The codes of values come first.\n\

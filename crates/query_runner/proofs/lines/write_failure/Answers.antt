@@ -1,4 +1,4 @@
-use Rattle.std.proofs.Common.{◌≡◌, ℕ, List, [], ◌∷◌, ◌++◌, codes}
+use Rattle.std.proofs.Common.{◌++◌, codes}
 use Rattle.std.specs.Fmt.{decimal}
 use Rattle.query_runner.proofs.AppendLemmas.{after, both}
 use Rattle.query_runner.proofs.lines.write_failure.Goals as goal

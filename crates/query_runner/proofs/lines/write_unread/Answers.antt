@@ -1,5 +1,4 @@
-use Rattle.std.proofs.Common.{◌≡◌, ℕ, List, [], ◌∷◌, ◌++◌, codes}
-use Rattle.std.specs.Fmt.{decimal}
+use Rattle.std.proofs.Common.{codes}
 use Rattle.query_runner.proofs.AppendLemmas.{after}
 use Rattle.query_runner.proofs.lines.write_unread.Goals as goal
 

@@ -1,4 +1,4 @@
-use Rattle.std.proofs.Common.{◌≡◌, ℕ, ◌+◌, ◌-◌, ◌*◌, ◌<◌, ◌≤◌, map, Some, take, drop, is_none}
+use Rattle.std.proofs.Common.{◌≡◌, map, Some, take, drop, is_none}
 use Rattle.std.specs.List.{position_from}
 use Rattle.command_line.specs.Words.{asked, asked_file, file_of}
 use Rattle.query_runner.specs.Jobs.{first_without_file}

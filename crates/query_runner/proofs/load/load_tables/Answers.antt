@@ -1,4 +1,4 @@
-use Rattle.std.proofs.Common.{◌≡◌, ◌≤◌, ◌<◌, ℕ, length, Some, ◌∙◌, sym, ap}
+use Rattle.std.proofs.Common.{◌<◌, length, Some, ◌∙◌, sym, ap}
 use native.Mathlib.Omega.{arith}
 use Rattle.command_line.specs.Words.{asked}
 use Rattle.query_runner.proofs.TableLemmas.{columns_more, few_more, fits_more, item_there, loop_step}

@@ -1,8 +1,8 @@
-use Rattle.std.proofs.Common.{◌≡◌, ℕ, ◌+◌, ◌-◌, ◌*◌, ◌<◌, ◌≤◌, map, Some, take, drop}
-use Rattle.command_line.specs.Words.{asked, asked_file, file_of}
+use Rattle.std.proofs.Common.{◌≡◌, ◌≤◌, map, take}
+use Rattle.command_line.specs.Words.{asked}
 use Rattle.query_runner.specs.Jobs.{AreTablesAsked, rows_of}
 use Rattle.plan_fits.specs.Tables.{HaveColumns}
-use Rattle.task_executor.specs.Wirings.{AreFew}
+use Rattle.task_executor.specs.Shapes.{AreFew}
 use Rattle.tree_evaluator.specs.Fits.{TablesFit}
 use Rattle.query_runner.proofs.load.load_tables.Given as goal
 

@@ -1,4 +1,4 @@
-use Rattle.std.proofs.Common.{◌≡◌, ℕ, Some, option_map, ◌∙◌, sym, ap}
+use Rattle.std.proofs.Common.{◌≡◌, Some, option_map, ◌∙◌, sym, ap}
 use Rattle.command_line.specs.Words.{asked, job_of}
 use Rattle.query_runner.proofs.CompletenessLemmas.{complete}
 use Rattle.query_runner.proofs.top.run.Goals as goal

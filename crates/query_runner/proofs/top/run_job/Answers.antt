@@ -1,4 +1,4 @@
-use Rattle.std.proofs.Common.{◌≡◌, ◌≤◌, ℕ, inr, sym}
+use Rattle.std.proofs.Common.{inr, sym}
 use Rattle.plan_docs.specs.Plans.{plan_view}
 use Rattle.query_runner.proofs.top.run_job.Goals as goal
 

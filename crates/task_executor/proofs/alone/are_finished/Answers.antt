@@ -1,1 +1,0 @@
-use Rattle.task_executor.proofs.alone.are_finished.Goals as goal

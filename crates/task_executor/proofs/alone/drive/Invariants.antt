@@ -1,4 +1,5 @@
-use Rattle.task_executor.specs.Turns.{AreLater, AreUnfailed}
+use Rattle.net_lanes.specs.Later.{AreLater}
+use Rattle.task_executor.specs.Turns.{AreUnfailed}
 use Rattle.task_executor.proofs.alone.drive.Given as goal
 
 abbrev pub invariant-loop : goal.invariant-loop

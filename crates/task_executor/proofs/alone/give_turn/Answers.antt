@@ -1,1 +1,0 @@
-use Rattle.task_executor.proofs.alone.give_turn.Goals as goal

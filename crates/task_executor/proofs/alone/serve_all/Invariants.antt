@@ -1,5 +1,6 @@
 use Rattle.std.proofs.Common.{◌≡◌, length}
-use Rattle.task_executor.specs.Turns.{AreLater, AreUnfailed}
+use Rattle.net_lanes.specs.Later.{AreLater}
+use Rattle.task_executor.specs.Turns.{AreUnfailed}
 use Rattle.task_executor.proofs.alone.serve_all.Given as goal
 
 abbrev pub invariant-loop-place : goal.invariant-loop-place

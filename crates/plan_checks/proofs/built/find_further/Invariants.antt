@@ -1,9 +1,0 @@
-use Rattle.std.proofs.Common.{◌≡◌, drop, map}
-use Rattle.std.specs.List.{find}
-use Rattle.plan_grammar.specs.Spots.{spot_of}
-use Rattle.plan_checks.specs.Built.{is_further}
-use Rattle.plan_checks.proofs.built.find_further.Given as goal
-
--- the first is among those that are left
-abbrev pub invariant-loop-place : goal.invariant-loop-place
-invariant-loop-place l = find is_further (map spot_of l.places) ≡ find is_further (map spot_of (drop l.place-index l.places))

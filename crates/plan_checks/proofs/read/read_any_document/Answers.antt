@@ -1,1 +1,0 @@
-use Rattle.plan_checks.proofs.read.read_any_document.Goals as goal

@@ -1,1 +1,0 @@
-use Rattle.plan_checks.proofs.refusal.first_inconsistent.Goals as goal

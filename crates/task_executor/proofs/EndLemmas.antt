@@ -1,0 +1,107 @@
+-- What follows of a run once its drivers were taken apart.
+use Rattle.std.proofs.Common.{◌≡◌, ℕ, ◌<◌, zero, suc, List, [], ◌∷◌, length, get_or, Option, Some, None, refl, ap, sym, ◌∙◌, subst, arith}
+use Rattle.std.specs.Prelude.{All, slice_get, option_map, true, unwrap_or}
+use Rattle.sql_values.specs.declared.fail.Fail.{Fail}
+use Rattle.operator_core.specs.Rows.{Row}
+use Rattle.driver_loop.specs.Drivers.{DriverState, HasFailed, IsWhole}
+use Rattle.driver_loop.specs.Ends.{rows_handed}
+use Rattle.driver_loop.specs.declared.run_fault.RunFault.{RunFault}
+use Rattle.driver_loop.specs.declared.run_fault.RunFault.TheVariants.{ExprFailed, Memory}
+use Rattle.plan_docs.specs.Plans.{FragmentForm, PlanForm}
+use Rattle.plan_reader.specs.Trees.{tree_of}
+use Rattle.plan_trees.specs.Allowed.{Allows, Gives, strict}
+use Rattle.plan_trees.specs.Stopped.{MayFail}
+use Rattle.plan_runs.specs.Spreads.{Tables}
+use Rattle.plan_links.specs.Consistent.{IsConsistent}
+use Rattle.plan_layout.specs.declared.pipe.Parallelism.{Parallelism}
+use Rattle.plan_layout.specs.Layouts.{layout_of}
+use Rattle.plan_layout.specs.Pipes.{PipeForm, driver_number}
+use Rattle.tree_evaluator.specs.Fits.{FitsTables}
+use Rattle.driver_nets.specs.Nets.{AreDriversOf, NetForm}
+use Rattle.driver_nets.specs.Settled.{AreSettled}
+use Rattle.net_stands.specs.Roots.{IsLoneRoot}
+use Rattle.net_closing.specs.Back.{HasNet}
+use Rattle.net_closing.specs.Left.{handed_in}
+use Rattle.net_closing.specs.Results.{IsResultOf}
+use Rattle.net_lanes.specs.Later.{AreLater}
+use Rattle.net_lanes.proofs.LaterLemmas.{drivers_on}
+use Rattle.task_executor.specs.Nets.{FailsFor, IsNetOf, IsOver}
+use Rattle.task_executor.specs.Turns.{AreFailing, AreFinished, AreUnfailed, AreWholeDrivers}
+
+-- what the laws of nets say of the plan
+abbrev GivesRows : PlanForm → Type 0
+GivesRows plan =
+    IsConsistent plan → (p : Parallelism) → 0 < p.tasks → (f : FragmentForm) → slice_get plan.fragments 0 ≡ Some f → (net : NetForm) (drivers : List DriverState)
+    → net.layout ≡ layout_of p plan → AreDriversOf net drivers → AreSettled net drivers → FitsTables (tree_of plan) net.tables
+    → (root : PipeForm) → IsLoneRoot net.layout root → All (λ (d : DriverState). d.is_finished ≡ true) drivers
+    → (d : DriverState) → slice_get drivers (driver_number root 0 0) ≡ Some d → Gives strict (tree_of plan) net.tables (rows_handed d.target)
+
+abbrev FailsSo : PlanForm → Type 0
+FailsSo plan =
+    IsConsistent plan → (p : Parallelism) → 0 < p.tasks → (f : FragmentForm) → slice_get plan.fragments 0 ≡ Some f → (net : NetForm) (drivers : List DriverState)
+    → net.layout ≡ layout_of p plan → AreDriversOf net drivers → AreSettled net drivers → FitsTables (tree_of plan) net.tables
+    → (root : PipeForm) → IsLoneRoot net.layout root → (number : ℕ) (d : DriverState) → slice_get drivers number ≡ Some d
+    → (node : ℕ) (kind : Fail) → HasFailed d node kind → MayFail (tree_of plan) net.tables node kind
+
+abbrev Settles : List PipeForm → List DriverState → Type 0
+Settles layout drivers = (net : NetForm) → net.layout ≡ layout → AreDriversOf net drivers → AreSettled net drivers
+
+-- the driver whose rows were handed over
+record HandedBy (drivers : List DriverState) (number : ℕ) (given : List Row) : Type 0 where
+  d : DriverState
+  there : slice_get drivers number ≡ Some d
+  rows : rows_handed d.target ≡ given
+
+handed_by : (drivers : List DriverState) (number : ℕ) (given : List Row) (o : Option DriverState) → slice_get drivers number ≡ o → unwrap_or (option_map handed_in o) [] ≡ given ∷ []
+    → HandedBy drivers number given
+handed_by drivers number given None at is = absurd cc
+handed_by drivers number given (Some d) at is = record { d = d; there = at; rows = cc is }
+
+found : (drivers : List DriverState) (i : ℕ) (d : DriverState) → i < length drivers → d ≡ get_or drivers i d → slice_get drivers i ≡ Some d
+found [] i d lt is = absurd (omega (arith, lt))
+found (x ∷ drivers) zero d lt is = ap Some (sym is)
+found (x ∷ drivers) (suc i) d lt is = found drivers i d (omega (arith, lt)) is
+
+lone_root : (layout : List PipeForm) (drivers : List DriverState) (given : List Row) (r : IsResultOf layout drivers given) → IsLoneRoot layout r.only.pipe
+lone_root layout drivers given r = record { at = r.at; is = r.only.is; only = r.only.once; lone = r.driver }
+
+-- drivers without a fault lacked no memory
+pub whole_unfailed : (after : List DriverState) → AreUnfailed after → AreWholeDrivers after
+whole_unfailed after unfailed = λ k d less. subst IsWhole (sym (unfailed k d less)) tt
+
+-- the drivers after their turns are those of a net of the layout
+pub net_after : (tables : Tables) (layout : List PipeForm) (before after : List DriverState) → IsOver tables layout before → AreLater before after → AreWholeDrivers after → HasNet layout after
+net_after tables layout before after (split, made) later whole = record {
+  net = made.net;
+  laid = made.of;
+  are = drivers_on made.net before after made.are later whole;
+  seats = made.seats;
+}
+
+pub run_gives : (plan : PlanForm) (tables : Tables) (layout : List PipeForm) (before after : List DriverState) (pages rows : List Row) → GivesRows plan → IsNetOf plan tables layout before
+    → AreLater before after → AreWholeDrivers after → AreFinished after → Settles layout after → IsResultOf layout after pages → rows ≡ pages
+    → Allows (tree_of plan) tables rows
+run_gives plan tables layout before after pages rows gives is later whole finished settles result same =
+    let made = is.over.1 in
+    let are = drivers_on made.net before after made.are later whole in
+    let settled = settles made.net made.of are in
+    let h = handed_by after (driver_number result.only.pipe 0 0) pages (slice_get after (driver_number result.only.pipe 0 0)) refl result.rows in
+    let fits = subst (λ (ts : Tables). FitsTables (tree_of plan) ts) (sym made.over) is.fits in
+    let root = subst (λ (l : List PipeForm). IsLoneRoot l result.only.pipe) (sym made.of) (lone_root layout after pages result) in
+    let given = gives is.consistent is.parallelism is.some is.first is.is_first made.net after (made.of ∙ is.laid) are settled fits result.only.pipe root finished h.d h.there in
+    subst (λ (ts : Tables). Gives strict (tree_of plan) ts rows) made.over
+    (subst (λ (list : List Row). Gives strict (tree_of plan) made.net.tables list) (h.rows ∙ sym same) given)
+
+pub run_fails : (plan : PlanForm) (tables : Tables) (layout : List PipeForm) (before after : List DriverState) (pages : List Row) (fault : RunFault) → FailsSo plan → IsNetOf plan tables layout before
+    → AreLater before after → Settles layout after → IsResultOf layout after pages → AreFailing after fault
+    → FailsFor (tree_of plan) tables fault
+run_fails plan tables layout before after pages Memory fails is later settles result failing = tt
+run_fails plan tables layout before after pages (ExprFailed node kind) fails is later settles result (whole, (d, at, failed)) =
+    let made = is.over.1 in
+    let are = drivers_on made.net before after made.are later whole in
+    let settled = settles made.net made.of are in
+    let fits = subst (λ (ts : Tables). FitsTables (tree_of plan) ts) (sym made.over) is.fits in
+    let root = subst (λ (l : List PipeForm). IsLoneRoot l result.only.pipe) (sym made.of) (lone_root layout after pages result) in
+    let there = found after at.0 d at.1 (sym at.2) in
+    subst (λ (ts : Tables). MayFail (tree_of plan) ts node kind) made.over
+    (fails is.consistent is.parallelism is.some is.first is.is_first made.net after (made.of ∙ is.laid) are settled fits result.only.pipe root at.0 d there node kind failed)

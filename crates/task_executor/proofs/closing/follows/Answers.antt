@@ -1,1 +1,0 @@
-use Rattle.task_executor.proofs.closing.follows.Goals as goal

@@ -1,6 +1,0 @@
-use Rattle.std.proofs.Common.{◌≡◌, map, take}
-use Rattle.plan_trees.specs.declared.tree.Pair.{Pair}
-use Rattle.task_executor.proofs.pipeline.left_columns.Given as goal
-
-abbrev pub invariant-loop-pair : goal.invariant-loop-pair
-invariant-loop-pair l = l.columns.items ≡ map (λ (pair : Pair). pair.left) (take l.pair-index l.on)

@@ -1,6 +1,9 @@
-//! A courier that counts its turns.
+//! A courier that counts its turns, and one that tells who asked it.
 
+use once_cell::race::OnceBox;
 use run_ports::{Courier, Delivery};
+use std::alloc::Global;
+use std::test::Fail;
 
 /// Delivers nothing, then the first reply again, then the fresh one, and so on.
 #[derive(Drop)]
@@ -38,4 +41,72 @@ impl Courier for Thirds {
             Delivery::Again(0)
         }
     }
+}
+
+/// Delivers at once. When it is first asked it leaves the run's number in the cell of its edge.
+#[derive(Drop)]
+pub(crate) struct Telling<'c> {
+    alloc: Global,
+    cells: &'c [OnceBox<u64>],
+    number: u64,
+    edge: u32,
+    missed: u64,
+}
+
+impl<'c> Telling<'c> {
+    /// One of no edge.
+    pub(crate) fn new(alloc: Global, cells: &'c [OnceBox<u64>]) -> Telling<'c> {
+        Telling {
+            alloc,
+            cells,
+            number: 0,
+            edge: u32::MAX,
+            missed: 0,
+        }
+    }
+}
+
+impl<'c> Courier for Telling<'c> {
+    ghost missed = { λ telling. telling.missed };
+
+    fn for_edge(&self, number: u64, edge: u32) -> Telling<'c> {
+        Telling {
+            alloc: self.alloc,
+            cells: self.cells,
+            number,
+            edge,
+            missed: 0,
+        }
+    }
+
+    fn turn(&mut self) -> Delivery {
+        tell(self.alloc, self.cells, self.edge, self.number);
+        Delivery::Fresh
+    }
+}
+
+/// Leaves a number in the cell of an edge, unless there is one.
+fn tell(alloc: Global, cells: &[OnceBox<u64>], edge: u32, number: u64) {
+    let Some(cell) = cells.get(edge as usize) else {
+        return;
+    };
+    if let Ok(boxed) = Box::new(alloc, number) {
+        let _ = cell.set(boxed);
+    }
+}
+
+/// So many empty cells.
+pub(crate) fn cells_of(alloc: Global, count: usize) -> Result<Vec<OnceBox<u64>>, Fail> {
+    let mut cells = Vec::with_capacity(alloc, count)?;
+    for _cell in 0..count {
+        cells.push(OnceBox::new(alloc))?;
+    }
+    Ok(cells)
+}
+
+/// Whether the couriers of the first edges, and no others, were asked under this number.
+pub(crate) fn were_asked(cells: &[OnceBox<u64>], edges: usize, number: u64) -> bool {
+    let told = cells.iter().map(|cell| cell.get().copied());
+    let wanted = (0..cells.len()).map(|edge| if edge < edges { Some(number) } else { None });
+    told.eq(wanted)
 }

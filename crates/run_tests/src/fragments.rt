@@ -1,7 +1,8 @@
 //! Plans of several fragments: each gives the same in every shape, and whatever its couriers deliver.
 
 use crate::answers::{Given, files_of, is_text, part, words_in};
-use crate::couriers::Thirds;
+use crate::couriers::{Telling, Thirds, cells_of, were_asked};
+use crate::plain::gives;
 use crate::plans::plan_of;
 use query_runner::run;
 use run_ports::{Courier, MemSink, NoMeet, ReplayCourier};
@@ -18,7 +19,7 @@ const SHAPES: &str = "\
 --tasks 2 --split 1 --page 1
 --tasks 3 --drivers 4 --split 2 --page 2 --quantum 1
 --tasks 2 --drivers 3 --split 1 --page 1 --quantum 2 --replay 7
---tasks 16 --drivers 2 --split 3 --replay 18446744073709551615";
+--tasks 5 --drivers 16 --split 1 --replay 18446744073709551615";
 
 /// A case is a line `order | plan | rows | answer`, where the order of the answer's records is `any` or `sorted`.
 const CASES: &str = "\
@@ -32,13 +33,39 @@ sorted | {'version':1,'output':['flag','qty','revenue','avg_price'],'tables':[$i
 {'id':6,'op':'filter','predicate':{'call':'<=','args':[{'col':0},{'lit':'1998-09-02','type':'date'}]},'input':@i}}}}]} \
 | day,flag,qty,price,disc~1998-09-01,A,10,100.00,0.10~1998-09-02,A,5,50.50,0.00~1998-09-03,A,1,1.00,0.00~1998-01-01,N,2,20.00,0.05~ \
 | 0|flag,qty,revenue,avg_price~A,15,140.5000,75.25~N,2,19.0000,20.00~|
-any | {'version':1,'output':['g','n','s'],'tables':[$p],'fragments':[\
+any | GROUPED | g,v~\\N,1~x,2~\\N,3~x,\\N~ | 0|g,n,s~\\N,2,4~x,2,2~|
+any | {'version':1,'output':['k','x'],'tables':[$k],'fragments':[\
 {'id':0,'placement':'SINGLE','root':{'id':1,'op':'remote','fragment':1}},\
-{'id':1,'placement':'HASH','output':{'kind':'SINGLE'},'root':{'id':2,'op':'aggregate','step':'FINAL','input':\
-{'id':3,'op':'remote','fragment':2}}},\
-{'id':2,'placement':'SOURCE','output':{'kind':'HASH','columns':[0]},'root':{'id':4,'op':'aggregate','step':'PARTIAL',\
-'keys':[0],'calls':[{'name':'count_all'},{'name':'sum','column':1}],'input':@p}}]} \
-| g,v~\\N,1~x,2~\\N,3~x,\\N~ | 0|g,n,s~\\N,2,4~x,2,2~|
+{'id':1,'placement':'HASH','output':{'kind':'SINGLE'},'root':{'id':2,'op':'union','left':\
+{'id':3,'op':'remote','fragment':2},'right':{'id':4,'op':'remote','fragment':3}}},\
+{'id':2,'placement':'SOURCE','output':{'kind':'HASH','columns':[0]},'root':@t},\
+{'id':3,'placement':'SOURCE','output':{'kind':'HASH','columns':[0]},'root':@u}]} \
+| k,x~1,a~\\N,b~;k,y~2,c~1,d~ | 0|k,x~1,a~\\N,b~2,c~1,d~|
+any | {'version':1,'output':['k','x','l','y'],'tables':[$k],'fragments':[\
+{'id':0,'placement':'SINGLE','root':{'id':1,'op':'join','kind':'INNER','on':[[0,0]],'left':{'id':2,'op':'union','left':\
+{'id':3,'op':'union','left':@t,'right':@v},'right':{'id':4,'op':'remote','fragment':1}},'right':{'id':5,'op':'union','left':\
+{'id':6,'op':'remote','fragment':2},'right':{'id':10,'op':'values','types':['bigint','varchar'],'rows':[['5','z']]}}}},\
+{'id':1,'placement':'SOURCE','output':{'kind':'SINGLE'},'root':@u},\
+{'id':2,'placement':'SOURCE','output':{'kind':'SINGLE'},'root':{'id':11,'op':'scan','table':'u','columns':['k','y']}}]} \
+| k,x~1,a~5,b~;k,y~1,p~2,q~ | 0|k,x,l,y~1,a,1,p~1,a,1,p~5,b,5,z~5,b,5,z~1,p,1,p~2,q,2,q~|
+any | {'version':1,'output':['k','n'],'tables':[$k],'fragments':[\
+{'id':0,'placement':'SINGLE','root':{'id':1,'op':'remote','fragment':1}},\
+{'id':1,'placement':'HASH','output':{'kind':'SINGLE'},'root':{'id':2,'op':'aggregate','step':'SINGLE','keys':[0],\
+'calls':[{'name':'count_all'}],'input':{'id':3,'op':'join','kind':'INNER','on':[[0,0]],'left':\
+{'id':4,'op':'remote','fragment':2},'right':{'id':5,'op':'remote','fragment':3}}}},\
+{'id':2,'placement':'SOURCE','output':{'kind':'HASH','columns':[0]},'root':@t},\
+{'id':3,'placement':'SOURCE','output':{'kind':'BROADCAST'},'root':@u}]} \
+| k,x~1,a~1,b~2,c~3,d~;k,y~1,p~2,q~2,r~ | 0|k,n~1,2~2,2~|
+sorted | {'version':1,'output':['n'],'tables':[$a],'fragments':[\
+{'id':0,'placement':'SINGLE','root':{'id':1,'op':'remote','fragment':1}},\
+{'id':1,'placement':'SINGLE','output':{'kind':'SINGLE'},'root':{'id':2,'op':'aggregate','step':'SINGLE','keys':[],\
+'calls':[{'name':'count_all'}],'input':{'id':3,'op':'remote','fragment':2}}},\
+{'id':2,'placement':'SOURCE','output':{'kind':'SINGLE'},'root':@a}]} | a~3~1~2~ | 0|n~3~|
+sorted | {'version':1,'output':['q'],'tables':[$a],'fragments':[\
+{'id':0,'placement':'SINGLE','root':{'id':1,'op':'remote','fragment':1}},\
+{'id':1,'placement':'SOURCE','output':{'kind':'SINGLE'},'root':{'id':3,'op':'project','columns':[{'call':'/','args':[\
+{'lit':'6','type':'bigint'},{'col':0}]}],'input':@a}}]} \
+| a~1~2~3~1~2~3~1~2~3~0~1~2~3~ | 6||trinorun: expression failed 2 at node 3~
 sorted | SUM | a~9223372036854775807~1~-5~ | 0|s~9223372036854775803~|
 sorted | SUM | a~9223372036854775807~1~ | 6||trinorun: expression failed 1 at node 1~
 sorted | SUM | a~ | 0|s~\\N~|
@@ -88,8 +115,9 @@ sorted | {'version':1,'output':['n'],'tables':[$k],'fragments':[\
 'input':{'id':4,'op':'union','left':@t,'right':@u}}}]} \
 | k,x~1,a~4,b~\\N,c~2,d~;k,y~1,p~4,a~\\N,r~3,s~ | 0|n~3~|";
 
-/// What stands in the cases for longer texts: the plan of a sum over all tasks, and the sides of a union.
-const LONG: [(&str, &str); 3] = [
+/// What stands in the cases for longer texts: plans of groups and of a sum, and the sides of a union.
+const LONG: [(&str, &str); 4] = [
+    ("GROUPED", GROUPED),
     (
         "SUM",
         "{'version':1,'output':['s'],'tables':[$a],'fragments':[\
@@ -119,6 +147,50 @@ fn couriers_change_no_answer(rt: HostRuntime) -> Result<(), Fail> {
     assert_eq!(rt; first_wrong_shape(&rt, &Thirds::new())?, ("", ""));
     Ok(())
 }
+
+#[test]
+fn picks_change_no_sum(rt: HostRuntime) -> Result<(), Fail> {
+    let plan = document_of(rt.alloc(), "SUM")?;
+    let given = Given {
+        words: "--plan p --tasks 3 --drivers 2 --split 1 --page 1 --replay 7 t=t",
+        plan: plan.as_str(),
+        rows: "a~1~2~3~4~5~6~7~",
+        read: 0,
+        write: 0,
+    };
+    let lists: [&[u32]; 4] = [&[], &[0, 0, 0, 0], &[9, 8, 7, 6, 5], &[1, 2, 0, 3, 3, 3]];
+    for picks in lists {
+        assert!(rt; gives(&rt, &given, picks, "s~28~")?);
+    }
+    Ok(())
+}
+
+#[test]
+fn each_edge_asks_its_courier(rt: HostRuntime) -> Result<(), Fail> {
+    let cells = cells_of(rt.alloc(), 4)?;
+    let courier = Telling::new(rt.alloc(), cells.as_slice());
+    let plan = document_of(rt.alloc(), GROUPED)?;
+    let given = Given {
+        words: "--plan p --tasks 2 --drivers 2 --replay 7 t=t",
+        plan: plan.as_str(),
+        rows: "g,v~x,1~y,2~x,3~z,4~",
+        read: 0,
+        write: 0,
+    };
+    let told = "0|g,n,s~x,2,4~y,1,2~z,1,4~|";
+    assert!(rt; is_told_by(&rt, &courier, &given, "any", told)?);
+    assert!(rt; were_asked(cells.as_slice(), 3, 7));
+    Ok(())
+}
+
+/// Groups over a hash exchange.
+const GROUPED: &str = "\
+{'version':1,'output':['g','n','s'],'tables':[$p],'fragments':[\
+{'id':0,'placement':'SINGLE','root':{'id':1,'op':'remote','fragment':1}},\
+{'id':1,'placement':'HASH','output':{'kind':'SINGLE'},'root':{'id':2,'op':'aggregate','step':'FINAL','input':\
+{'id':3,'op':'remote','fragment':2}}},\
+{'id':2,'placement':'SOURCE','output':{'kind':'HASH','columns':[0]},'root':{'id':4,'op':'aggregate','step':'PARTIAL',\
+'keys':[0],'calls':[{'name':'count_all'},{'name':'sum','column':1}],'input':@p}}]}";
 
 /// The values of a scan, over an edge, in order.
 const SORTED: &str = "\

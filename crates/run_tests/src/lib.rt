@@ -9,7 +9,7 @@
 //! - `answers`: runs of `run`
 //! - `plain`: texts under given words and picks, and those of the plain evaluator
 //! - `scans`, `orders`, `aggregates`, `joins`: the cases of one fragment
-//! - `fragments`: the cases of several, and `couriers`: a courier for them
+//! - `fragments`: the cases of several, and `couriers`: couriers for them
 #![tactic(auto)]
 
 #[cfg(test)]

@@ -18,7 +18,8 @@ use Rattle.accumulators.specs.Groups.{Group, empty_group}
 use Rattle.accumulators.specs.Limits.{is_partial}
 use Rattle.aggregation.specs.Finals.{FinalState, IsFinal, layout_in}
 use Rattle.aggregation.specs.Giving.{AllFit, FitsTypes, GroupsState, no_groups}
-use Rattle.aggregation.specs.Layouts.{Layout, is_layout_row, layout_types}
+use Rattle.aggregation.specs.Layouts.{Layout, is_layout_row}
+use Rattle.plan_trees.specs.Layouts.{layout_types}
 use Rattle.aggregation.proofs.FitLemmas.{RowFits}
 
 pub fits-long : (types : List SqlType) (row : List Value) → RowFits types row → length row ≡ length types

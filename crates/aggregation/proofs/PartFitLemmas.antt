@@ -29,7 +29,7 @@ use Rattle.bag_laws.specs.Pieces.{all_merged, behind_key, finals_of, front_keys,
 use Rattle.accumulators.specs.Columns.{column_of}
 use Rattle.accumulators.specs.Limits.{are_allowed, can_add, is_short}
 use Rattle.aggregation.specs.Giving.{AllFit}
-use Rattle.aggregation.specs.Layouts.{call_layout, layout_types, sum_layout}
+use Rattle.plan_trees.specs.Layouts.{call_layout, layout_types, sum_layout}
 use Rattle.aggregation.proofs.FitLemmas.{Fits, RowFits, append-fits, distinct-all, few-fits, first-fits, grouped-fits, kept-fit, keys-fit, next-fits, null-fits, one-fits, sum_value-fits, values-fit}
 
 -- the first columns, and those behind them

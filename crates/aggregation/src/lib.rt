@@ -6,18 +6,17 @@
 //!
 //! - `single`: `SingleAgg` takes rows and gives the results of their groups
 //! - `partial`, `final_agg`: the two halves. `PartialAgg` takes rows and gives the keys and partial rows of their
-//!   groups; `FinalAgg` takes such rows, of any pieces of the groups, and gives the results. `specs/Layouts.antt`
-//!   has the layout of the rows between them
+//!   groups; `FinalAgg` takes such rows, of any pieces of the groups, and gives the results. The rows between them have
+//!   the layout of `plan_trees` (`Layouts.antt`)
 //! - `group_rows`: `GroupRows`, what the operators share: groups, and the rows left of them once the output has
 //!   begun
 //! - `table`: `GroupTable`, the groups, found by their keys
 //! - `left`: `LeftRows`, rows that are still to be given, in pages
-//! - `layouts`: the types of partial rows
+//! - `page_row`: `PageRow`, a row of a page as cells
 #![tactic(auto)]
 
 mod final_agg;
 mod group_rows;
-mod layouts;
 mod left;
 mod page_row;
 mod partial;

@@ -9,11 +9,10 @@ ghost use Rattle.accumulators.specs.Limits.{are_allowed};
 ghost use Rattle.aggregation.specs.Giving.{FitsTypes};
 
 use crate::group_rows::GroupRows;
-use crate::layouts::append_part_types;
 use blocked::{Bells, BlockedOn};
 use col_pages::Page;
 use operator_core::{OpFault, Operator};
-use plan_trees::append_key_types;
+use plan_trees::partial_types;
 use sql_values::{Call, Memory, SqlType, Types};
 use std::alloc::Global;
 use std::sync::Wait;
@@ -52,9 +51,7 @@ impl PartialAgg {
         ensures learns { IfOk result
             (λ op. (m : _) → ⟦<PartialAgg as Operator>⟧.may_learn op m → ⊥) }
     {
-        let mut given = Types::new(alloc);
-        append_key_types(&mut given, &types, &keys)?;
-        append_part_types(&mut given, &types, &calls)?;
+        let given = partial_types(alloc, &types, &keys, &calls)?;
         let groups = GroupRows::new(alloc, keys, calls, types, given.as_slice(), page)?;
         Ok(PartialAgg { groups })
     }

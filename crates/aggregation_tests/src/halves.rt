@@ -1,7 +1,7 @@
 //! Groups that were worked out elsewhere, through whole aggregates and through both halves.
 ghost use Rattle.std.specs.Prelude.{◌≡◌, ◌<◌, ◌+◌, [], ◌∷◌, length, IsTrue};
 ghost use Rattle.accumulators.specs.Limits.{are_allowed};
-ghost use Rattle.aggregation.specs.Layouts.{layout_types};
+ghost use Rattle.plan_trees.specs.Layouts.{layout_types};
 
 use crate::page_texts::{TYPES, are_rows, copied, drained, page, show, take_in};
 use crate::python_groups::{GROUPS, ROWS};

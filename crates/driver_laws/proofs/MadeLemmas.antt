@@ -21,7 +21,8 @@ use Rattle.plan_runs.specs.RunPlans.{RunPlan, tree_of_run, scan, values, remote,
 use Rattle.stage_meanings.specs.Meanings.{Means}
 use Rattle.stage_meanings.specs.Pipelines.{NodeStage, at_node}
 use Rattle.plan_nets.specs.Lookups.{IsSourceOf, rows_known}
-use Rattle.plan_nets.specs.Operators.{EndsIn, LooksUp, NoOperator, Operate, Probes, partial_types, types_of_source}
+use Rattle.plan_trees.specs.Layouts.{partial_types}
+use Rattle.plan_nets.specs.Operators.{EndsIn, LooksUp, NoOperator, Operate, Probes, types_of_source}
 use Rattle.plan_nets.proofs.LookupLemmas.{probe_probes}
 use Rattle.plan_nets.proofs.OperatorLemmas.{came_before, done_is, one_more, stood_at}
 use Rattle.plan_nets.proofs.ProbeLemmas.{looks_up_rows}

@@ -12,7 +12,8 @@ use Rattle.plan_runs.specs.Nets as stage
 use Rattle.plan_runs.specs.RunPlans.{RunPlan, tree_of_run, scan, values, remote, filter, project, join, aggregate, aggregate_parts, sort, topn, topn_parts, limit, limit_parts, union}
 use Rattle.stage_meanings.specs.Pipelines.{NodeStage, at_node}
 use Rattle.plan_nets.specs.Lookups.{IsSourceOf, rows_known}
-use Rattle.plan_nets.specs.Operators.{EndsIn, NoOperator, partial_types}
+use Rattle.plan_trees.specs.Layouts.{partial_types}
+use Rattle.plan_nets.specs.Operators.{EndsIn, NoOperator}
 use Rattle.lane_laws.specs.Lanes.{Noted}
 use Rattle.driver_laws.specs.Cells.{Names}
 use Rattle.driver_laws.specs.Stages.{IsProbeOf, IsStageOf}

@@ -60,7 +60,6 @@ mod stage;
 mod step;
 mod target;
 mod turn;
-mod types;
 
 pub use build::BuildTarget;
 pub use driver::Driver;

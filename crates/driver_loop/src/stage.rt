@@ -4,12 +4,12 @@ ghost use Rattle.std.specs.List.{list_all};
 ghost use Rattle.aggregation.specs.Finals.{layout_in};
 ghost use Rattle.aggregation.specs.Layouts.{is_layout_row};
 
-use crate::types::are_same;
 use aggregation::{FinalAgg, PartialAgg, SingleAgg};
 use blocked::{Bells, BlockedOn};
 use col_pages::Page;
 use hash_join::ProbeOp;
 use operator_core::{OpFault, Operator};
+use plan_trees::are_same;
 use row_ops::{FilterProject, LimitOp};
 use sql_values::{Memory, Types};
 use stage_moves::TypedOperator;

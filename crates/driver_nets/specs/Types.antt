@@ -5,7 +5,7 @@ use Rattle.sql_functions.specs.CallTypes.{type_at}
 use Rattle.sql_exprs.specs.Meaning.{kind_of}
 use Rattle.plan_trees.specs.TreeTypes.{call_kind}
 use Rattle.plan_layout.specs.Pipes.{PipeForm, SourceForm, StepForm, TargetForm, table, rows, sides, fragment, edge, filter, project, probe, aggregate, partial, final, sort, top_n, limit, result, cell, side, readers, takers}
-use Rattle.plan_nets.specs.Operators.{partial_types}
+use Rattle.plan_trees.specs.Layouts.{partial_types}
 
 -- of the rows of its source, of those that come to its last step, of those that come to the last step of the pipe whose
 -- rows it reads, and of those that it gives

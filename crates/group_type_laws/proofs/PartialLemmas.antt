@@ -20,7 +20,7 @@ use Rattle.relations.proofs.WidthLemmas.{All-each}
 use Rattle.bag_laws.specs.Pieces.{partials_of}
 use Rattle.accumulators.specs.Columns.{column_of}
 use Rattle.accumulators.specs.Limits.{are_allowed, can_add, is_short}
-use Rattle.aggregation.specs.Layouts.{call_layout, layout_types, sum_layout}
+use Rattle.plan_trees.specs.Layouts.{call_layout, layout_types, sum_layout}
 use Rattle.group_type_laws.proofs.TypeLemmas.{AreOf, IsOf, append-are_of, next-are_of, null-is_of, nulls-are_of}
 use Rattle.group_type_laws.proofs.DigitLemmas.{decimal-is_of, full_digits}
 use Rattle.group_type_laws.proofs.SumLemmas.{AllOf, AllPresent, total-is_of}

@@ -12,7 +12,8 @@ ghost use Rattle.plan_trees.specs.TreeTypes.{call_kind};
 ghost use Rattle.bag_laws.specs.Pieces.{partials_of};
 ghost use Rattle.accumulators.specs.Columns.{kind_in};
 ghost use Rattle.accumulators.specs.Limits.{are_allowed, is_partial, takes_row};
-ghost use Rattle.aggregation.specs.Layouts.{call_layout, is_layout_row, layout_types};
+ghost use Rattle.aggregation.specs.Layouts.{is_layout_row};
+ghost use Rattle.plan_trees.specs.Layouts.{call_layout, layout_types};
 
 use sql_values::{Call, Row, RowList, SqlType};
 

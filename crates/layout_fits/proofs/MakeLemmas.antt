@@ -7,7 +7,7 @@ use Rattle.accumulators.specs.Limits.{are_allowed}
 use Rattle.plan_trees.specs.TreeTypes.{types_of}
 use Rattle.plan_runs.specs.RunPlans.{RunPlan, tree_of_run}
 use Rattle.plan_runs.specs.RunPlans as plan
-use Rattle.plan_nets.specs.Operators.{partial_types}
+use Rattle.plan_trees.specs.Layouts.{partial_types}
 use Rattle.plan_layout.specs.Pipes.{PipeForm, SourceForm, StepForm}
 use Rattle.plan_layout.specs.Pipes as form
 use Rattle.tree_evaluator.specs.Fits.{FitsTables}

@@ -6,7 +6,8 @@ use Rattle.plan_runs.specs.Nets as stage
 use Rattle.plan_runs.specs.RunPlans.{RunPlan, tree_of_run}
 use Rattle.plan_runs.specs.RunPlans as plan
 use Rattle.stage_meanings.specs.Pipelines.{NodeStage, at_node}
-use Rattle.plan_nets.specs.Operators.{NoOperator, partial_types}
+use Rattle.plan_trees.specs.Layouts.{partial_types}
+use Rattle.plan_nets.specs.Operators.{NoOperator}
 use Rattle.driver_loop.specs.declared.stage.Stage.{Stage}
 use Rattle.driver_loop.specs.contracts.stage.StageOperator.TheImpl.{ghosts}
 use Rattle.driver_laws.specs.Made.{AreMadeFor, Behind}

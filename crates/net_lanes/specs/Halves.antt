@@ -5,7 +5,7 @@ use Rattle.sql_values.specs.declared.relational.Call.{Call}
 use Rattle.sql_values.specs.declared.order.KeySpec.{KeySpec}
 use Rattle.plan_runs.specs.Nets.{Stage}
 use Rattle.plan_runs.specs.Nets as stage
-use Rattle.plan_nets.specs.Operators.{partial_types}
+use Rattle.plan_trees.specs.Layouts.{partial_types}
 use Rattle.plan_layout.specs.Pipes.{StepForm}
 use Rattle.plan_layout.specs.Pipes as step
 

@@ -7,7 +7,7 @@ use Rattle.sql_values.specs.declared.relational.Call.{Call}
 use Rattle.sql_values.specs.declared.relational.JoinKind.{JoinKind}
 use Rattle.hash_join.specs.Cells.{CellState}
 use Rattle.plan_runs.specs.Nets as stage
-use Rattle.plan_nets.specs.Operators.{partial_types}
+use Rattle.plan_trees.specs.Layouts.{partial_types}
 use Rattle.plan_trees.specs.declared.tree.Pair.{Pair}
 use Rattle.plan_trees.specs.TreeForms.{pair_view}
 use Rattle.stage_meanings.specs.Pipelines.{at_node}

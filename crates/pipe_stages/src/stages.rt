@@ -10,8 +10,9 @@ use crate::cells::JoinCells;
 use crate::step::stage_of;
 use driver_loop::Stage;
 use operator_core::Operator;
-use pipe_types::{PipeTypes, copy_types, halved_at, taken_at, types_after};
+use pipe_types::{PipeTypes, halved_at, taken_at, types_after};
 use plan_layout::PipeStep;
+use plan_trees::copy_types;
 use sql_values::Memory;
 use std::alloc::Global;
 

@@ -4,8 +4,9 @@ ghost use Rattle.plan_layout.specs.Pipes.{PipeForm, pipe_view, source_view, targ
 ghost use Rattle.driver_nets.specs.Types.{AreGiven, AreHalved, TakesTypes, gives_to};
 ghost use Rattle.pipe_types.specs.Tables.{types_in};
 
-use crate::table::{PipeTypes, are_same, before_at, given_at, halved_at, taken_at};
+use crate::table::{PipeTypes, before_at, given_at, halved_at, taken_at};
 use plan_layout::{Pipe, PipeSource, PipeTarget};
+use plan_trees::are_same;
 
 /// Whether the rows go to the pipe at a place: to the source of a union, or to that which reads the fragment.
 pub(crate) fn gives_to(at: usize, target: PipeTarget<'_>) -> bool

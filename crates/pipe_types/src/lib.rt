@@ -5,7 +5,6 @@
 //! not fit together is answered with want of memory.
 //!
 //! - `table`: `PipeTypes`, and the types of a pipe by its place (`specs/Tables.antt`)
-//! - `halves`: the types of rows between the halves of an aggregate
 //! - `steps`: `types_after`, the types behind a step
 //! - `run`: the types behind all steps of a pipe
 //! - `agree`: whether those that give to a pipe give what it takes
@@ -13,7 +12,6 @@
 #![tactic(auto)]
 
 mod agree;
-mod halves;
 mod pipes;
 mod run;
 mod steps;
@@ -21,4 +19,4 @@ mod table;
 
 pub use pipes::types_of_pipes;
 pub use steps::types_after;
-pub use table::{PipeTypes, copy_types, given_at, halved_at, taken_at};
+pub use table::{PipeTypes, given_at, halved_at, taken_at};

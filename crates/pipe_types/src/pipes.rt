@@ -6,8 +6,9 @@ ghost use Rattle.pipe_types.specs.Tables.{types_in};
 
 use crate::agree::{gives_to, takes_types};
 use crate::run::last_types;
-use crate::table::{PipeTypes, are_same, before_at, copy_types, given_at, halved_at, taken_at};
+use crate::table::{PipeTypes, before_at, given_at, halved_at, taken_at};
 use plan_layout::{Pipe, PipeSource};
+use plan_trees::{are_same, copy_types};
 use sql_values::{Memory, SqlType, Types};
 use std::alloc::Global;
 

@@ -5,8 +5,9 @@ ghost use Rattle.driver_nets.specs.Types.{types_through};
 ghost use Rattle.pipe_types.specs.Tables.{types_in};
 
 use crate::steps::types_after;
-use crate::table::{PipeTypes, copy_types};
+use crate::table::PipeTypes;
 use plan_layout::PipeStep;
+use plan_trees::copy_types;
 use sql_values::{Memory, SqlType, Types};
 use std::alloc::Global;
 

@@ -8,10 +8,9 @@ ghost use Rattle.plan_layout.specs.Pipes.{step_view};
 ghost use Rattle.driver_nets.specs.Types.{types_after};
 ghost use Rattle.pipe_types.specs.Tables.{types_in};
 
-use crate::halves::partial_types;
-use crate::table::{PipeTypes, copy_types, given_at};
+use crate::table::{PipeTypes, given_at};
 use plan_layout::PipeStep;
-use plan_trees::{append_call_types, append_key_types, append_types};
+use plan_trees::{append_call_types, append_key_types, append_types, copy_types, partial_types};
 use sql_exprs::{Expr, kind_of};
 use sql_values::{Call, Memory, SqlType, Types};
 use std::alloc::Global;

@@ -1,8 +1,8 @@
 //! The types of pipes, by their places.
-ghost use Rattle.std.specs.Prelude.{◌≡◌, IfOk, IsTrue, ◌↔◌};
+ghost use Rattle.std.specs.Prelude.{◌≡◌};
 ghost use Rattle.pipe_types.specs.Tables.{types_in};
 
-use sql_values::{Memory, SqlType, Types};
+use sql_values::{SqlType, Types};
 use std::alloc::Global;
 
 /// The types of the rows of a pipe.
@@ -68,17 +68,4 @@ pub fn halved_at(table: &[PipeTypes], at: usize) -> &[SqlType]
         Some(types) => types.halved.as_slice(),
         None => &[],
     }
-}
-
-pub fn copy_types(alloc: Global, types: &[SqlType]) -> Result<Types, Memory>
-    ensures { IfOk result (λ copy. copy ≡ types.now) }
-{
-    Ok(Types::of(Vec::from_slice(alloc, types)?))
-}
-
-/// Whether the lists are one and the same.
-pub(crate) fn are_same(types: &[SqlType], others: &[SqlType]) -> bool
-    ensures { IsTrue result ↔ (types.now ≡ others.now) }
-{
-    types == others
 }

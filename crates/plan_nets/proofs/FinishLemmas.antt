@@ -19,7 +19,8 @@ use Rattle.stage_meanings.specs.Pipelines.{NodeStage, at_node, stages_of}
 use Rattle.stage_meanings.proofs.MeaningLemmas.{all_make, made-append, stages-append}
 use Rattle.plan_nets.specs.Trees.{stages_over}
 use Rattle.plan_nets.specs.Stopped.{AgreeWith}
-use Rattle.plan_nets.specs.Operators.{EndsIn, LooksUp, NoOperator, Operate, partial_types, types_of_source}
+use Rattle.plan_trees.specs.Layouts.{partial_types}
+use Rattle.plan_nets.specs.Operators.{EndsIn, LooksUp, NoOperator, Operate, types_of_source}
 use Rattle.plan_nets.proofs.OperatorLemmas.{Before, Made, came_before, done_is, first_agrees, gave_fits, made_behind}
 
 module _ {S : Type 0} (g : Ghosts S) (laws : IsLawful g) where

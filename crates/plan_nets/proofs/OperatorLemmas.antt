@@ -24,7 +24,8 @@ use Rattle.stage_meanings.specs.Pipelines.{FailsOn, NodeStage, at_node, stages_o
 use Rattle.stage_meanings.proofs.MeaningLemmas.{all_go_on, all_make, comes, made-append, stages-append}
 use Rattle.plan_nets.specs.Trees.{stages_over}
 use Rattle.plan_nets.specs.Stopped.{AgreeWith, FailsAt, FailsOnAll, FailsOver, IsOpen}
-use Rattle.plan_nets.specs.Operators.{AreKnown, EndsIn, LooksUp, NoOperator, Operate, partial_types, types_of_source}
+use Rattle.plan_trees.specs.Layouts.{partial_types}
+use Rattle.plan_nets.specs.Operators.{AreKnown, EndsIn, LooksUp, NoOperator, Operate, types_of_source}
 use Rattle.plan_nets.proofs.SnocLemmas.{Chain-snoc, Linked-snoc, Place, Turns-snoc, last-snoc, last_or_before, only_one}
 
 -- the first build of those that agree

@@ -1,28 +1,22 @@
 -- The operators of a driver, one for each stage of a node's pipeline.
-use Rattle.std.specs.Prelude.{◌≡◌, ℕ, Bool, List, [], ◌∷◌, ◌++◌, Option, Some, None, false, length, map, true}
+use Rattle.std.specs.Prelude.{◌≡◌, ℕ, Bool, List, [], ◌∷◌, ◌++◌, Option, Some, None, false, length, true}
 use Rattle.sql_values.specs.declared.fail.Fail.{Fail}
 use Rattle.sql_values.specs.declared.types.SqlType.{SqlType}
-use Rattle.sql_values.specs.declared.relational.Call.{Call}
 use Rattle.sql_values.specs.declared.relational.JoinKind.{JoinKind}
-use Rattle.sql_functions.specs.CallTypes.{type_at}
 use Rattle.relations.specs.Joins.{join_of}
 use Rattle.page_judges.specs.Typed.{AllFit}
 use Rattle.operator_core.specs.declared.operator.Operator.{Ghosts}
 use Rattle.operator_core.specs.Rows.{Row}
 use Rattle.operator_core.specs.Stages.{Steps}
-use Rattle.aggregation.specs.Layouts.{layout_types}
 use Rattle.bag_laws.specs.Weights.{SameWeights}
 use Rattle.plan_trees.specs.Allowed.{width_of}
+use Rattle.plan_trees.specs.Layouts.{partial_types}
 use Rattle.plan_trees.specs.TreeTypes.{types_of}
 use Rattle.plan_runs.specs.Nets as stage
 use Rattle.plan_runs.specs.RunPlans.{RunPlan, tree_of_run, scan, values, remote, filter, project, join, aggregate, aggregate_parts, sort, topn, topn_parts, limit, limit_parts, union}
 use Rattle.plan_runs.specs.Stops.{CanGoOn}
 use Rattle.stage_meanings.specs.Meanings.{Means}
 use Rattle.stage_meanings.specs.Pipelines.{NodeStage, at_node, stages_of}
-
--- the types of keys and partial rows of groups of rows of these types
-abbrev pub partial_types : List SqlType → List ℕ → List Call → List SqlType
-partial_types types keys calls = layout_types (map (type_at types) keys) types calls
 
 -- the types of the rows of the source of the node's pipeline: between halves, those of the first half
 abbrev pub types_of_source : RunPlan → List SqlType

@@ -5,3 +5,4 @@ pub mod Allowed
 pub mod Stopped
 pub mod Laws
 pub mod Widths
+pub mod Layouts

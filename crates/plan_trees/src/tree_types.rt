@@ -6,6 +6,7 @@ ghost use Rattle.plan_trees.specs.TreeTypes.{call_kind, sum_kind, types_of};
 ghost use Rattle.plan_trees.specs.TreeForms.{tree_view};
 
 use crate::tree::Tree;
+use crate::type_lists::{append_types, copy_types, type_at};
 use sql_exprs::{Expr, kind_of};
 use sql_values::{Call, Memory, SqlType, Types};
 use std::alloc::Global;
@@ -46,21 +47,6 @@ pub fn types_of_tree(alloc: Global, tree: &Tree) -> Result<Types, Memory>
         Tree::Limit { input, .. } => types_of_tree(alloc, input),
         Tree::Union { left, .. } => types_of_tree(alloc, left),
     }
-}
-
-fn copy_types(alloc: Global, types: &[SqlType]) -> Result<Types, Memory>
-    ensures { IfOk result (λ ts. ts ≡ types.now) }
-{
-    Ok(Types::of(Vec::from_slice(alloc, types)?))
-}
-
-pub fn append_types(types: &mut Types, more: &[SqlType]) -> Result<(), Memory>
-    ensures { OnOk result (types.new ≡ types.old ++ more.now) }
-{
-    for kind in more {
-        types.push(*kind)?;
-    }
-    Ok(())
 }
 
 /// The types of expressions over columns of these types.
@@ -113,15 +99,5 @@ fn sum_kind(kind: SqlType) -> SqlType
     match kind {
         SqlType::Decimal { s, .. } => SqlType::Decimal { p: 38, s },
         _ => SqlType::Bigint,
-    }
-}
-
-/// The type of the column at a place: boolean where there is none.
-fn type_at(types: &[SqlType], column: u32) -> SqlType
-    ensures { result ≡ type_at types.now column }
-{
-    match types.get(column as usize) {
-        Some(kind) => *kind,
-        None => SqlType::Boolean,
     }
 }

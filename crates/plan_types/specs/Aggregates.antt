@@ -1,14 +1,13 @@
 -- Aggregates: what their calls take, and the columns that they give.
-use Rattle.std.specs.Prelude.{ℕ, List, [], ◌∷◌, ◌++◌, length, map, Bool, true, false, not, ◌&&◌, ◌||◌, nat_le, nat_lt, Some}
-use Rattle.std.specs.List.{flat_map}
+use Rattle.std.specs.Prelude.{ℕ, List, ◌++◌, length, map, Bool, true, false, not, ◌&&◌, ◌||◌, nat_le, nat_lt, Some}
 use Rattle.sql_values.specs.declared.types.SqlType.{SqlType}
-use Rattle.sql_values.specs.declared.types.SqlType.TheVariants.{Bigint, Decimal}
+use Rattle.sql_values.specs.declared.types.SqlType.TheVariants.{Decimal}
 use Rattle.sql_values.specs.declared.relational.Call.{Call}
 use Rattle.sql_values.specs.declared.relational.Call.TheVariants.{CountAll, Count, Sum, Min, Max, Avg}
-use Rattle.sql_values.specs.Texts.{scale_of}
 use Rattle.sql_functions.specs.CallTypes.{is_bigint, type_at}
 use Rattle.plan_docs.specs.declared.node.NodeStep.{NodeStep}
 use Rattle.plan_docs.specs.declared.node.NodeStep.TheVariants.{Single, Partial}
+use Rattle.plan_trees.specs.Layouts.{partial_types}
 use Rattle.plan_trees.specs.TreeTypes.{call_kind}
 use Rattle.plan_types.specs.declared.row_types.RowTypes.{RowTypes}
 use Rattle.plan_types.specs.RowTypes.{plain}
@@ -39,22 +38,6 @@ takes_not types call = not (takes types call)
 abbrev pub whole_types : List SqlType → List ℕ → List Call → List SqlType
 whole_types types keys calls = map (type_at types) keys ++ map (call_kind types) calls
 
--- a sum on the way, of as many digits as there can be
-abbrev pub sum_layout : SqlType → SqlType
-sum_layout kind = Decimal 38 (scale_of kind)
-
-abbrev pub call_layout : List SqlType → Call → List SqlType
-call_layout types CountAll = []
-call_layout types (Count column) = Bigint ∷ []
-call_layout types (Sum column) = sum_layout (type_at types column) ∷ []
-call_layout types (Min column) = type_at types column ∷ []
-call_layout types (Max column) = type_at types column ∷ []
-call_layout types (Avg column) = sum_layout (type_at types column) ∷ Bigint ∷ []
-
--- between the halves of an aggregate: the keys, the number of rows, then what each call keeps
-abbrev pub layout_types : List SqlType → List ℕ → List Call → List SqlType
-layout_types types keys calls = (map (type_at types) keys ++ Decimal 38 0 ∷ []) ++ flat_map (call_layout types) calls
-
 abbrev pub step_types : NodeStep → List SqlType → List ℕ → List Call → RowTypes
 step_types Single types keys calls = plain (whole_types types keys calls)
-step_types Partial types keys calls = record { columns = layout_types types keys calls; whole = Some (whole_types types keys calls) }
+step_types Partial types keys calls = record { columns = partial_types types keys calls; whole = Some (whole_types types keys calls) }

@@ -1,11 +1,10 @@
-ghost use Rattle.std.specs.Prelude.{◌≡◌, ◌++◌, IfOk, OnOk};
-ghost use Rattle.std.specs.List.{flat_map, position_from};
-ghost use Rattle.sql_functions.specs.CallTypes.{type_at};
-ghost use Rattle.plan_types.specs.Aggregates.{call_layout, has_column, is_short, is_summed, layout_types, step_types, sum_layout, takes, takes_not, whole_types};
+ghost use Rattle.std.specs.Prelude.{◌≡◌, IfOk};
+ghost use Rattle.std.specs.List.{position_from};
+ghost use Rattle.plan_types.specs.Aggregates.{has_column, is_short, is_summed, step_types, takes, takes_not, whole_types};
 
 use crate::row_types::{RowTypes, plain};
 use plan_docs::NodeStep;
-use plan_trees::{append_call_types, append_key_types};
+use plan_trees::{append_call_types, append_key_types, partial_types, type_at};
 use sql_values::{Call, Memory, SqlType, Types};
 use std::alloc::Global;
 
@@ -22,16 +21,6 @@ fn has_column(types: &[SqlType], column: u32) -> bool
     ensures { result ≡ has_column types.now column }
 {
     (column as usize) < types.len()
-}
-
-/// The type of the column at a place: boolean where there is none.
-fn type_at(types: &[SqlType], column: u32) -> SqlType
-    ensures { result ≡ type_at types.now column }
-{
-    match types.get(column as usize) {
-        Some(kind) => *kind,
-        None => SqlType::Boolean,
-    }
 }
 
 /// Whether the call has an argument, where it takes one, and of a type that it takes.
@@ -80,7 +69,7 @@ pub fn step_types(
     match step {
         NodeStep::Single => Ok(plain(whole)),
         NodeStep::Partial => Ok(RowTypes {
-            columns: layout_types(alloc, types, keys, calls)?,
+            columns: partial_types(alloc, types, keys, calls)?,
             whole: Some(whole),
         }),
     }
@@ -98,55 +87,4 @@ fn whole_types(
     append_key_types(&mut kinds, types, keys)?;
     append_call_types(&mut kinds, types, calls)?;
     Ok(kinds)
-}
-
-fn layout_types(
-    alloc: Global,
-    types: &[SqlType],
-    keys: &[u32],
-    calls: &[Call],
-) -> Result<Types, Memory>
-    ensures { IfOk result (λ ts. ts ≡ layout_types types.now keys.now calls.now) }
-{
-    let mut kinds = Types::new(alloc);
-    append_key_types(&mut kinds, types, keys)?;
-    kinds.push(SqlType::Decimal { p: 38, s: 0 })?;
-    append_layouts(&mut kinds, types, calls)?;
-    Ok(kinds)
-}
-
-fn append_layouts(kinds: &mut Types, types: &[SqlType], calls: &[Call]) -> Result<(), Memory>
-    ensures { OnOk result (kinds.new ≡ kinds.old ++ flat_map (call_layout types.now) calls.now) }
-{
-    for call in calls {
-        append_layout(kinds, types, *call)?;
-    }
-    Ok(())
-}
-
-/// Appends what a call keeps between the halves of an aggregate.
-fn append_layout(kinds: &mut Types, types: &[SqlType], call: Call) -> Result<(), Memory>
-    ensures { OnOk result (kinds.new ≡ kinds.old ++ call_layout types.now call) }
-{
-    match call {
-        Call::CountAll => {}
-        Call::Count(_) => kinds.push(SqlType::Bigint)?,
-        Call::Sum(column) => kinds.push(sum_layout(type_at(types, column)))?,
-        Call::Min(column) => kinds.push(type_at(types, column))?,
-        Call::Max(column) => kinds.push(type_at(types, column))?,
-        Call::Avg(column) => {
-            kinds.push(sum_layout(type_at(types, column)))?;
-            kinds.push(SqlType::Bigint)?;
-        }
-    }
-    Ok(())
-}
-
-fn sum_layout(kind: SqlType) -> SqlType
-    ensures { result ≡ sum_layout kind }
-{
-    match kind {
-        SqlType::Decimal { s, .. } => SqlType::Decimal { p: 38, s },
-        _ => SqlType::Decimal { p: 38, s: 0 },
-    }
 }

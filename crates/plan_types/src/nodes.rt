@@ -6,9 +6,10 @@ ghost use Rattle.plan_types.specs.Nodes.{node_types, read_from};
 use crate::operators::{
     aggregate_types, filter_types, join_types, project_types, sort_types, union_types, values_types,
 };
-use crate::row_types::{RowTypes, copy_types, plain, whole_of};
+use crate::row_types::{RowTypes, plain, whole_of};
 use plan_docs::Node;
 use plan_places::{Key, Step, then};
+use plan_trees::copy_types;
 use sql_exprs::Misfit;
 use sql_values::{Memory, Types};
 use std::alloc::Global;

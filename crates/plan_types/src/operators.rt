@@ -9,10 +9,10 @@ ghost use Rattle.plan_types.specs.Operators.{aggregate_types, boolean_rows, colu
 use crate::aggregates::{first_untaken, step_types};
 use crate::cells::pass_cells;
 use crate::faults::{first_beyond, pass, refused_at};
-use crate::row_types::{RowTypes, copy_types, plain};
+use crate::row_types::{RowTypes, plain};
 use plan_docs::{NodeStep, Pair};
 use plan_places::{Key, Step, then};
-use plan_trees::append_types;
+use plan_trees::{append_types, copy_types};
 use sql_exprs::{Expr, Misfit, type_at};
 use sql_functions::same_type;
 use sql_values::{Call, KeySpec, RowList, SqlType, Types};

@@ -1,7 +1,8 @@
 ghost use Rattle.std.specs.Prelude.{◌≡◌, IfOk};
 ghost use Rattle.plan_types.specs.RowTypes.{plain, whole_of};
 
-use sql_values::{Memory, SqlType, Types};
+use plan_trees::copy_types;
+use sql_values::{Memory, Types};
 use std::alloc::Global;
 
 /// The types of the rows of a node.
@@ -30,12 +31,6 @@ pub fn whole_of(types: RowTypes) -> Types
         Some(whole) => whole,
         None => columns,
     }
-}
-
-pub fn copy_types(alloc: Global, types: &[SqlType]) -> Result<Types, Memory>
-    ensures { IfOk result (λ ts. ts ≡ types.now) }
-{
-    Ok(Types::of(Vec::from_slice(alloc, types)?))
 }
 
 impl RowTypes {

@@ -21,7 +21,7 @@ use Rattle.plan_runs.specs.Nets.{Makes, Stage, final, grouping, partial}
 use Rattle.plan_runs.proofs.GoOnLemmas.{goes_on-one}
 use Rattle.accumulators.specs.Limits.{are_allowed}
 use Rattle.aggregation.specs.Giving.{FitsTypes}
-use Rattle.aggregation.specs.Layouts.{layout_types}
+use Rattle.plan_trees.specs.Layouts.{layout_types}
 use Rattle.aggregation.proofs.FitLemmas.{groups-fit}
 use Rattle.aggregation.proofs.PartFitLemmas.{finals-fit, partials-fit}
 use Rattle.bag_laws.specs.Pieces.{finals_of, partials_of}

@@ -7,7 +7,7 @@ ghost use Rattle.row_ops.specs.RowJudges.{IsOf};
 ghost use Rattle.plan_trees.specs.TreeTypes.{call_kind};
 ghost use Rattle.plan_runs.specs.Nets.{final, grouping, partial};
 ghost use Rattle.accumulators.specs.Limits.{are_allowed};
-ghost use Rattle.aggregation.specs.Layouts.{layout_types};
+ghost use Rattle.plan_trees.specs.Layouts.{layout_types};
 ghost use Rattle.stage_meanings.specs.Meanings.{Means};
 ghost use Rattle.stage_meanings.specs.Pipelines.{at_node};
 

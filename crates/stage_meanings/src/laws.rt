@@ -16,7 +16,7 @@ ghost use Rattle.plan_trees.specs.Allowed.{strict};
 ghost use Rattle.plan_trees.specs.TreeTypes.{call_kind};
 ghost use Rattle.bag_laws.specs.Pieces.{finals_of};
 ghost use Rattle.accumulators.specs.Limits.{are_allowed};
-ghost use Rattle.aggregation.specs.Layouts.{layout_types};
+ghost use Rattle.plan_trees.specs.Layouts.{layout_types};
 ghost use Rattle.plan_runs.specs.Nets.{Chain as StageChain, filter, final, grouping, limit, partial, project, sort, topn};
 ghost use Rattle.plan_runs.specs.Stops.{CanGoOn};
 ghost use Rattle.stage_meanings.specs.Meanings.{ActsAs, AllMean, Means};

@@ -1,9 +1,10 @@
 //! The rows of a result, as one list.
-ghost use Rattle.std.specs.Prelude.{◌≡◌, ◌↔◌, ◌++◌, [], IfOk, IsTrue, OnOk};
+ghost use Rattle.std.specs.Prelude.{◌≡◌, ◌++◌, [], IfOk, OnOk};
 
 use col_pages::Page;
 use operator_core::HeldPages;
-use sql_values::{Memory, RowList, SqlType};
+use plan_trees::are_same;
+use sql_values::{Memory, RowList};
 use std::alloc::Global;
 use tree_evaluator::{NodeRows, list_of};
 
@@ -20,12 +21,6 @@ pub(crate) fn rows_of(alloc: Global, mut pages: HeldPages) -> Result<RowList, Me
         push_page(&mut rows, page)?;
     }
     list_of(alloc, rows)
-}
-
-fn are_same(types: &[SqlType], others: &[SqlType]) -> bool
-    ensures { IsTrue result ↔ (types.now ≡ others.now) }
-{
-    types == others
 }
 
 fn push_page(rows: &mut NodeRows, page: Page) -> Result<(), Memory>

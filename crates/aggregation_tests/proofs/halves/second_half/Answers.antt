@@ -1,7 +1,7 @@
 use Rattle.std.proofs.Common.{◌≡◌, List, ◌∙◌, subst, sym}
 use Rattle.sql_values.specs.declared.types.SqlType.{SqlType}
 use Rattle.aggregation.specs.Giving.{FitsTypes}
-use Rattle.aggregation.specs.Layouts.{layout_types}
+use Rattle.plan_trees.specs.Layouts.{layout_types}
 use Rattle.aggregation_tests.proofs.halves.second_half.Goals as goal
 
 pub loop-page-init : goal.loop-page-init

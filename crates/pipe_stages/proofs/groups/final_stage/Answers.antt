@@ -3,7 +3,7 @@ use Rattle.std.proofs.lemmas.List.{length-map}
 use Rattle.sql_values.specs.declared.types.SqlType.{SqlType}
 use Rattle.sql_values.specs.declared.relational.Call.{Call}
 use Rattle.sql_functions.specs.CallTypes.{type_at}
-use Rattle.aggregation.specs.Layouts.{layout_types}
+use Rattle.plan_trees.specs.Layouts.{layout_types}
 use Rattle.plan_trees.specs.TreeTypes.{call_kind}
 use Rattle.plan_runs.specs.Nets.{final}
 use Rattle.aggregation.specs.contracts.final_agg.FinalAggOperator.TheImpl.{ghosts}

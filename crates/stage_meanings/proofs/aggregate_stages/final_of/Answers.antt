@@ -1,5 +1,5 @@
 use Rattle.aggregation.specs.contracts.final_agg.FinalAggOperator.TheImpl.{ghosts}
-use Rattle.aggregation.specs.Layouts.{layout_types}
+use Rattle.plan_trees.specs.Layouts.{layout_types}
 use Rattle.stage_meanings.proofs.GroupLemmas.{finals-mean, if_all, if_made, of_types}
 use Rattle.stage_meanings.proofs.aggregate_stages.final_of.Goals as goal
 

@@ -4,7 +4,7 @@ use Rattle.relations.specs.Verdicts.{kept}
 use Rattle.bag_laws.specs.Pieces.{finals_of}
 use Rattle.accumulators.specs.Groups.{empty_group}
 use Rattle.aggregation.specs.Giving.{merged_with}
-use Rattle.aggregation.specs.Layouts.{layout_types}
+use Rattle.plan_trees.specs.Layouts.{layout_types}
 use Rattle.aggregation.proofs.FinalLemmas.{columns-long, final-layout, final-made, layout-long, same-pages}
 use Rattle.aggregation.proofs.MadeLemmas.{none-fails, none-gives, none-merged}
 use Rattle.aggregation.proofs.final_agg.FinalAgg.new.Goals as goal

@@ -1,7 +1,7 @@
 use Rattle.std.proofs.Common.{◌≡◌, ◌++◌, drop}
 use Rattle.std.specs.List.{flat_map}
-use Rattle.aggregation.specs.Layouts.{call_layout}
-use Rattle.pipe_types.proofs.halves.append_layouts.Given as goal
+use Rattle.plan_trees.specs.Layouts.{call_layout}
+use Rattle.plan_trees.proofs.layouts.append_part_types.Given as goal
 
 abbrev pub invariant-loop-call : goal.invariant-loop-call
 invariant-loop-call l =

@@ -1,15 +1,14 @@
 //! The types of rows between the halves of an aggregate.
 ghost use Rattle.std.specs.Prelude.{◌≡◌, ◌++◌, ◌∷◌, [], IfOk, OnOk, flat_map};
-ghost use Rattle.sql_functions.specs.CallTypes.{type_at as type_of};
-ghost use Rattle.aggregation.specs.Layouts.{call_layout, sum_layout as layout_of_sum};
-ghost use Rattle.plan_nets.specs.Operators.{partial_types};
+ghost use Rattle.plan_trees.specs.Layouts.{call_layout, layout_types, partial_types, sum_layout as layout_of_sum};
 
-use plan_trees::append_key_types;
+use crate::tree_types::append_key_types;
+use crate::type_lists::{copy_types, type_at};
 use sql_values::{Call, Memory, SqlType, Types};
 use std::alloc::Global;
 
-/// Those of keys, and of the partial rows of calls, of rows of these types.
-pub(crate) fn partial_types(
+/// The types of rows of keys by these columns of rows of some types, with partial rows behind them.
+pub fn partial_types(
     alloc: Global,
     types: &[SqlType],
     keys: &[u32],
@@ -19,15 +18,29 @@ pub(crate) fn partial_types(
 {
     let mut kinds = Types::new(alloc);
     append_key_types(&mut kinds, types, keys)?;
-    kinds.push(SqlType::Decimal { p: 38, s: 0 })?;
-    append_layouts(&mut kinds, types, calls)?;
+    append_part_types(&mut kinds, types, calls)?;
     Ok(kinds)
 }
 
-/// Appends the types of what calls keep.
-fn append_layouts(kinds: &mut Types, types: &[SqlType], calls: &[Call]) -> Result<(), Memory>
-    ensures { OnOk result (kinds.new ≡ kinds.old ++ flat_map (call_layout types.now) calls.now) }
+/// The types of rows of keys of these types with partial rows behind them.
+pub fn layout_of(
+    alloc: Global,
+    keys: &[SqlType],
+    types: &[SqlType],
+    calls: &[Call],
+) -> Result<Types, Memory>
+    ensures { IfOk result (λ kinds. kinds ≡ layout_types keys.now types.now calls.now) }
 {
+    let mut kinds = copy_types(alloc, keys)?;
+    append_part_types(&mut kinds, types, calls)?;
+    Ok(kinds)
+}
+
+/// Appends the types of a partial row of calls over rows of some types.
+fn append_part_types(kinds: &mut Types, types: &[SqlType], calls: &[Call]) -> Result<(), Memory>
+    ensures { OnOk result (kinds.new ≡ (kinds.old ++ SqlType.Decimal 38 0 ∷ []) ++ flat_map (call_layout types.now) calls.now) }
+{
+    kinds.push(SqlType::Decimal { p: 38, s: 0 })?;
     for call in calls {
         append_layout(kinds, types, *call)?;
     }
@@ -58,15 +71,5 @@ fn sum_layout(kind: SqlType) -> SqlType
     match kind {
         SqlType::Decimal { s, .. } => SqlType::Decimal { p: 38, s },
         _ => SqlType::Decimal { p: 38, s: 0 },
-    }
-}
-
-/// The type of the column at a place: boolean where there is none.
-fn type_at(types: &[SqlType], column: u32) -> SqlType
-    ensures { result ≡ type_of types.now column }
-{
-    match types.get(column as usize) {
-        Some(kind) => *kind,
-        None => SqlType::Boolean,
     }
 }

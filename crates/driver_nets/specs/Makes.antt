@@ -5,7 +5,7 @@ use Rattle.sql_values.specs.declared.table.Table.{Table}
 use Rattle.sql_values.specs.declared.types.SqlType.{SqlType}
 use Rattle.accumulators.specs.Limits.{are_allowed}
 use Rattle.page_judges.specs.Typed.{AllFit, AllTyped, IsTyped}
-use Rattle.plan_pipelines.specs.Built.{IsReadFrom}
+use Rattle.tree_evaluator.specs.Fits.{IsReadFrom}
 use Rattle.plan_layout.specs.Pipes.{PipeForm, SourceForm, StepForm, table, rows, sides, fragment, edge, filter, project, probe, aggregate, partial, final, sort, top_n, limit}
 use Rattle.plan_trees.specs.Layouts.{partial_types}
 use Rattle.driver_nets.specs.Types.{PipeTypes, types_after}

@@ -4,7 +4,7 @@ ghost use Rattle.sql_values.specs.declared.types.SqlType.{SqlType as Kind};
 ghost use Rattle.split_source.specs.Seats.{SeatState};
 ghost use Rattle.split_source.specs.Splits.{split_count};
 ghost use Rattle.page_judges.specs.Typed.{AllFit};
-ghost use Rattle.plan_pipelines.specs.Built.{IsReadFrom};
+ghost use Rattle.tree_evaluator.specs.Fits.{IsReadFrom};
 ghost use Rattle.plan_layout.specs.Pipes.{edge, fragment, rows, sides, source_view, table};
 ghost use Rattle.plan_wiring.specs.Shares.{rows_at};
 ghost use Rattle.driver_loop.specs.Ends.{rows_taken};

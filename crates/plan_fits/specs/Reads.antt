@@ -1,7 +1,7 @@
 -- That the tables which a plan reads are there.
 use Rattle.std.specs.Prelude.{List}
 use Rattle.sql_values.specs.declared.table.Table.{Table}
-use Rattle.plan_pipelines.specs.Built.{IsReadFrom}
+use Rattle.tree_evaluator.specs.Fits.{IsReadFrom}
 use Rattle.plan_runs.specs.RunPlans.{RunPlan, scan, values, remote, filter, project, join, aggregate, aggregate_parts, sort, topn, topn_parts, limit, limit_parts, union}
 
 -- each scan is of a table that there is, and of columns that it has

@@ -35,7 +35,6 @@ use Rattle.plan_spreads.specs.Widths.{AllLeavesFit}
 use Rattle.plan_spreads.proofs.FitLemmas.{parts_fit, plan_fits}
 use Rattle.plan_spreads.proofs.PlanLemmas.{plan_placed, roots_placed}
 use Rattle.plan_spreads.proofs.ReadingLemmas.{halves_read}
-use Rattle.plan_pipelines.proofs.SourceLemmas.{plan_runs_as}
 use Rattle.plan_links.specs.Consistent.{IsConsistent}
 use Rattle.plan_spreads.proofs.EachLemmas.{Each, each_by, neither, none_passes, nor_second}
 use Rattle.plan_links.proofs.LeafLemmas.{fragments_leaves}
@@ -43,6 +42,7 @@ use Rattle.plan_links.proofs.MissingLemmas.{is_missing, none_missing}
 use Rattle.plan_links.proofs.MeetLemmas.{fragments_meet}
 use Rattle.plan_links.proofs.PlaceLemmas.{Checked}
 use Rattle.plan_links.proofs.ReadLemmas.{document_found, read_some}
+use Rattle.plan_links.proofs.RunLemmas.{plan_runs_as}
 use Rattle.plan_links.proofs.SourceLemmas.{found_once, none_back, read_by_one}
 use Rattle.plan_links.proofs.StepLemmas.{all_known}
 

@@ -9,4 +9,5 @@ pub mod HalfLemmas
 pub mod MeetLemmas
 pub mod LeafLemmas
 pub mod ReadLemmas
+pub mod RunLemmas
 pub mod DocumentLemmas

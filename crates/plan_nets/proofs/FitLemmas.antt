@@ -1,4 +1,4 @@
--- What the tables' types say of the sources of pipelines.
+-- What the tables' types say of trees, and of the rows that come from them.
 use Rattle.std.proofs.Common.{◌≡◌, List, ◌++◌, length, sym, ap}
 use Rattle.std.specs.Prelude.{IsTrue}
 use Rattle.std.proofs.lemmas.List.Elements.{All-weaker}
@@ -13,12 +13,9 @@ use Rattle.plan_trees.specs.Widths.{FitsWidths}
 use Rattle.plan_trees.specs.TreeForms.{TreeForm}
 use Rattle.plan_trees.specs.TreeForms as tree
 use Rattle.tree_evaluator.specs.Fits.{FitsTables}
-use Rattle.plan_runs.specs.RunPlans.{RunPlan, tree_of_run, scan, values, remote, filter, project, join, aggregate, aggregate_parts, sort, topn, topn_parts, limit, limit_parts, union}
 use Rattle.plan_runs.specs.Spreads.{Tables}
 use Rattle.stage_meanings.proofs.MeaningLemmas.{front-fits}
 use Rattle.row_ops.proofs.OwnLemmas.{fits-width}
-use Rattle.plan_nets.specs.Operators.{types_of_source}
-use Rattle.plan_nets.specs.Trees.{IsInOneTask, rows_of_source}
 
 -- a tree that fits tables fits in its widths
 pub fits_widths : (t : TreeForm) (tables : Tables) → FitsTables t tables → FitsWidths t
@@ -34,23 +31,6 @@ fits_widths (tree.sort id keys input) tables fits = fits_widths input tables fit
 fits_widths (tree.topn id count keys input) tables fits = fits_widths input tables fits
 fits_widths (tree.limit id count input) tables fits = fits_widths input tables fits
 fits_widths (tree.union id left right) tables fits = (fits_widths left tables fits.1, fits_widths right tables fits.2, ap length fits.0)
-
--- and the rows of a pipeline's source fit their types
-pub source_fits : (run : RunPlan) → IsInOneTask run → (tables : Tables) → FitsTables (tree_of_run run) tables → AllFit (types_of_source run) (rows_of_source tables run)
-source_fits (scan id table columns types) one tables fits = fits.2
-source_fits (values id types rows) one tables fits = fits.1
-source_fits (remote id output tasks input) one tables fits = absurd one
-source_fits (filter id predicate input) one tables fits = source_fits input one tables fits.1
-source_fits (project id columns input) one tables fits = source_fits input one tables fits.2
-source_fits (join id kind on left right) one tables fits = source_fits left one.0 tables fits.0
-source_fits (aggregate id keys calls input) one tables fits = source_fits input one tables fits.2
-source_fits (aggregate_parts id source output tasks keys calls input) one tables fits = absurd one
-source_fits (sort id keys input) one tables fits = source_fits input one tables fits
-source_fits (topn id count keys input) one tables fits = source_fits input one tables fits
-source_fits (topn_parts id source output tasks count keys input) one tables fits = absurd one
-source_fits (limit id count input) one tables fits = source_fits input one tables fits
-source_fits (limit_parts id source output tasks count input) one tables fits = absurd one
-source_fits (union id left right) one tables fits = absurd one
 
 pub same_fits : (types : List SqlType) (took rows : List (List Value)) → SameWeights took rows → AllFit types rows → AllFit types took
 same_fits types took rows same fit =

@@ -1,7 +1,5 @@
 pub mod TreeLemmas
 pub mod FitLemmas
-pub mod WholeLemmas
-pub mod StoppedLemmas
 pub mod SnocLemmas
 pub mod OperatorLemmas
 pub mod FinishLemmas

@@ -1,19 +1,15 @@
--- A plan of one join, and what its pipelines are.
-use Rattle.std.proofs.Common.{◌≡◌, ℕ, List, [], ◌∷◌, Bool, Option, Some, None, refl}
+-- A plan of one join, and what its pipeline is.
+use Rattle.std.proofs.Common.{◌≡◌, ℕ, List, [], ◌∷◌, Bool, Option, None, refl}
 use Rattle.sql_values.specs.declared.types.SqlType.TheVariants as type
 use Rattle.sql_values.specs.declared.fail.Fail.{Fail}
 use Rattle.sql_values.specs.declared.relational.JoinKind.TheVariants.{Inner}
 use Rattle.sql_exprs.specs.Forms.{Form, column}
 use Rattle.operator_core.specs.Rows.{Row}
-use Rattle.bag_laws.specs.Weights.{SameWeights}
-use Rattle.plan_trees.specs.Allowed.{Mode, scanned}
 use Rattle.plan_runs.specs.Nets as stage
 use Rattle.plan_runs.specs.RunPlans.{RunPlan, filter, join, limit, project, scan}
-use Rattle.plan_runs.specs.Spreads.{Tables}
 use Rattle.stage_meanings.specs.Pipelines.{at_node}
-use Rattle.plan_nets.specs.Trees.{rows_of_source, stages_over}
-use Rattle.plan_nets.specs.Wholes.{SidesGave}
-use Rattle.plan_nets.specs.Stopped.{AgreeWith, FailsAt, StandsAt}
+use Rattle.plan_nets.specs.Trees.{stages_over}
+use Rattle.plan_nets.specs.Stopped.{AgreeWith, FailsAt}
 use Rattle.plan_nets.specs.Operators.{AreKnown, types_of_source}
 
 -- a table of one column
@@ -36,22 +32,8 @@ pipeline : (built : List Row)
     ∷ at_node 4 (stage.project (type.Bigint ∷ type.Varchar ∷ type.Date ∷ []) columns) ∷ at_node 5 (stage.limit 7) ∷ []
 pipeline built = refl
 
--- the pipeline's source is the left side's
-source : (tables : Tables) → rows_of_source tables plan ≡ scanned tables 0 (0 ∷ [])
-source tables = refl
-
 source_types : types_of_source plan ≡ type.Bigint ∷ []
 source_types = refl
-
--- the driver of the right side took all rows of the right source
-right_took : (mode : Mode) (tables : Tables) (built : List Row) (sides : SidesGave mode tables plan (built ∷ []))
-    → SameWeights sides.0.took (scanned tables 1 (0 ∷ 1 ∷ []))
-right_took mode tables built sides = sides.1
-
--- a note that knows rows knows what the right side gave
-note_knows : (tables : Tables) (built took : List Row) (ended : Bool) (stands : StandsAt tables plan (Some built ∷ []) took ended)
-    → SameWeights stands.0.gave built
-note_knows tables built took ended stands = (stands.3 built refl).1
 
 -- a note that knows nothing knows no build, and agrees with any
 unknown : (built : List Row) → AreKnown (None ∷ []) (built ∷ []) → ⊥

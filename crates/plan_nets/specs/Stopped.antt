@@ -1,16 +1,14 @@
--- A run that something stopped: its drivers stand anywhere, and each can go on.
-use Rattle.std.specs.Prelude.{◌≡◌, ◌⊎◌, ℕ, List, [], ◌∷◌, ◌++◌, Bool, true, Option, Some, None, length}
+-- A driver that stands anywhere: how it can go on, and how one of its stages fails.
+use Rattle.std.specs.Prelude.{◌≡◌, ◌⊎◌, ℕ, List, [], ◌∷◌, ◌++◌, Bool, Option, Some, None, length}
 use Rattle.sql_values.specs.declared.fail.Fail.{Fail}
 use Rattle.operator_core.specs.Rows.{Row}
 use Rattle.bag_laws.specs.Pieces.{finals_of}
 use Rattle.bag_laws.specs.Weights.{SameWeights}
 use Rattle.relations.specs.Groups.{groups_of}
-use Rattle.plan_trees.specs.Allowed.{scanned}
 use Rattle.plan_trees.specs.Judges.{filter_judge, project_judge}
 use Rattle.plan_trees.specs.TreeTypes.{types_of}
 use Rattle.plan_runs.specs.Faults.{FailsOnGroupOf, FailsOnOneOf}
 use Rattle.plan_runs.specs.RunPlans.{RunPlan, tree_of_run, scan, values, remote, filter, project, join, aggregate, aggregate_parts, sort, topn, topn_parts, limit, limit_parts, union}
-use Rattle.plan_runs.specs.Spreads.{Tables}
 use Rattle.plan_runs.specs.Stops.{CanGoOn, MayCome}
 use Rattle.stage_meanings.specs.Pipelines.{stages_of}
 use Rattle.plan_nets.specs.Trees.{stages_over}
@@ -25,44 +23,6 @@ AgreeWith (Some known ∷ notes) (built ∷ builds) = SameWeights built known ×
 -- the driver can go on, whatever comes and whatever its notes come to know
 abbrev pub IsOpen : RunPlan → List (Option (List Row)) → List Row → List Row → Bool → Bool → Type 0
 IsOpen run notes took gave ended done = (builds : List (List Row)) → AgreeWith notes builds → CanGoOn (stages_of (stages_over run builds)) took gave ended done
-
--- what the driver of a right side took and gave, what its notes know, whether its source has ended, and whether
--- it gives no more
-pub record Standing : Type 0 where
-  pub notes : List (Option (List Row))
-  pub took : List Row
-  pub gave : List Row
-  pub ended : Bool
-  pub done : Bool
-
--- rows are left of these: none where all were taken
-pub record IsLeftOf (rows took : List Row) (ended : Bool) : Type 0 where
-  pub rest : List Row
-  pub same : SameWeights (took ++ rest) rows
-  pub none : MayCome ended rest
-
--- the driver took of the rows of its source; and of each right side that its pipeline looks into, the driver
--- stands so, and is done where a note knows what it gave
-abbrev pub StandsAt : Tables → RunPlan → List (Option (List Row)) → List Row → Bool → Type 0
-StandsAt tables (scan id table columns types) notes took ended = (notes ≡ []) × IsLeftOf (scanned tables table columns) took ended
-StandsAt tables (values id types rows) notes took ended = (notes ≡ []) × IsLeftOf rows took ended
-StandsAt tables (remote id output tasks input) notes took ended = ⊥
-StandsAt tables (filter id predicate input) notes took ended = StandsAt tables input notes took ended
-StandsAt tables (project id columns input) notes took ended = StandsAt tables input notes took ended
-StandsAt tables (join id kind on left right) [] took ended = ⊥
-StandsAt tables (join id kind on left right) (noted ∷ notes) took ended =
-    (side : Standing) × StandsAt tables right side.notes side.took side.ended
-    × IsOpen right side.notes side.took side.gave side.ended side.done
-    × ((built : List Row) → noted ≡ Some built → (side.done ≡ true) × SameWeights side.gave built)
-    × StandsAt tables left notes took ended
-StandsAt tables (aggregate id keys calls input) notes took ended = StandsAt tables input notes took ended
-StandsAt tables (aggregate_parts id source output tasks keys calls input) notes took ended = ⊥
-StandsAt tables (sort id keys input) notes took ended = StandsAt tables input notes took ended
-StandsAt tables (topn id count keys input) notes took ended = StandsAt tables input notes took ended
-StandsAt tables (topn_parts id source output tasks count keys input) notes took ended = ⊥
-StandsAt tables (limit id count input) notes took ended = StandsAt tables input notes took ended
-StandsAt tables (limit_parts id source output tasks count input) notes took ended = ⊥
-StandsAt tables (union id left right) notes took ended = ⊥
 
 -- what came to a stage fails so, with whatever may still come
 pub record FailsOver (Fails : List Row → Type 0) (input : RunPlan) (notes : List (Option (List Row))) (took : List Row) (ended : Bool) : Type 0 where

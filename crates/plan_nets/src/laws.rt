@@ -6,53 +6,21 @@ ghost use Rattle.key_index.specs.Keys.{IndexedRows};
 ghost use Rattle.sql_values.specs.declared.relational.JoinKind.{JoinKind};
 ghost use Rattle.sql_values.specs.declared.types.SqlType.{SqlType as Typed};
 ghost use Rattle.page_judges.specs.Typed.{AllFit};
-ghost use Rattle.bag_laws.specs.Weights.{SameWeights};
 ghost use Rattle.operator_core.specs.Rows.{Row};
 ghost use Rattle.operator_core.specs.Stages.{Chain, FailsAfter, Linked, ToldInTurn, last_finished};
-ghost use Rattle.plan_trees.specs.Allowed.{Gives, Mode, strict};
-ghost use Rattle.plan_trees.specs.Stopped.{MayFail};
-ghost use Rattle.plan_trees.specs.Widths.{FitsWidths};
+ghost use Rattle.plan_trees.specs.Allowed.{strict};
 ghost use Rattle.plan_runs.specs.Nets.{Chain as StageChain, probe};
-ghost use Rattle.plan_runs.specs.RunPlans.{RunPlan, tree_of_run};
+ghost use Rattle.plan_runs.specs.RunPlans.{RunPlan};
 ghost use Rattle.stage_meanings.specs.Pipelines.{at_node, stages_of};
-ghost use Rattle.plan_nets.specs.Trees.{IsInOneTask, IsSideOf, rows_of_source, stages_over};
-ghost use Rattle.plan_nets.specs.Wholes.{SidesGave};
-ghost use Rattle.plan_nets.specs.Stopped.{AgreeWith, FailsAt, IsOpen, StandsAt};
+ghost use Rattle.plan_nets.specs.Trees.{stages_over};
+ghost use Rattle.plan_nets.specs.Stopped.{AgreeWith, FailsAt, IsOpen};
 ghost use Rattle.plan_nets.specs.Lookups.{IsSourceOf, rows_known};
 ghost use Rattle.plan_nets.specs.Operators.{AreKnown, LooksUp, Operate, Probes, types_of_source};
 
 use hash_join::ProbeOp;
 use operator_core::Operator;
-use sql_values::{RowList, SqlType};
+use sql_values::SqlType;
 use std::marker::PhantomData;
-
-/// The law that where the drivers of the right sides gave what their stages make of all rows of their
-/// sources, and the driver of the root took all rows of its own, what its stages make of them is a list
-/// that the plan's tree gives in the same mode.
-pub fn nets_give(tables: &[RowList])
-    ensures { (mode : Mode) (run : RunPlan) → IsInOneTask run → FitsWidths (tree_of_run run)
-        → (builds : List (List Row)) → SidesGave mode tables.now run builds
-        → (took gave : List Row) → SameWeights took (rows_of_source tables.now run)
-        → StageChain mode (stages_of (stages_over run builds)) took gave
-        → Gives mode (tree_of_run run) tables.now gave }
-{}
-
-/// The law that where a stage in the pipeline of the root fails, its node may fail so.
-pub fn nets_fail(tables: &[RowList])
-    ensures { (node : ℕ) (kind : Fail) (run : RunPlan) → IsInOneTask run
-        → FitsWidths (tree_of_run run) → (notes : List (Option (List Row))) (took : List Row)
-        (ended : Bool) → StandsAt tables.now run notes took ended
-        → FailsAt run notes took ended node kind → MayFail (tree_of_run run) tables.now node kind }
-{}
-
-/// The law that where a stage in the pipeline of a right side fails, its node may fail so.
-pub fn sides_fail(tables: &[RowList])
-    ensures { (node : ℕ) (kind : Fail) (side run : RunPlan) → IsInOneTask run
-        → FitsWidths (tree_of_run run) → IsSideOf side run
-        → (notes : List (Option (List Row))) (took : List Row) (ended : Bool)
-        → StandsAt tables.now side notes took ended → FailsAt side notes took ended node kind
-        → MayFail (tree_of_run run) tables.now node kind }
-{}
 
 /// The law that a driver whose operators are the stages of a node's pipeline can go on wherever it
 /// stands, whatever comes and whatever its notes come to know.

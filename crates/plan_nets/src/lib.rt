@@ -1,28 +1,27 @@
-//! The pipelines of a plan of one fragment in one task: what their drivers give together, joins among them.
+//! The operators of a driver as the stages of a pipeline, for every node of a plan as it runs: halves, remote sources and
+//! unions too.
 //!
-//! A join cuts a plan: its right side is a pipeline of its own, whose driver builds what the pipeline of the join
-//! looks into. With one driver for each pipeline, such a run is a tree of drivers:
+//! A pipeline goes along inputs and left sides. The right side of a join is a pipeline of its own, whose driver builds
+//! what the join looks into, so what it built is a parameter of the pipeline above it.
 //!
-//! - `specs/Trees.antt`: the pipelines, their sources, and their stages over what the joins built
-//! - `specs/Wholes.antt`: a run that is over (`SidesGave`)
-//! - `specs/Stopped.antt`: one that stands anywhere (`StandsAt`), and a stage that fails in it (`FailsAt`)
-//! - `specs/Operators.antt`: operators that are the stages of a pipeline, one for one (`Operate`)
+//! - `specs/Trees.antt`: the stages of a node's pipeline over what its joins built (`stages_over`)
+//! - `specs/Operators.antt`: operators that are these stages, one for one (`Operate`)
+//! - `specs/Lookups.antt`: what the note of a join's operator knows
+//! - `specs/Stopped.antt`: a driver that stands anywhere and can go on (`IsOpen`), and a stage that fails in it (`FailsAt`)
 //!
 //! `laws` says what follows:
 //!
-//! - `nets_give`: where each driver gave what its stages make, the driver of the root gave a list that the plan's
-//!   tree gives
-//! - `nets_fail`, `sides_fail`: where a stage fails in the pipeline of the root, or in that of a right side, its
-//!   node may fail so
-//! - `operators_go_on`, `operators_make`, `operators_finish`, `operators_fail`: the same premises in terms of any
-//!   operators that are the stages, as a driver knows of them
+//! - `operators_go_on`, `operators_make`, `operators_finish`, `operators_fail`: operators that are the stages go on as these
+//!   can, make what these make, and fail as one of these does, as a driver knows of them
 //! - `probes_look_up`: an operator that gives the join with what its note knows is the stage of that join, and
-//!   `probe_ops_probe`: `ProbeOp` is such an operator (`specs/Lookups.antt`)
+//!   `probe_ops_probe`: `ProbeOp` is such an operator
+//!
+//! `lane_laws` says it of all drivers of a pipeline, in any number of tasks.
 #![tactic(auto)]
 
 mod laws;
 
 pub use laws::{
-    nets_fail, nets_give, operators_fail, operators_finish, operators_go_on, operators_make,
-    probe_ops_probe, probes_look_up, sides_fail,
+    operators_fail, operators_finish, operators_go_on, operators_make, probe_ops_probe,
+    probes_look_up,
 };

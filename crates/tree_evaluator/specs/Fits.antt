@@ -34,6 +34,13 @@ kinds columns = map (λ column. column.kind) columns
 abbrev pub TablesFit : List Table → Type 0
 TablesFit tables = All (λ table. AllFit (kinds table.columns) table.rows) tables
 
+-- there is the table, with the columns
+pub record IsReadFrom (tables : List Table) (place : ℕ) (columns : List ℕ) : Type 0 where
+  pub table : Table
+  pub is_table : slice_get tables place ≡ Some table
+  pub some : 0 < length columns
+  pub within : All (λ column. column < length table.columns) columns
+
 -- the column at a place has the type, if there is one
 abbrev pub IsOrMissing : Option SqlType → SqlType → Type 0
 IsOrMissing None kind = Unit {0}

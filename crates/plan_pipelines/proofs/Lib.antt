@@ -1,2 +1,0 @@
-pub mod FragmentLemmas
-pub mod SourceLemmas

@@ -51,7 +51,8 @@ impl ResultTarget {
     }
 }
 
-/// Where the pages of a driver go to. A page of other types counts as want of memory.
+/// Where the pages of a driver go to. The first two keep the types of their rows, and a page of others counts as want of
+/// memory. Edges look at no types: who takes from them does.
 #[derive(Drop)]
 pub enum Target<'w> {
     Result(ResultTarget),

@@ -1,4 +1,6 @@
-//! Tests of the plain evaluator of trees: small trees over constants, worked out by hand.
+//! Tests of the plain evaluator of trees.
+//!
+//! - `trees`: small trees over constants, worked out by hand
 #![tactic(auto)]
 
 #[cfg(test)]

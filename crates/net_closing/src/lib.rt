@@ -12,6 +12,7 @@
 //! - `collect`: the seats of one edge, or of one table, are taken, in the order of `driver_nets`
 //! - `settle`: they are given back (`specs/Back.antt`)
 //! - `cover`: each driver is one of a pipe
+//! - `result`: the rows that the driver of the result was given (`specs/Results.antt`)
 //! - `closing`: the whole
 #![tactic(auto)]
 

@@ -4,7 +4,8 @@
 //!   of `pipe_laws`)
 //! - `nets_give`: where all drivers are finished, the plan's answer
 //! - `nets_fail`: where one failed, a failure of the plan
-//! - `layouts_are_tidy`, `plans_give`, `plans_fail`: the same of the layout of a consistent plan
+//! - `layouts_are_tidy`, `plans_give`, `plans_fail`: the same of the layout of a consistent plan (`plans`; the others stand
+//!   in `laws`)
 //! - `specs/Tidy.antt`: what is asked of a layout besides that it runs the plan
 //! - `specs/Standing.antt`: what is said of such a pipe
 #![tactic(auto)]

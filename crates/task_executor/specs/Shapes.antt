@@ -1,8 +1,8 @@
 -- How the tables and the work of a run are cut.
-use Rattle.std.specs.Prelude.{◌<◌, ◌≤◌, ◌^◌, List, All, length}
-use Rattle.sql_values.specs.declared.table.Table.{Table}
+use Rattle.std.specs.Prelude.{◌<◌, ◌≤◌}
 use Rattle.plan_layout.specs.declared.pipe.Parallelism.{Parallelism}
 use Rattle.task_executor.specs.declared.shape.Shape.{Shape}
+pub use Rattle.net_making.specs.Makings.{AreFew}
 
 -- there is a task and a driver; a split, a page and a turn have a row, and a page no more than the most
 pub record IsShape (shape : Shape) : Type 0 where
@@ -16,7 +16,3 @@ pub record IsShape (shape : Shape) : Type 0 where
 -- how many tasks and drivers there are where there may be several
 abbrev pub parallelism_of : Shape → Parallelism
 parallelism_of shape = record { tasks = shape.tasks; drivers = shape.drivers }
-
--- no table has more rows than 32 bits count
-abbrev pub AreFew : List Table → Type 0
-AreFew tables = All (λ table. length table.rows < 2 ^ 32) tables

@@ -1,1 +1,0 @@
-use Rattle.aggregation.proofs.layouts.append_layout.Goals as goal

@@ -1,28 +1,40 @@
 -- The command line: which words are one, and what it asks for.
-use Rattle.std.specs.Prelude.{ℕ, List, length, map, drop, take, Bool, true, not, ◌&&◌, ◌==◌, ◌≤◌, ◌<◌, ◌^◌, nat_lt, slice_index_or, [], ◌∷◌, Option, Some, None, option_map, option_and_then, unwrap_or, slice_get, if◌then◌else◌, codes}
-use Rattle.std.specs.List.{before_first, after_first, list_all, list_any, position_from}
-use Rattle.command_line.specs.Options.{are_options, begins_with_dash, number_in, option_words, same_text}
+use Rattle.std.specs.Prelude.{ℕ, List, length, map, Bool, true, not, ◌&&◌, ◌≤◌, ◌<◌, ◌^◌, nat_lt, [], ◌∷◌, Option, Some, None, false, option_map, option_and_then, unwrap_or, slice_get, if◌then◌else◌, codes}
+use Rattle.std.specs.List.{list_all, list_any, position_from}
+use Rattle.command_line.specs.Items.{Item, begins_with_dash, first_part, items_left, items_of, named_in, same_text, second_part}
+use Rattle.command_line.specs.Options.{are_options, counts_in, number_for, number_in, plan_option, row_of, written_in}
 use Rattle.command_line.specs.declared.options.NumberOption.{NumberOption}
 use Rattle.command_line.specs.declared.options.NumberOption.TheVariants as option
-use Rattle.command_line.specs.declared.words as words
+use Rattle.command_line.specs.declared.job as job
+use Rattle.command_line.specs.declared.job.Source.TheVariants as source
 
 -- a table's name and its file
 pub record NamedFile : Type 0 where
   pub name : List ℕ
   pub file : List ℕ
 
--- what a command line asks for: the plan's file, the most rows of a split and of a page, the rows after whose move a
--- driver's turn ends, the tasks of a fragment and the drivers of a pipeline that may have several, the number under
--- which pages are delivered late, and the files of tables by their names
+-- what is run: the plan's file, and the files of tables by their names; with a demo its number too, and the names
+-- are then those of its documents
+pub record Source : Type 0 where
+  pub plan : List ℕ
+  pub files : List NamedFile
+  pub demo : Option ℕ
+
+-- what a command line asks for: what is run, the most rows of a split and of a page, the rows after whose move a
+-- driver's turn ends, the workers, the tasks of a fragment and the drivers of a pipeline that may have several, the
+-- number under which pages are delivered late, and whether filters are counted
 pub record Job : Type 0 where
   pub plan : List ℕ
+  pub files : List NamedFile
+  pub demo : Option ℕ
   pub split : ℕ
   pub page : ℕ
   pub quantum : ℕ
+  pub workers : ℕ
   pub tasks : ℕ
   pub drivers : ℕ
   pub replay : ℕ
-  pub files : List NamedFile
+  pub counts : Bool
 
 -- the numbers of a job are within their bounds
 pub record HasBounds (job : Job) : Type 0 where
@@ -32,98 +44,134 @@ pub record HasBounds (job : Job) : Type 0 where
   pub page_is_bounded : job.page ≤ 8192
   pub quantum_has_rows : 1 ≤ job.quantum
   pub quantum_is_bounded : job.quantum ≤ 1000000
+  pub workers_are_some : 1 ≤ job.workers
+  pub workers_are_bounded : job.workers ≤ 64
   pub tasks_are_some : 1 ≤ job.tasks
   pub tasks_are_bounded : job.tasks ≤ 16
   pub drivers_are_some : 1 ≤ job.drivers
   pub drivers_are_bounded : job.drivers ≤ 16
   pub replay_is_bounded : job.replay < 2 ^ 64
 
--- the byte of `=`
-abbrev pub equals_sign : ℕ
-equals_sign = 61
-
 -- a word that may name a file: not empty, and no option
 abbrev pub is_file_name : List ℕ → Bool
 is_file_name word = nat_lt 0 (length word) && not (begins_with_dash word)
 
--- the two parts of a word round its first `=`
-abbrev pub name_part : List ℕ → List ℕ
-name_part word = before_first (λ byte. byte == equals_sign) word
-
-abbrev pub file_part : List ℕ → List ℕ
-file_part word = after_first (λ byte. byte == equals_sign) word
-
 abbrev pub named_file : List ℕ → NamedFile
-named_file word = record { name = name_part word; file = file_part word }
+named_file word = record { name = first_part word; file = second_part word }
 
 -- a word `NAME=FILE`
 abbrev pub is_named_file : List ℕ → Bool
-is_named_file word = is_file_name word && nat_lt 0 (length (name_part word)) && nat_lt 0 (length (file_part word))
+is_named_file word = is_file_name word && nat_lt 0 (length (first_part word)) && nat_lt 0 (length (second_part word))
 
 -- a word gives a file to a table of this name
 abbrev pub names : List ℕ → List ℕ → Bool
-names name word = same_text (name_part word) name
+names name word = same_text (first_part word) name
 
 -- no name is given a file twice
 abbrev pub names_differ : List (List ℕ) → Bool
 names_differ [] = true
-names_differ (word ∷ words) = not (list_any (names (name_part word)) words) && names_differ words
+names_differ (word ∷ words) = not (list_any (names (first_part word)) words) && names_differ words
 
--- the words after the plan's file give files to tables
+-- the words give files to tables
 abbrev pub are_named_files : List (List ℕ) → Bool
 are_named_files words = list_all is_named_file words && names_differ words
 
--- what follows from the number of an option
-abbrev pub with_number : NumberOption → List (List ℕ) → (ℕ → Option Job) → Option Job
-with_number option options job = option_and_then job (number_in option options)
+-- a plan's file, and files of tables
+abbrev pub source_of_files : List ℕ → List (List ℕ) → Source
+source_of_files plan words = record { plan = plan; files = map named_file words; demo = None }
 
--- what the options and the files behind a plan's file ask for
-abbrev pub job_with : List ℕ → List (List ℕ) → List (List ℕ) → Option Job
-job_with plan options files =
-    if are_options options && are_named_files files
-    then with_number option.Split options (λ split.
-    with_number option.Page options (λ page.
-    with_number option.Quantum options (λ quantum.
-    with_number option.Tasks options (λ tasks.
-    with_number option.Drivers options (λ drivers.
-    with_number option.Replay options (λ replay.
-    Some (record {
-      plan = plan;
+-- the documents of a demo, each under its own name
+abbrev pub document : List ℕ → NamedFile
+document name = record { name = name; file = name }
+
+abbrev pub demo_files : List NamedFile
+demo_files = document (codes "orders") ∷ document (codes "customers") ∷ []
+
+abbrev pub source_of_demo : ℕ → Source
+source_of_demo number = record { plan = codes "plan"; files = demo_files; demo = Some number }
+
+-- exactly one of a plan's file and a demo is given, and with a demo there is no file of a table
+abbrev pub source_given : Option (List ℕ) → Option (List ℕ) → List (List ℕ) → Option Source
+source_given (Some plan) None words =
+    if is_file_name plan && are_named_files words then Some (source_of_files plan words) else None
+source_given None (Some number) [] = option_map source_of_demo (number_for (row_of option.Demo) number)
+source_given (Some plan) (Some number) words = None
+source_given None (Some number) (word ∷ words) = None
+source_given None None words = None
+
+abbrev pub source_in : List Item → Option Source
+source_in items = source_given (written_in plan_option items) (written_in (row_of option.Demo).word items) (named_in items)
+
+-- what follows from the number of an option
+abbrev pub with_number : NumberOption → List Item → (ℕ → Option Job) → Option Job
+with_number option items job = option_and_then job (number_in option items)
+
+-- what the options ask for of this source
+abbrev pub job_with : List Item → Source → Option Job
+job_with items source =
+    with_number option.Split items (λ split.
+    with_number option.Page items (λ page.
+    with_number option.Quantum items (λ quantum.
+    with_number option.Workers items (λ workers.
+    with_number option.Tasks items (λ tasks.
+    with_number option.Drivers items (λ drivers.
+    with_number option.Replay items (λ replay.
+    option_map (λ counts. record {
+      plan = source.plan;
+      files = source.files;
+      demo = source.demo;
       split = split;
       page = page;
       quantum = quantum;
+      workers = workers;
       tasks = tasks;
       drivers = drivers;
       replay = replay;
-      files = map named_file files;
-    })))))))
-    else None
+      counts = counts;
+    }) (counts_in items))))))))
 
--- the words `--plan FILE`, then options with their numbers, then `NAME=FILE ..`
-abbrev pub job_of_parts : List ℕ → List ℕ → List (List ℕ) → Option Job
-job_of_parts first plan words =
-    if same_text first (codes "--plan") && is_file_name plan
-    then job_with plan (take (option_words words) words) (drop (option_words words) words)
-    else None
+abbrev pub job_of_items : List Item → Option Job
+job_of_items items = if are_options items then option_and_then (job_with items) (source_in items) else None
 
 -- what the words ask for; None where they are no command line
 abbrev pub job_of : List (List ℕ) → Option Job
-job_of words =
-    if nat_lt 1 (length words)
-    then job_of_parts (slice_index_or words 0 []) (slice_index_or words 1 []) (drop 2 words)
-    else None
+job_of words = job_of_items (items_of words)
+
+-- a job of no file and of the usual numbers, for what is told where the words are no command line
+abbrev pub no_job : Job
+no_job = record {
+  plan = [];
+  files = [];
+  demo = None;
+  split = 10000;
+  page = 1024;
+  quantum = 100000;
+  workers = 2;
+  tasks = 2;
+  drivers = 2;
+  replay = 0;
+  counts = false;
+}
+
+-- what a source that borrows its words is
+abbrev pub asked_source : job.Source.Source → Source
+asked_source (source.Files plan items) = source_of_files plan.now (named_in (items_left items))
+asked_source (source.Demo number) = source_of_demo number
 
 -- what a job that borrows its words asks for
-abbrev pub asked : words.Job.Job → Job
-asked job = record {
-  plan = job.plan.now;
-  split = job.split;
-  page = job.page;
-  quantum = job.quantum;
-  tasks = job.tasks;
-  drivers = job.drivers;
-  replay = job.replay;
-  files = map named_file job.files.now;
+abbrev pub asked : job.Job.Job → Job
+asked told = record {
+  plan = (asked_source told.source).plan;
+  files = (asked_source told.source).files;
+  demo = (asked_source told.source).demo;
+  split = told.split;
+  page = told.page;
+  quantum = told.quantum;
+  workers = told.workers;
+  tasks = told.tasks;
+  drivers = told.drivers;
+  replay = told.replay;
+  counts = told.counts;
 }
 
 -- a file is that of the table of this name
@@ -139,5 +187,5 @@ abbrev pub file_of : List ℕ → List NamedFile → Option (ℕ × List ℕ)
 file_of name files = option_map (λ place. (place, file_at files place)) (position_from (is_named name) 0 files)
 
 -- a file that borrows its word
-abbrev pub asked_file : words.TableFile.TableFile → ℕ × List ℕ
+abbrev pub asked_file : job.TableFile.TableFile → ℕ × List ℕ
 asked_file found = (found.place, found.file.now)

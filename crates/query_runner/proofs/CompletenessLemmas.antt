@@ -9,7 +9,7 @@ use Rattle.plan_checks.specs.declared.fault.PlanFault.TheVariants as plan_fault
 use Rattle.command_line.specs.Words.{Job}
 use Rattle.query_runner.specs.Jobs.{AreTablesAsked, IsPlanAsked, Row}
 use Rattle.query_runner.specs.Loading.{IsNoPlan, PlanFails, TableIsRefused}
-use Rattle.query_runner.specs.Answers.{Answered, Heard, IsComplete, IsSound, JobAnswered, MetNoFault, PlanAnswered, Seen}
+use Rattle.query_runner.specs.Answers.{Answered, Heard, IsComplete, IsSound, JobAnswered, MetNoFault, PlanAnswered, Seen, seen_for}
 use Rattle.query_runner.specs.declared.status.Status.{Status}
 use Rattle.query_runner.specs.declared.status.Status.TheVariants as status
 use Rattle.query_runner.proofs.TableLemmas.{all_have_files, one_list_of_tables, tables_serve}
@@ -84,12 +84,12 @@ job_complete job seen heard answer held plan tables (inr good) tells sound calm 
     ran job seen answer held plan tables (subst (λ (p : PlanForm). PlanAnswered job p seen answer) same good.answered) tells sound calm
 
 complete_by : (asked : Option Job) (seen : Seen) (heard : Heard) (answer : Status) (job : Job) (held : List ℕ → Option (List ℕ)) (plan : PlanForm) (tables : List (List Row))
-    → Answered asked seen heard answer → asked ≡ Some job → seen.held ≡ Some held → IsSound (Some held) job plan tables
-    → MetNoFault seen → (answer ≡ status.Ok) ⊎ (answer ≡ status.Memory)
+    → Answered asked seen heard answer → asked ≡ Some job → (seen_for job.demo seen).held ≡ Some held → IsSound (Some held) job plan tables
+    → MetNoFault (seen_for job.demo seen) → (answer ≡ status.Ok) ⊎ (answer ≡ status.Memory)
 complete_by None seen heard answer job held plan tables answered is tells sound calm = absurd cc
 complete_by (Some found) seen heard answer job held plan tables answered is tells sound calm =
     let same : found ≡ job = cc in
-    job_complete job seen heard answer held plan tables (subst (λ (j : Job). JobAnswered j seen heard answer) same answered) tells sound calm
+    job_complete job (seen_for job.demo seen) heard answer held plan tables (subst (λ (j : Job). JobAnswered j (seen_for j.demo seen) heard answer) same answered) tells sound calm
 
 pub complete : (asked : Option Job) (seen : Seen) (heard : Heard) (answer : Status) → Answered asked seen heard answer → IsComplete asked seen answer
 complete asked seen heard answer answered = record {

@@ -12,7 +12,8 @@ use Rattle.plan_trees.specs.Stopped.{MayFail}
 use Rattle.plan_trees.specs.Laws.{CannotFail}
 use Rattle.plan_reader.specs.Trees.{tree_of}
 use Rattle.csv_tables.specs.ResultTexts.{result_text}
-use Rattle.command_line.specs.Words.{Job}
+use Rattle.command_line.specs.Words.{Job, no_job}
+use Rattle.query_runner.specs.Demos.{demo_contents}
 use Rattle.query_runner.specs.Jobs.{AreTablesAsked, Contents, IsPlanAsked, Row}
 use Rattle.query_runner.specs.Loading.{FirstIsRefused, HasNoFile, PlanFails, SomeTableIsUnread}
 use Rattle.query_runner.specs.Lines.{line, message}
@@ -119,9 +120,20 @@ pub record PlanRan (job : Job) (seen : Seen) (heard : Heard) (answer : Status) :
 abbrev pub JobAnswered : Job → Seen → Heard → Status → Type 0
 JobAnswered job seen heard answer = PlanIsUnread job seen heard answer ⊎ PlanRan job seen heard answer
 
--- a job of no file and of the usual numbers, for the message of words that are no command line
-abbrev pub no_job : Job
-no_job = record { plan = []; split = 10000; page = 1024; quantum = 100000; tasks = 2; drivers = 2; replay = 0; files = [] }
+-- the number of the demo that is asked for, if one is
+abbrev pub demo_of : Option Job → Option ℕ
+demo_of None = None
+demo_of (Some job) = job.demo
+
+-- what is seen of a run with a demo: its documents are what the files hold, and no read of them fails
+abbrev pub seen_for : Option ℕ → Seen → Seen
+seen_for None seen = seen
+seen_for (Some number) seen = record seen {
+  held = Some (demo_contents number);
+  read_faults_before = 0;
+  read_faults_after = 0;
+  refused = None;
+}
 
 -- the words are no command line
 pub record WordsAreBad (seen : Seen) (heard : Heard) (answer : Status) : Type 0 where
@@ -132,7 +144,7 @@ pub record WordsAreBad (seen : Seen) (heard : Heard) (answer : Status) : Type 0 
 -- what an answer means
 abbrev pub Answered : Option Job → Seen → Heard → Status → Type 0
 Answered None seen heard answer = WordsAreBad seen heard answer
-Answered (Some job) seen heard answer = JobAnswered job seen heard answer
+Answered (Some job) seen heard answer = JobAnswered job (seen_for job.demo seen) heard answer
 
 -- the answer of a run's steps
 abbrev pub status_of : {A : Type 0} → Result A Status → Status
@@ -153,5 +165,5 @@ pub record IsSound (held : Contents) (job : Job) (plan : PlanForm) (tables : Lis
 -- a run of what is sound that met no fault of the outside gave the result, or memory was wanting
 pub record IsComplete (asked : Option Job) (seen : Seen) (answer : Status) : Type 0 where
   pub ends_well : (job : Job) (held : List ℕ → Option (List ℕ)) (plan : PlanForm) (tables : List (List Row))
-      → asked ≡ Some job → seen.held ≡ Some held → IsSound (Some held) job plan tables
-      → MetNoFault seen → (answer ≡ status.Ok) ⊎ (answer ≡ status.Memory)
+      → asked ≡ Some job → (seen_for job.demo seen).held ≡ Some held → IsSound (Some held) job plan tables
+      → MetNoFault (seen_for job.demo seen) → (answer ≡ status.Ok) ⊎ (answer ≡ status.Memory)

@@ -6,12 +6,14 @@
 //! cause.
 //!
 //! - `words`: the words that the system gives
+//! - `documents`: those of a demo, in the place of files
 //! - `load`: the plan and its tables, from files
 //! - `top`: `run`, and the text of what a plan gives
 //! - `lines`: the line that is told for each answer
 //! - `status`: the answers, and the exit status of each
 #![tactic(auto)]
 
+mod documents;
 mod lines;
 mod load;
 mod status;

@@ -2,8 +2,8 @@ ghost use Rattle.std.specs.Prelude.{◌≡◌, ◌≤◌, ◌++◌, codes, List,
 ghost use Rattle.std.specs.Fmt.{decimal};
 ghost use Rattle.std.specs.Io.KnownBytes.{Appends};
 ghost use Rattle.run_ports.specs.Counts.{Rose};
-ghost use Rattle.command_line.specs.Words.{asked};
-ghost use Rattle.query_runner.specs.Answers.{Told, no_job};
+ghost use Rattle.command_line.specs.Words.{asked, no_job};
+ghost use Rattle.query_runner.specs.Answers.{Told};
 ghost use Rattle.query_runner.specs.Lines.{failure_message, file_numbered, kind_number, line, message, plan_message, read_message, table_message, table_named};
 
 use crate::status::Status;
@@ -38,17 +38,7 @@ pub fn tell_first<E: Sink>(err: &mut E, status: &Status)
       faults_after = E.faults err.new;
     }) (message no_job [] status.now) status.now }
 {
-    let none = Job {
-        plan: "",
-        split: 10_000,
-        page: 1024,
-        quantum: 100_000,
-        tasks: 2,
-        drivers: 2,
-        replay: 0,
-        files: &[],
-    };
-    tell(err, &none, &[], status);
+    tell(err, &Job::none(), &[], status);
 }
 
 fn write_line<E: Sink>(
@@ -175,7 +165,7 @@ fn file_numbered<'a>(job: &Job<'a>, file: u32) -> &'a str
     ensures { result.now ≡ file_numbered (asked job.now) file }
 {
     if file == 0 {
-        return job.plan;
+        return job.plan();
     }
     job.file_at((file - 1) as usize)
 }

@@ -51,7 +51,7 @@ pub fn load_plan<F: Files>(alloc: Global, job: &Job<'_>, files: &mut F) -> Resul
         (PlanFails (F.holds files.old) (asked job.now)
         (F.faults files.old) (F.faults files.new) (F.refused files.new)) }
 {
-    let bytes = read_file(alloc, files, job.plan, 0)?;
+    let bytes = read_file(alloc, files, job.plan(), 0)?;
     match read_plan(alloc, bytes.as_slice()) {
         Ok(plan) => Ok(plan),
         Err(PlanFault::Refused { code, path }) => Err(Status::PlanRefused { code, path }),

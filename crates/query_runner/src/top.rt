@@ -1,4 +1,4 @@
-ghost use Rattle.std.specs.Prelude.{◌≡◌, ◌↔◌, ◌≤◌, ℕ, [], map, None, Ok, Err, IfOk, MatchResult};
+ghost use Rattle.std.specs.Prelude.{◌≡◌, ◌↔◌, ◌≤◌, ℕ, [], map, None, Some, Ok, Err, IfOk, MatchResult};
 ghost use Rattle.plan_docs.specs.Plans.{plan_view};
 ghost use Rattle.command_line.specs.Words.{HasBounds, Job as Asked, asked, job_of};
 ghost use Rattle.plan_fits.specs.Tables.{HaveColumns, WasRead};
@@ -7,9 +7,11 @@ ghost use Rattle.plan_trees.specs.Allowed.{Allows};
 ghost use Rattle.task_executor.specs.Nets.{FailsFor};
 ghost use Rattle.task_executor.specs.Shapes.{AreFew, IsShape};
 ghost use Rattle.tree_evaluator.specs.Fits.{TablesFit};
-ghost use Rattle.query_runner.specs.Answers.{Answered, IsComplete, IsResult, IsTextOf, JobAnswered, PlanAnswered, RunFails, status_of};
+ghost use Rattle.query_runner.specs.Answers.{Answered, IsComplete, IsResult, IsTextOf, JobAnswered, PlanAnswered, RunFails, demo_of, seen_for, status_of};
 ghost use Rattle.query_runner.specs.Jobs.{AreTablesAsked, Contents, rows_of};
+ghost use Rattle.query_runner.specs.Demos.{demo_contents};
 
+use crate::documents::Documents;
 use crate::lines::{tell, tell_first};
 use crate::load::{files_of, load_plan, load_tables};
 use crate::status::Status;
@@ -72,15 +74,97 @@ where
       write_faults_before = O.faults out.old;
       write_faults_after = O.faults out.new;
     }) result }
+    ensures demo_reads_no_file { (number : ℕ)
+        → demo_of (job_of words.now) ≡ Some number → files.new ≡ files.old }
 {
     let Some(job) = read_words(words) else {
         tell_first(err, &Status::BadWords);
         return Status::BadWords;
     };
-    run_job(rt, alloc, &job, files, out, err, courier)
+    run_source(rt, alloc, &job, files, out, err, courier)
 }
 
-/// Does what the words ask for.
+/// Does what the words ask for, over the files or over the documents of a demo.
+fn run_source<R, F, O, E, C>(
+    rt: &R,
+    alloc: Global,
+    job: &Job<'_>,
+    files: &mut F,
+    out: &mut O,
+    err: &mut E,
+    courier: &C,
+) -> Status
+where
+    R: Threads + Wait + Sync + RandomSource + AllocGlobal,
+    F: Files,
+    O: Sink,
+    E: Sink,
+    C: Courier,
+    requires { HasBounds (asked job.now) }
+    ensures answer { JobAnswered (asked job.now) (seen_for (asked job.now).demo (record {
+      held = F.holds files.old;
+      read_faults_before = F.faults files.old;
+      read_faults_after = F.faults files.new;
+      refused = F.refused files.new;
+      written_before = O.written out.old;
+      written_after = O.written out.new;
+      write_faults_before = O.faults out.old;
+      write_faults_after = O.faults out.new;
+    })) (record {
+      told_before = E.written err.old;
+      told_after = E.written err.new;
+      faults_before = E.faults err.old;
+      faults_after = E.faults err.new;
+    }) result }
+    ensures demo_reads_no_file { (number : ℕ)
+        → (asked job.now).demo ≡ Some number → files.new ≡ files.old }
+{
+    match job.demo() {
+        None => run_job(rt, alloc, job, files, out, err, courier),
+        Some(number) => run_demo(rt, alloc, job, number, out, err, courier),
+    }
+}
+
+/// Does what the words ask for over the documents of the demo of a number, which no read takes from the files.
+fn run_demo<R, O, E, C>(
+    rt: &R,
+    alloc: Global,
+    job: &Job<'_>,
+    number: u64,
+    out: &mut O,
+    err: &mut E,
+    courier: &C,
+) -> Status
+where
+    R: Threads + Wait + Sync + RandomSource + AllocGlobal,
+    O: Sink,
+    E: Sink,
+    C: Courier,
+    requires { HasBounds (asked job.now) }
+    ensures answer { JobAnswered (asked job.now) (record {
+      held = Some (demo_contents number);
+      read_faults_before = 0;
+      read_faults_after = 0;
+      refused = None;
+      written_before = O.written out.old;
+      written_after = O.written out.new;
+      write_faults_before = O.faults out.old;
+      write_faults_after = O.faults out.new;
+    }) (record {
+      told_before = E.written err.old;
+      told_after = E.written err.new;
+      faults_before = E.faults err.old;
+      faults_after = E.faults err.new;
+    }) result }
+{
+    let Ok(mut documents) = Documents::of(alloc, number) else {
+        tell(err, job, &[], &Status::Memory);
+        return Status::Memory;
+    };
+    run_job(rt, alloc, job, &mut documents, out, err, courier)
+}
+
+/// Does what the words ask for, over some files.
 fn run_job<R, F, O, E, C>(
     rt: &R,
     alloc: Global,

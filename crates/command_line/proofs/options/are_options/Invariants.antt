@@ -1,9 +1,10 @@
-use Rattle.std.proofs.Common.{◌≡◌, ◌≤◌, ◌-◌, length, drop}
+use Rattle.std.proofs.Common.{◌≡◌, length}
+use Rattle.command_line.specs.Items.{items_left}
 use Rattle.command_line.specs.Options.{are_options}
 use Rattle.command_line.proofs.options.are_options.Given as goal
 
-abbrev pub decreases-loop-place : goal.decreases-loop-place
-decreases-loop-place l = length l.words - l.place
+abbrev pub decreases-loop-front : goal.decreases-loop-front
+decreases-loop-front l = length l.left.words.now
 
-abbrev pub invariant-loop-place : goal.invariant-loop-place
-invariant-loop-place l = (are_options l.words ≡ are_options (drop l.place l.words)) × (l.place ≤ length l.words)
+abbrev pub invariant-loop-front : goal.invariant-loop-front
+invariant-loop-front l = are_options (items_left l.items) ≡ are_options (items_left l.left)

@@ -10,17 +10,17 @@ returns-clause-complete g c =
     (record {
       held = g.F.Files.holds c.args.files.now;
       read_faults_before = g.F.Files.faults c.args.files.now;
-      read_faults_after = g.F.Files.faults c.run_job.new.files;
-      refused = g.F.Files.refused c.run_job.new.files;
+      read_faults_after = g.F.Files.faults c.run_source.new.files;
+      refused = g.F.Files.refused c.run_source.new.files;
       written_before = g.O.Sink.written c.args.out.now;
-      written_after = g.O.Sink.written c.run_job.new.out;
+      written_after = g.O.Sink.written c.run_source.new.out;
       write_faults_before = g.O.Sink.faults c.args.out.now;
-      write_faults_after = g.O.Sink.faults c.run_job.new.out;
+      write_faults_after = g.O.Sink.faults c.run_source.new.out;
     })
     (record {
       told_before = g.E.Sink.written c.args.err.now;
-      told_after = g.E.Sink.written c.run_job.new.err;
+      told_after = g.E.Sink.written c.run_source.new.err;
       faults_before = g.E.Sink.faults c.args.err.now;
-      faults_after = g.E.Sink.faults c.run_job.new.err;
+      faults_after = g.E.Sink.faults c.run_source.new.err;
     })
-    c.run_job.result (rw is c.run_job.ensures.answer)
+    c.run_source.result (rw is c.run_source.ensures.answer)

@@ -42,6 +42,7 @@ const EVERY_OPTION: [NumberOption; 8] = [
 
 /// The options that are given no number.
 pub const PLAN: &str = "--plan";
+
 const COUNTS: &str = "--counts";
 
 /// An option's word, the bounds of its number, and the number that it has where it is not given.

@@ -50,7 +50,9 @@ fn job_with<'a>(items: Items<'a>, source: Source<'a>) -> Option<Job<'a>>
 fn source_in(items: Items<'_>) -> Option<Source<'_>>
     ensures { option_map asked_source result ≡ source_in (items_left items.entry) }
 {
-    match (written_in(PLAN, items), NumberOption::Demo.written_in(items)) {
+    let plan = written_in(PLAN, items);
+    let demo = NumberOption::Demo.written_in(items);
+    match (plan, demo) {
         (Some(plan), None) => files_from(plan, items),
         (None, Some(number)) => demo_of(number, items),
         _ => None,

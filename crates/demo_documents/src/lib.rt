@@ -1,8 +1,7 @@
 //! The documents of the demo: a plan and the two tables that it reads, made from a number.
 //!
 //! `make_demo` gives exactly the texts of `specs/Orders.antt`, `specs/Customers.antt` and `specs/Plans.antt`. Each row
-//! is printed behind those before it, so no memory is taken but that of the three texts. The program does not
-//! run a demo yet: no crate calls `make_demo` but its tests.
+//! is printed behind those before it, so no memory is taken but that of the three texts.
 //!
 //! - `demo`: the three documents
 //! - `orders`, `customers`, `plan`: one of them each

@@ -9,6 +9,7 @@
 //! - `answers`: runs of `run`
 //! - `plain`: texts under given words and picks, and those of the plain evaluator
 //! - `scans`, `orders`, `aggregates`, `joins`: the cases of one fragment
+//! - `demos`: runs of a demo
 //! - `fragments`: the cases of several, and `couriers`: couriers for them
 #![tactic(auto)]
 
@@ -18,6 +19,8 @@ mod aggregates;
 mod answers;
 #[cfg(test)]
 mod couriers;
+#[cfg(test)]
+mod demos;
 #[cfg(test)]
 mod fragments;
 #[cfg(test)]

@@ -29,7 +29,17 @@ $a | 'a' | @a | a~1x~ | 5||trinorun: table t refused 4 at row 1 column 0~";
 const WITH_WORDS: &str = "\
  | | | $a | 'a' | @a | a~ | 2||trinorun: bad command line~
 --plan p --plan q | | | $a | 'a' | @a | a~ | 2||trinorun: bad command line~
+--plan= | | | $a | 'a' | @a | a~ | 2||trinorun: bad command line~
+--workers 0 --plan p | | | $a | 'a' | @a | a~ | 2||trinorun: bad command line~
 --plan p t=a t=b | | | $a | 'a' | @a | a~ | 2||trinorun: bad command line~
+--plan p --demo 1 | | | $a | 'a' | @a | a~ | 2||trinorun: bad command line~
+--pla p | | | $a | 'a' | @a | a~ | 2||trinorun: bad command line~
+--plan p --tasks +2 t=t | | | $c | 'a','c' | @c | a,c~1,x~ | 2||trinorun: bad command line~
+--help | | | $a | 'a' | @a | a~ | 2||trinorun: bad command line~
+t=t --plan=p | | | $a | 'a' | @a | a~ | 0|a~|
+t=t --plan=p --workers=8 | | | $c | 'a','c' | @c | a,c~1,x~2,~\\N,\\N~ | 0|a,c~1,x~2,~\\N,\\N~|
+--plan p -- t=t | | | $c | 'a','c' | @c | a,c~1,x~2,~\\N,\\N~ | 0|a,c~1,x~2,~\\N,\\N~|
+--counts yes --plan p t=t | | | $a | 'a' | @a | a~5~ | 0|a~5~|
 --plan p t=t | 1 | | $a | 'a' | @a | a~ | 3||trinorun: cannot read p~
 --plan p t=t | 2 | | $a | 'a' | @a | a~ | 3||trinorun: cannot read t~
 --plan p u=u t=z=z | | | $a | 'a' | @a | a~ | 3||trinorun: cannot read z=z~

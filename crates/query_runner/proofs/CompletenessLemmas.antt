@@ -1,5 +1,5 @@
 -- A run of what is sound, which met no fault of the outside, has no cause to refuse.
-use Rattle.std.proofs.Common.{◌≡◌, ◌⊎◌, inl, inr, ℕ, List, Option, Some, None, refl, subst}
+use Rattle.std.proofs.Common.{◌≡◌, ◌⊎◌, inl, inr, ℕ, List, Option, Some, None, refl, subst, sym}
 use Rattle.run_ports.specs.Reading.{AreBytesOf}
 use Rattle.plan_docs.specs.Plans.{PlanForm}
 use Rattle.plan_reader.specs.Judgement.{IsPlan, RefusedFor}
@@ -95,3 +95,9 @@ pub complete : (asked : Option Job) (seen : Seen) (heard : Heard) (answer : Stat
 complete asked seen heard answer answered = record {
   ends_well = λ job held plan tables is tells sound calm. complete_by asked seen heard answer job held plan tables answered is tells sound calm;
 }
+
+-- what is answered of the documents of a demo is answered of a job of this demo
+pub demo_answered : (job : Job) (demo : Option ℕ) (number : ℕ) (seen : Seen) (heard : Heard) (answer : Status) → demo ≡ Some number
+    → JobAnswered job (seen_for (Some number) seen) heard answer → JobAnswered job (seen_for demo seen) heard answer
+demo_answered job demo number seen heard answer is answered =
+    subst (λ (d : Option ℕ). JobAnswered job (seen_for d seen) heard answer) (sym is) answered

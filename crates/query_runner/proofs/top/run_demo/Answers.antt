@@ -6,21 +6,21 @@ use Rattle.query_runner.proofs.top.run_demo.Goals as goal
 pub returns : goal.returns
 returns g c = record {
   answer = subst (λ (held : List ℕ → Option (List ℕ)). JobAnswered (asked c.args.job.now)
-  (record {
-    held = Some held;
-    read_faults_before = 0;
-    read_faults_after = 0;
-    refused = None;
-    written_before = g.O.Sink.written c.args.out.now;
-    written_after = g.O.Sink.written c.run_job.new.out;
-    write_faults_before = g.O.Sink.faults c.args.out.now;
-    write_faults_after = g.O.Sink.faults c.run_job.new.out;
-  })
-  (record {
-    told_before = g.E.Sink.written c.args.err.now;
-    told_after = g.E.Sink.written c.run_job.new.err;
-    faults_before = g.E.Sink.faults c.args.err.now;
-    faults_after = g.E.Sink.faults c.run_job.new.err;
-  })
-  c.run_job.result) c.in-Ok.ensures c.run_job.ensures.answer;
+      (record {
+        held = Some held;
+        read_faults_before = 0;
+        read_faults_after = 0;
+        refused = None;
+        written_before = g.O.Sink.written c.args.out.now;
+        written_after = g.O.Sink.written c.run_job.new.out;
+        write_faults_before = g.O.Sink.faults c.args.out.now;
+        write_faults_after = g.O.Sink.faults c.run_job.new.out;
+      })
+      (record {
+        told_before = g.E.Sink.written c.args.err.now;
+        told_after = g.E.Sink.written c.run_job.new.err;
+        faults_before = g.E.Sink.faults c.args.err.now;
+        faults_after = g.E.Sink.faults c.run_job.new.err;
+      })
+      c.run_job.result) c.in-Ok.ensures c.run_job.ensures.answer;
 }

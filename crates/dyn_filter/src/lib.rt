@@ -6,16 +6,26 @@
 //! - `value_list`: `ValueList`, values in ascending order, each once
 //! - `spans`: the lesser and the greater of values
 //! - `builder`: `DomainBuilder`, which takes values in, one by one or a column of a page at a time
+//! - `cell`: `FilterCell`, in which each build task publishes the domain of its rows, and others find the domain of all.
+//!   Each part is set once, with notes, and no call waits (`specs/Cells.antt`)
+//! - `note`: `FilterNote`, what one driver knows of the parts
+//! - `fault`: `FilterPublishFault`, why a domain was not kept
 //! - `laws`: a row whose value does not pass has no partner
 #![tactic(auto)]
 
 mod builder;
+mod cell;
 mod domain;
+mod fault;
 mod laws;
+mod note;
 mod spans;
 mod value_list;
 
 pub use builder::DomainBuilder;
+pub use cell::FilterCell;
 pub use domain::Domain;
+pub use fault::FilterPublishFault;
 pub use laws::{a_lost_value_has_no_partner, a_value_that_was_there_passes};
+pub use note::FilterNote;
 pub use value_list::{MOST_VALUES, ValueList};

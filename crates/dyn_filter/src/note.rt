@@ -1,0 +1,43 @@
+ghost use Rattle.std.specs.Prelude.{◌≡◌, ◌↔◌, ◌<◌, IsTrue, IsSome, length};
+ghost use Rattle.dyn_filter.specs.Cells.{note_at};
+
+use crate::domain::Domain;
+use set_once::SetNote;
+use std::marker::Model;
+
+/// What one driver has learned of one cell, part by part.
+#[derive(Drop)]
+pub struct FilterNote {
+    pub(crate) parts: Vec<SetNote<Domain>>,
+    pub(crate) empties: u64,
+    pub(crate) looked_at: u64,
+}
+
+impl Model for FilterNote {
+    ghost use Rattle.dyn_filter.specs.Cells.{NotesState};
+
+    ghost Value = { NotesState };
+
+    ghost view = { λ n. record {
+      parts = n.parts.items;
+      empties = n.empties;
+      looked_at = n.looked_at;
+    } };
+}
+
+impl FilterNote {
+    /// Whether it knows the domain of a part.
+    pub fn knows(&self, part: u32) -> bool
+        requires { part < length self.now.parts }
+        ensures { IsTrue result ↔ IsSome (note_at self.now.parts part).known }
+    {
+        self.parts[part as usize].knows()
+    }
+
+    /// How often a look with this note found a part that has no domain.
+    pub fn empties(&self) -> u64
+        ensures { result ≡ self.now.empties }
+    {
+        self.empties
+    }
+}

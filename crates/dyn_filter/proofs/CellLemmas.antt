@@ -176,3 +176,11 @@ cells_kept old notes parts part own new of is lt at same =
     let long : length notes ≡ length parts = sym (length-map notes (λ (n : NoteState Domain). n.cell)) ∙ ap length all in
     let there : own ≡ note_at notes part = at ∙ get_or_default notes part own (new_note 0) (rw long lt) in
     same_cells notes part new (same ∙ ap (λ (n : NoteState Domain). n.cell) there) ∙ all
+
+-- the notes of one part are of one cell
+pub same_name : (notes others : List (NoteState Domain)) (part : ℕ) (own other : NoteState Domain) → map (λ n. n.cell) others ≡ map (λ n. n.cell) notes → part < length notes
+    → own ≡ get_or notes part own → other ≡ get_or others part other → other.cell ≡ own.cell
+same_name notes others part own other same lt at at' =
+    let name : NoteState Domain → ℕ = λ n. n.cell in
+    let long : length others ≡ length notes = sym (length-map others name) ∙ ap length same ∙ length-map notes name in
+    ap name at' ∙ sym (get_or-map name others part other 0 (rw long lt)) ∙ ap (λ names. get_or names part 0) same ∙ get_or-map name notes part own 0 lt ∙ sym (ap name at)

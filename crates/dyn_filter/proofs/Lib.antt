@@ -1,3 +1,5 @@
 pub mod ListLemmas
 pub mod DomainLemmas
 pub mod CellLemmas
+mod HashedLemmas
+mod FilterLemmas

@@ -1,4 +1,4 @@
-ghost use Rattle.std.specs.Prelude.{◌≡◌, ◌<◌, Some, None, length, map, slice_set, IfOk, IfSome, IfNone, MatchOption};
+ghost use Rattle.std.specs.Prelude.{◌≡◌, ◌<◌, ◌≤◌, Some, None, length, map, slice_set, IfOk, IfSome, IfNone, MatchOption};
 ghost use Rattle.blocked.specs.Counts.{next_count};
 ghost use Rattle.set_once.specs.Answers.{MayLearn};
 ghost use Rattle.dyn_filter.specs.Cells.{FoundAll, FoundNone, IsOf, IsPublished, IsUnion, new_notes, note_at};
@@ -107,6 +107,7 @@ impl FilterCell {
         requires cell { IsOf self.now.parts note.old }
         requires bell { seen.bell ≡ self.now.bell }
         ensures cell { IsOf self.now.parts note.new }
+        ensures looks { note.old.empties ≤ note.new.empties }
         ensures found { IfOk result (λ found. MatchOption found
             (FoundNone note.old note.new seen.count) (FoundAll note.old note.new)) }
     {
@@ -125,6 +126,7 @@ impl FilterCell {
         requires cell { IsOf self.now.parts note.old }
         requires part { part < length self.now.parts }
         ensures cell { IsOf self.now.parts note.new }
+        ensures looks { note.old.empties ≤ note.new.empties }
         ensures some { IfSome result (λ r. MayLearn (note_at note.old.parts part) r.now
             × (note.new
             ≡ record note.old { parts = slice_set note.old.parts part (record (note_at note.old.parts part) { known = Some r.now }) })) }

@@ -28,7 +28,7 @@ impl Domain {
         }
     }
 
-    fn holds(&self, value: ValueRef<'_>) -> bool
+    pub(crate) fn holds(&self, value: ValueRef<'_>) -> bool
         ensures { result ≡ is_held self.now (lent_value value.entry) }
     {
         match self {

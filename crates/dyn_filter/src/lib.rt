@@ -10,13 +10,18 @@
 //!   Each part is set once, with notes, and no call waits (`specs/Cells.antt`)
 //! - `note`: `FilterNote`, what one driver knows of the parts
 //! - `fault`: `FilterPublishFault`, why a domain was not kept
-//! - `laws`: a row whose value does not pass has no partner
+//! - `hashed`: `HashedDomain`, a domain whose values are found by their hash, over a column of a page (`specs/Slots.antt`)
+//! - `filter`: `FilterOp`, an operator that drops the rows whose value does not pass. It waits for the domain, or passes
+//!   every row on until it knows it (`specs/Filters.antt`)
+//! - `laws`: a value that does not pass is equal to none that was there
 #![tactic(auto)]
 
 mod builder;
 mod cell;
 mod domain;
 mod fault;
+mod filter;
+mod hashed;
 mod laws;
 mod note;
 mod spans;
@@ -26,6 +31,7 @@ pub use builder::DomainBuilder;
 pub use cell::FilterCell;
 pub use domain::Domain;
 pub use fault::FilterPublishFault;
+pub use filter::FilterOp;
 pub use laws::{a_lost_value_has_no_partner, a_value_that_was_there_passes};
 pub use note::FilterNote;
 pub use value_list::{MOST_VALUES, ValueList};

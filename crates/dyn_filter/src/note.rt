@@ -1,4 +1,5 @@
-ghost use Rattle.std.specs.Prelude.{◌≡◌, ◌↔◌, ◌<◌, IsTrue, IsSome, length};
+ghost use Rattle.std.specs.Prelude.{◌≡◌, ◌↔◌, ◌<◌, IsTrue, IsSome, length, map};
+ghost use Rattle.set_once.specs.Notes.{Agree};
 ghost use Rattle.dyn_filter.specs.Cells.{note_at};
 
 use crate::domain::Domain;
@@ -39,5 +40,16 @@ impl FilterNote {
         ensures { result ≡ self.now.empties }
     {
         self.empties
+    }
+
+    /// Notes of one cell that know the domain of a part know the same one, whichever threads made them.
+    pub fn agree(&mut self, other: &mut FilterNote, part: u32)
+        requires within { part < length self.old.parts }
+        requires cell { map (λ n. n.cell) other.old.parts ≡ map (λ n. n.cell) self.old.parts }
+        ensures agree { Agree (note_at self.old.parts part) (note_at other.old.parts part) }
+        ensures same { (self.new ≡ self.old) × (other.new ≡ other.old) }
+    {
+        let part = part as usize;
+        self.parts[part].agree(&mut other.parts[part]);
     }
 }

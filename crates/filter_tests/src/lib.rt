@@ -2,7 +2,10 @@
 //! through.
 //!
 //! - `domains`: what is kept of values, and which pass
+//! - `filters`: cells of two parts, and the operator
 #![tactic(auto)]
 
 #[cfg(test)]
 mod domains;
+#[cfg(test)]
+mod filters;

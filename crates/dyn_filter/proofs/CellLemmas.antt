@@ -15,16 +15,6 @@ use Rattle.dyn_filter.specs.declared.domain.Domain.TheVariants.{Nothing}
 use Rattle.dyn_filter.specs.Domains.{IsDomainOf}
 use Rattle.dyn_filter.specs.Cells.{AreDomainsOf, AreFound, AreKnown, FoundAll, IsOf, IsUnion, NotesState, all_of, domain_at, note_at}
 
--- before the first part
-pub none_found : (notes : List (NoteState Domain)) → AreFound notes notes []
-none_found notes = record {
-  size = refl;
-  few = omega arith;
-  may = λ part lt. absurd (omega arith);
-  known = λ part lt. absurd (omega arith);
-  rest = λ part le. refl;
-}
-
 -- a part that was found
 learned : NoteState Domain → Domain → NoteState Domain
 learned note domain = record note { known = Some domain }

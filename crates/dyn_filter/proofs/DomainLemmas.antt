@@ -1,7 +1,8 @@
 -- Domains of values: of one more value, and of more.
-use Rattle.std.proofs.Common.{◌≡◌, ℕ, ◌+◌, ◌-◌, ◌<◌, ◌≤◌, List, [], ◌∷◌, ◌++◌, length, get_or, map, take, append_assoc, Result, Ok, Err, IfOk, Bool, true, false, ◌||◌, ◌&&◌, refl, ap, sym, ◌∙◌, subst, arith}
+use Rattle.std.proofs.Common.{◌≡◌, ℕ, zero, suc, ◌+◌, ◌-◌, ◌<◌, List, [], ◌∷◌, ◌++◌, length, get_or, map, take, append_assoc, Result, Ok, Err, IfOk, Bool, true, false, ◌||◌, ◌&&◌, refl, ap, sym, ◌∙◌, subst, arith}
 use Rattle.std.specs.declared.cmp.Ordering.{Ordering}
 use Rattle.std.specs.declared.cmp.Ordering.TheVariants.{Less, Equal, Greater}
+use Rattle.std.specs.Prelude.{filter}
 use Rattle.std.specs.List.{insert, list_any}
 use Rattle.std.specs.Ordering.{is_le, is_lt}
 use Rattle.std.proofs.lemmas.Bool.{true≢false}
@@ -11,7 +12,7 @@ use Rattle.sql_values.specs.declared.value.Value.{Value}
 use Rattle.sql_values.specs.declared.value.Value.TheVariants.{Null}
 use Rattle.sql_values.specs.Cells.{cell}
 use Rattle.sql_values.specs.Order.{value_cmp}
-use Rattle.relations.specs.Joins.{are_equal}
+use Rattle.relations.specs.Joins.{are_equal, are_partners}
 use Rattle.relations.specs.Equality.{is_present, same_value}
 use Rattle.dyn_filter.specs.declared.domain.Domain.{Domain}
 use Rattle.dyn_filter.specs.declared.domain.Domain.TheVariants.{Nothing, Values, Range}
@@ -45,6 +46,14 @@ or_left false b e = cc
 or_right : (a b : Bool) → b ≡ true → (a || b) ≡ true
 or_right true b e = refl
 or_right false b e = e
+
+and_none : (a : Bool) → (a && false) ≡ false
+and_none true = refl
+and_none false = refl
+
+or_none : (a b : Bool) → (a || b) ≡ false → (a ≡ false) × (b ≡ false)
+or_none true b e = cc
+or_none false b e = (refl, e)
 
 and_first : (a b : Bool) → (a && b) ≡ true → a ≡ true
 and_first true b e = refl
@@ -131,12 +140,6 @@ has_new list place v p values is w =
     is_in-insert list place v w ∙ or_swap (same_value w v) (is_in list w)
     ∙ (λ i. is.same w i || sym (among-one v w p) i) ∙ sym (among-append values (v ∷ []) w)
 
-pub one_value : (v : Value) → is_present v ≡ true → (values : List Value) → IsDomainOf values Nothing → IsDomainOf (values ++ v ∷ []) (Values (v ∷ []))
-one_value v p values none = record {
-  is = record { ascending = (tt, tt); some = omega arith; few = omega arith };
-  same = λ w. or_false (same_value w v) ∙ sym (among-one v w p) ∙ sym (ap (λ b. b || is_among (v ∷ []) w) (none w)) ∙ sym (among-append values (v ∷ []) w);
-}
-
 ends_of_list : (list values : List Value) → AreAscending list → 0 < length list → ((v : Value) → is_in list v ≡ is_among values v)
     → AreEndsOf values (first_of list) (last_of list)
 ends_of_list list values up some same = record {
@@ -154,10 +157,6 @@ too_many list up many values same = (
   ends_of_list list values up (omega arith) same,
   record { some = list; ascending = up; many = many; among = λ v e. sym (same v) ∙ e },
 )
-
-pub few_enough : (list : List Value) → AreAscending list → 0 < length list → length list ≤ most_values → (values : List Value)
-    → ((v : Value) → is_in list v ≡ is_among values v) → IsDomainOf values (Values list)
-few_enough list up some few values same = record { is = record { ascending = up; some = some; few = few }; same = same }
 
 lesser_first : (a b : Value) → is_le (value_cmp (lesser a b) a) ≡ true
 lesser_first a b = go (value_cmp b a) refl
@@ -263,11 +262,6 @@ spans_list list least greatest values others is ends many =
 pub spans_range : (first last least greatest : Value) (values others : List Value) → IsDomainOf values (Range first last) → AreEndsOf others least greatest → AreMany others
     → IsDomainOf (values ++ others) (Range (lesser least first) (greater greatest last))
 spans_range first last least greatest values others is ends many = spans_ends least greatest first last values others is.0 ends many
-
--- where the left side has no value, the right side's domain is that of both
-pub none_before : (d : Domain) (values others : List Value) → IsDomainOf values Nothing → IsDomainOf others d → IsDomainOf (values ++ others) d
-none_before d values others none is =
-    of_same d others (values ++ others) (λ v. sym (among-append values others v ∙ ap (λ b. b || is_among others v) (none v))) is
 
 pub none_behind : (d : Domain) (values others : List Value) → IsDomainOf values d → IsDomainOf others Nothing → IsDomainOf (values ++ others) d
 none_behind d values others is none =
@@ -395,10 +389,30 @@ partner_among v column (row ∷ rows) e = go (are_equal v (cell row column)) ref
         and_both (is_present v) (same_value v (cell row column) || is_in rest v) (and_first (is_present v) (is_in rest v) there)
         (or_right (same_value v (cell row column)) (is_in rest v) (and_second (is_present v) (is_in rest v) there))
 
-pub lost_alone : (d : Domain) (column : ℕ) (rows : List (List Value)) (v : Value) → IsDomainOf (map (λ row. cell row column) rows) d → passes d v ≡ false
+lost_alone : (d : Domain) (column : ℕ) (rows : List (List Value)) (v : Value) → IsDomainOf (map (λ row. cell row column) rows) d → passes d v ≡ false
     → list_any (λ row. are_equal v (cell row column)) rows ≡ false
 lost_alone d column rows v is lost = go (list_any (λ row. are_equal v (cell row column)) rows) refl
   where
     go : (b : Bool) → list_any (λ row. are_equal v (cell row column)) rows ≡ b → list_any (λ row. are_equal v (cell row column)) rows ≡ false
     go true e = absurd (true≢false (sym (there_passes d (map (λ row. cell row column) rows) v is (partner_among v column rows e)) ∙ lost))
     go false e = e
+
+-- rows that differ at one of the pairs are no partners
+differ : (on : List (ℕ × ℕ)) (k : ℕ) (a b : List Value) → k < length on → are_equal (cell a (get_or on k (0, 0)).0) (cell b (get_or on k (0, 0)).1) ≡ false
+    → are_partners on a b ≡ false
+differ [] k a b lt e = absurd (omega arith)
+differ (pair ∷ on) zero a b lt e = ap (λ t. t && are_partners on a b) e
+differ (pair ∷ on) (suc k) a b lt e = ap (λ t. are_equal (cell a pair.0) (cell b pair.1) && t) (differ on k a b (omega arith) e) ∙ and_none (are_equal (cell a pair.0) (cell b pair.1))
+
+none_kept : (on : List (ℕ × ℕ)) (k : ℕ) (a : List Value) (rows : List (List Value)) → k < length on
+    → list_any (λ row. are_equal (cell a (get_or on k (0, 0)).0) (cell row (get_or on k (0, 0)).1)) rows ≡ false → filter (are_partners on a) rows ≡ []
+none_kept on k a [] lt e = refl
+none_kept on k a (row ∷ rows) lt e =
+    let both = or_none (are_equal (cell a (get_or on k (0, 0)).0) (cell row (get_or on k (0, 0)).1)) (list_any (λ row. are_equal (cell a (get_or on k (0, 0)).0) (cell row (get_or on k (0, 0)).1)) rows) e in
+    rw (differ on k a row lt both.0) (none_kept on k a rows lt both.1)
+
+-- a row whose value does not pass has no partner
+pub lost_row : (d : Domain) (on : List (ℕ × ℕ)) (k : ℕ) (a : List Value) (rows : List (List Value)) → k < length on
+    → IsDomainOf (map (λ row. cell row (get_or on k (0, 0)).1) rows) d → passes d (cell a (get_or on k (0, 0)).0) ≡ false → filter (are_partners on a) rows ≡ []
+lost_row d on k a rows lt is lost =
+    none_kept on k a rows lt (lost_alone d (get_or on k (0, 0)).1 rows (cell a (get_or on k (0, 0)).0) is lost)

@@ -1,6 +1,6 @@
 -- What `FilterOp` may give after each of its calls.
 use Rattle.std.proofs.Common.{◌≡◌, ℕ, ◌<◌, List, [], ◌∷◌, ◌++◌, Bool, true, false, not, ◌&&◌, ◌||◌, Option, Some, None, Result, Ok, length, map, arith, refl, ap, sym, ◌∙◌, subst, append_assoc}
-use Rattle.std.specs.Prelude.{◌↔◌, IfSome, MatchOption, filter, is_some}
+use Rattle.std.specs.Prelude.{◌↔◌, MatchOption, filter, is_some}
 use Rattle.std.proofs.lemmas.Bool.{true≢false}
 use Rattle.std.proofs.lemmas.List.Elements.{filter-append}
 use Rattle.col_pages.specs.Pages.{TypedPage}
@@ -12,9 +12,8 @@ use Rattle.operator_core.specs.Samples.{has_row}
 use Rattle.operator_core.specs.SampleLaws.{has_row-none}
 use Rattle.dyn_filter.specs.declared.domain.Domain.{Domain}
 use Rattle.dyn_filter.specs.Rows.{row_passes}
-use Rattle.dyn_filter.specs.Cells.{FoundAll, NotesState, IsOf, new_notes}
-use Rattle.dyn_filter.specs.Filters.{FilterGives, FilterState, GavePage, IsFiltering, IsTaken, KnowsAll, WentBy, unlooked}
-use Rattle.dyn_filter.proofs.CellLemmas.{all_known}
+use Rattle.dyn_filter.specs.Cells.{NotesState, new_notes}
+use Rattle.dyn_filter.specs.Filters.{FilterGives, FilterState, GavePage, IsFiltering, IsTaken, WentBy, unlooked}
 use Rattle.dyn_filter.specs.FilterLaws.{kept-all, kept-append, kept-filter}
 
 pub taken_gives : (waits : Bool) (column : ℕ) (known : Option Domain) (held new rows X B : List Row) → IsTaken column known held rows new → (known ≡ None → waits ≡ false)
@@ -52,14 +51,6 @@ pub open_needs : (known : Option Domain) (waits rest : Bool) → ((is_some known
 open_needs (Some domain) waits rest e none = cc
 open_needs None true rest e none = cc
 open_needs None false rest e none = refl
-
-pub gave_gives : (waits : Bool) (column : ℕ) (known : Option Domain) (held new rows X B : List Row) → held ≡ rows ++ new
-    → FilterGives waits column known new X B → FilterGives waits column known held X (rows ++ B)
-gave_gives waits column known held new rows X B is g =
-    (g.0, g.1, g.2, ap (λ (rs : List Row). rows ++ rs) g.3 ∙ sym (append_assoc rows new g.2) ∙ ap (λ (rs : List Row). rs ++ g.2) (sym is), g.4, g.5)
-
-pub gave_went : (waits : Bool) (held new rows T G : List Row) → held ≡ rows ++ new → WentBy waits held T G → WentBy waits new T (G ++ rows)
-gave_went waits held new rows T G is went = (append_assoc G rows new ∙ ap (λ (rs : List Row). G ++ rs) (sym is) ∙ went.0, went.1)
 
 -- a domain that came to be known is some domain
 pub looked_gives : (waits : Bool) (column : ℕ) (known new : Option Domain) (held X B : List Row) → (is_some known ≡ true → new ≡ known)
@@ -115,14 +106,6 @@ fresh_cells (part ∷ parts) = ap (λ rest. part ∷ rest) (fresh_cells parts)
 
 pub new_filtering : (parts : List ℕ) (note : NotesState) → note ≡ new_notes parts → IsFiltering parts note None
 new_filtering parts note is = record { of_cell = ap (λ (n : NotesState). map (λ m. m.cell) n.parts) is ∙ fresh_cells parts; knows = tt }
-
--- one that found the domain of all parts
-pub found_filtering : (parts : List ℕ) (old new : NotesState) (domain : Domain) (known : Option Domain) → IsOf parts new → FoundAll old new domain → known ≡ Some domain
-    → IsFiltering parts new known
-found_filtering parts old new domain known of found is = record {
-  of_cell = of;
-  knows = subst (λ (k : Option Domain). IfSome k (KnowsAll new.parts)) (sym is) (found.domains, all_known old.parts new.parts found.domains found.found found.all, found.union);
-}
 
 pub learned_all : (old new : FilterState) (T G X B : List Row) → new ≡ record old { note = new.note; known = new.known } → WentBy old.waits old.held T G
     → FilterGives new.waits new.column new.known new.held X B → FilterGives new.waits new.column new.known [] (T ++ X) (G ++ B)

@@ -1,9 +1,8 @@
 -- A domain whose values are found by their hash.
-use Rattle.std.proofs.Common.{◌≡◌, ℕ, ◌+◌, ◌<◌, ◌≤◌, List, [], ◌∷◌, ◌++◌, length, get_or, set, take, append-nil, Bool, true, false, ◌||◌, cond, refl, ap, sym, ◌∙◌, subst, arith, inl, inr}
+use Rattle.std.proofs.Common.{◌≡◌, ℕ, ◌+◌, ◌<◌, ◌≤◌, List, [], ◌∷◌, ◌++◌, length, get_or, set, take, Bool, true, false, ◌||◌, cond, refl, ap, sym, ◌∙◌, subst, arith, inl, inr}
 use Rattle.std.specs.Prelude.{All, filter}
 use Rattle.std.proofs.lemmas.Bool.{cases_eq, true≢false}
-use Rattle.std.proofs.lemmas.List.{get_or-set_other, get_or-set_same, length-append, length-map, length-set, map-append, take_all, take_more}
-use Rattle.std.proofs.lemmas.List.Elements.{All-push, filter_more}
+use Rattle.std.proofs.lemmas.List.{get_or-set_other, get_or-set_same, length-map, length-set, take_all, take_more}
 use Rattle.col_pages.specs.Pages.{TypedPage}
 use Rattle.columns.specs.Present.{gather}
 use Rattle.sql_values.specs.declared.value.Value.{Value}
@@ -20,25 +19,6 @@ pub record ArePassing (pass : List Value → Bool) (rows : Rows) (i : ℕ) (plac
   pub rows_at : gather rows [] places ≡ filter pass (take i rows)
   pub within : All (λ place. place < length rows) places
   pub few : length places ≤ i
-
-module _ (pass : List Value → Bool) (rows : Rows) (i : ℕ) (places : List ℕ) (before : ArePassing pass rows i places) (lt : i < length rows) where
-  pub passing_none : pass (get_or rows i []) ≡ false → ArePassing pass rows (i + 1) places
-  passing_none e = record {
-    rows_at = before.rows_at ∙ sym (filter_more pass rows i [] lt ∙ ap (λ b. filter pass (take i rows) ++ cond b (get_or rows i [] ∷ []) []) e ∙ append-nil (filter pass (take i rows)));
-    within = before.within;
-    few = omega (arith, before.few);
-  }
-
-  pub passing_one : (places' : List ℕ) → places' ≡ places ++ i ∷ [] → pass (get_or rows i []) ≡ true → ArePassing pass rows (i + 1) places'
-  passing_one places' is e = rw is record {
-    rows_at = map-append (λ (p : ℕ). get_or rows p []) places (i ∷ []) ∙ ap (λ rs. rs ++ get_or rows i [] ∷ []) before.rows_at
-        ∙ sym (filter_more pass rows i [] lt ∙ ap (λ b. filter pass (take i rows) ++ cond b (get_or rows i [] ∷ []) []) e);
-    within = All-push (λ (place : ℕ). place < length rows) places i before.within lt;
-    few = omega (arith, before.few, length-append places (i ∷ []));
-  }
-
-pub passing_all : (pass : List Value → Bool) (rows : Rows) (i : ℕ) (places : List ℕ) → ArePassing pass rows i places → length rows ≤ i → gather rows [] places ≡ filter pass rows
-passing_all pass rows i places are le = are.rows_at ∙ ap (filter pass) (take_all i rows le)
 
 -- as many rows pass as there are
 fewer : (pass : List Value → Bool) (rows : Rows) → length (filter pass rows) ≤ length rows
@@ -103,14 +83,6 @@ slots_more list i slots slots' next next' v slot before lt at own within is more
 
 pub slots_all : (list : List Value) (i : ℕ) (slots : List ℕ) (next : ℕ) → AreSlotsTo list i slots next → length list ≤ i → AreSlotsOf list slots
 slots_all list i slots next are le = record { size = are.size; taken = λ v e. are.taken v (ap (λ xs. is_in xs v) (take_all i list le) ∙ e) }
-
--- a value whose slot is not taken is not in the list
-pub untaken : (list : List Value) (slots : List ℕ) (v : Value) (next : ℕ) → AreSlotsOf list slots → next ≡ get_or slots (slot_of v) 0 → next ≡ 0 → is_in list v ≡ false
-untaken list slots v next are read none = go (is_in list v) refl
-  where
-    go : (b : Bool) → is_in list v ≡ b → is_in list v ≡ false
-    go true e = let taken = are.taken v e in absurd (omega (arith, taken, read, none))
-    go false e = e
 
 -- a page all of whose rows pass
 pub same_page : (pass : List Value → Bool) (page : TypedPage) (places : List ℕ) → gather page.rows [] places ≡ filter pass page.rows → length places ≡ length page.rows

@@ -10,7 +10,7 @@ use sql_values::{Memory, Value, ValueRef, compare_values};
 use std::alloc::Global;
 
 /// What is kept of the values of a column.
-#[derive(Debug, Drop)]
+#[derive(Drop)]
 pub enum Domain {
     Nothing,
     Values(ValueList),

@@ -13,7 +13,7 @@
 //! - `hashed`: `HashedDomain`, a domain whose values are found by their hash, over a column of a page (`specs/Slots.antt`)
 //! - `filter`: `FilterOp`, an operator that drops the rows whose value does not pass. It waits for the domain, or passes
 //!   every row on until it knows it (`specs/Filters.antt`)
-//! - `laws`: a value that does not pass is equal to none that was there
+//! - `laws`: a row whose value does not pass has no partner
 #![tactic(auto)]
 
 mod builder;
@@ -32,6 +32,6 @@ pub use cell::FilterCell;
 pub use domain::Domain;
 pub use fault::FilterPublishFault;
 pub use filter::FilterOp;
-pub use laws::{a_lost_value_has_no_partner, a_value_that_was_there_passes};
+pub use laws::{a_lost_row_has_no_partner, a_value_that_was_there_passes};
 pub use note::FilterNote;
 pub use value_list::{MOST_VALUES, ValueList};

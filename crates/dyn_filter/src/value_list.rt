@@ -15,7 +15,7 @@ use std::marker::Model;
 pub const MOST_VALUES: usize = 1000;
 
 /// Values in ascending order, each once: at least one, and no more than `MOST_VALUES`.
-#[derive(Debug, Drop)]
+#[derive(Drop)]
 pub struct ValueList {
     values: Vec<Value>,
 }

@@ -1,0 +1,1 @@
+use Rattle.dyn_filter.proofs.domain.Domain.holds.Goals as goal

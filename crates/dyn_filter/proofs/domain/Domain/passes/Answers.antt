@@ -1,0 +1,1 @@
+use Rattle.dyn_filter.proofs.domain.Domain.passes.Goals as goal

@@ -1,0 +1,1 @@
+use Rattle.dyn_filter.proofs.hashed.is_found.Goals as goal

@@ -1,5 +1,7 @@
 pub mod ListLemmas
 pub mod DomainLemmas
 pub mod CellLemmas
+pub mod LostLemmas
 mod HashedLemmas
 mod FilterLemmas
+mod WorkedDomains

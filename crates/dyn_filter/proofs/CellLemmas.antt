@@ -174,3 +174,8 @@ same_name notes others part own other same lt at at' =
     let name : NoteState Domain → ℕ = λ n. n.cell in
     let long : length others ≡ length notes = sym (length-map others name) ∙ ap length same ∙ length-map notes name in
     ap name at' ∙ sym (get_or-map name others part other 0 (rw long lt)) ∙ ap (λ names. get_or names part 0) same ∙ get_or-map name notes part own 0 lt ∙ sym (ap name at)
+
+-- a note that was just made is one of its cell
+pub fresh_cells : (parts : List ℕ) → map (λ (n : NoteState Domain). n.cell) (map new_note parts) ≡ parts
+fresh_cells [] = refl
+fresh_cells (part ∷ parts) = ap (λ rest. part ∷ rest) (fresh_cells parts)

@@ -13,6 +13,7 @@ use Rattle.operator_core.specs.SampleLaws.{has_row-none}
 use Rattle.dyn_filter.specs.declared.domain.Domain.{Domain}
 use Rattle.dyn_filter.specs.Rows.{row_passes}
 use Rattle.dyn_filter.specs.Cells.{NotesState, new_notes}
+use Rattle.dyn_filter.proofs.CellLemmas.{fresh_cells}
 use Rattle.dyn_filter.specs.Filters.{FilterGives, FilterState, GavePage, IsFiltering, IsTaken, WentBy, unlooked}
 use Rattle.dyn_filter.specs.FilterLaws.{kept-all, kept-append, kept-filter}
 
@@ -100,10 +101,6 @@ gave_over None old new given e = subst (λ (s : FilterState). (s.is_told && not 
 gave_over (Some page) old new given e = absurd (still_over old.is_told old.held (has_more old.held page.rows new.held given.rows given.some) e)
 
 -- one that was just made
-fresh_cells : (parts : List ℕ) → map (λ (n : NoteState Domain). n.cell) (map new_note parts) ≡ parts
-fresh_cells [] = refl
-fresh_cells (part ∷ parts) = ap (λ rest. part ∷ rest) (fresh_cells parts)
-
 pub new_filtering : (parts : List ℕ) (note : NotesState) → note ≡ new_notes parts → IsFiltering parts note None
 new_filtering parts note is = record { of_cell = ap (λ (n : NotesState). map (λ m. m.cell) n.parts) is ∙ fresh_cells parts; knows = tt }
 

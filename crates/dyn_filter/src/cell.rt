@@ -57,7 +57,8 @@ impl FilterCell {
 
     /// A note of this cell that knows nothing.
     pub fn note(&self, alloc: Global) -> Result<FilterNote, Memory>
-        ensures { IfOk result (λ n. n ≡ new_notes self.now.parts) }
+        ensures fresh { IfOk result (λ n. n ≡ new_notes self.now.parts) }
+        ensures cell { IfOk result (IsOf self.now.parts) }
     {
         let mut parts = Vec::with_capacity(alloc, self.parts.len())?;
         for part in &self.parts {

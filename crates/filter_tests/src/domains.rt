@@ -11,6 +11,13 @@ fn number(text: &str) -> i64 {
     }
 }
 
+fn count(text: &str) -> u32 {
+    match text.parse::<u32>() {
+        Ok(count) => count,
+        Err(_) => 0,
+    }
+}
+
 fn show_value(text: &mut String, value: ValueRef<'_>) -> Result<(), Memory> {
     match value {
         ValueRef::Bigint(number) => write!(text, "{number} ")?,
@@ -124,10 +131,10 @@ fn show_passing(text: &mut String, domain: &Domain, asked: &str) -> Result<(), M
 fn is_counted(alloc: Global, line: &str, asked: &str) -> Result<bool, Memory> {
     let (counts, wanted) = line.split_once(';').unwrap_or((line, ""));
     let mut words = counts.split_whitespace();
-    let count = number(words.next().unwrap_or("0"));
+    let first = count(words.next().unwrap_or("0"));
     let from = number(words.next().unwrap_or("0"));
-    let more = number(words.next().unwrap_or("0"));
-    let both = numbers(alloc, 0, count as u32)?.union(alloc, numbers(alloc, from, more as u32)?)?;
+    let more = count(words.next().unwrap_or("0"));
+    let both = numbers(alloc, 0, first)?.union(alloc, numbers(alloc, from, more)?)?;
     let mut text = String::new(alloc);
     show(&mut text, &both)?;
     text.push_str("; ")?;

@@ -1,4 +1,4 @@
-//! Domains of whole numbers that were worked out by hand. `-` is NULL.
+//! Domains of whole numbers and of texts, with a stroke before each, that were worked out by hand. `-` is NULL.
 use dyn_filter::{Domain, DomainBuilder};
 use sql_values::{Memory, ParseFault, SqlType, Value, ValueRef, parse_value};
 use std::alloc::Global;
@@ -21,6 +21,7 @@ fn count(text: &str) -> u32 {
 fn show_value(text: &mut String, value: ValueRef<'_>) -> Result<(), Memory> {
     match value {
         ValueRef::Bigint(number) => write!(text, "{number} ")?,
+        ValueRef::Varchar(word) => write!(text, "'{word} ")?,
         _ => text.push_str("? ")?,
     }
     Ok(())
@@ -51,6 +52,9 @@ fn show(text: &mut String, domain: &Domain) -> Result<(), Memory> {
 fn add_text(alloc: Global, builder: &mut DomainBuilder, text: &str) -> Result<(), ParseFault> {
     if text == "-" {
         return Ok(builder.add(ValueRef::Null)?);
+    }
+    if let Some((_, word)) = text.split_once('\'') {
+        return Ok(builder.add(ValueRef::Varchar(word))?);
     }
     let value = parse_value(alloc, SqlType::Bigint, text)?;
     Ok(builder.add(value.as_ref())?)
@@ -95,7 +99,8 @@ fn few_values_are_kept_in_order(rt: HostRuntime) -> Result<(), ParseFault> {
         3 1 2 3 - 1;;1 2 3 \n\
         ;7 7;7 \n\
         2 1;- 3 2;1 2 3 \n\
-        5;-4;-4 5 ";
+        5;-4;-4 5 \n\
+        'b 'ab 2;'a - 1 'b;1 2 'a 'ab 'b ";
     assert!(rt; are_unions(rt.alloc(), lines)?);
     Ok(())
 }

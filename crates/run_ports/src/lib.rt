@@ -8,8 +8,10 @@
 //! `specs/Delivering.antt` what the calls leave behind, and `specs/Replays.antt` what a `ReplayCourier` delivers.
 //!
 //! - `files`, `sink`, `courier`, `meet`: the traits, and the couriers and meetings of this crate
+//! - `hold_until`: a meeting for tests, which keeps one driver back until another has come
 //! - `mem_files`, `mem_sink`: files and sinks in memory, which fail where they are told to
 //! - `disk_files`, `std_sink`: thin adapters over the files and writers of std, which tell nothing
+//! - `bounded_bytes`: bytes up to a length; `failing_calls`: which calls fail
 #![tactic(auto)]
 
 mod bounded_bytes;
@@ -17,6 +19,7 @@ mod courier;
 mod disk_files;
 mod failing_calls;
 mod files;
+mod hold_until;
 mod meet;
 mod mem_files;
 mod mem_sink;
@@ -26,6 +29,7 @@ mod std_sink;
 pub use courier::{Courier, Delivery, ReplayCourier};
 pub use disk_files::DiskFiles;
 pub use files::{FileFault, Files};
+pub use hold_until::HoldUntil;
 pub use meet::{Meet, NoMeet};
 pub use mem_files::{MemFiles, NamedBytes};
 pub use mem_sink::MemSink;

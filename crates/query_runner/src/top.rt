@@ -340,7 +340,7 @@ where
     let Ok(net) = Net::build(alloc, plan, tables, &mut wiring, shape, courier) else {
         return Err(RunFault::Memory);
     };
-    run_alone(rt, alloc, plan, net, shape, picks)
+    run_alone(rt, alloc, net, shape, picks)
 }
 
 /// How a job cuts its tables and its work.

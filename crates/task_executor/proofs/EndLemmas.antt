@@ -1,6 +1,6 @@
 -- What follows of a run once its drivers were taken apart.
-use Rattle.std.proofs.Common.{◌≡◌, ℕ, ◌<◌, zero, suc, List, [], ◌∷◌, length, get_or, Option, Some, None, refl, ap, sym, ◌∙◌, subst, arith}
-use Rattle.std.specs.Prelude.{All, slice_get, option_map, true, unwrap_or}
+use Rattle.std.proofs.Common.{Result, ◌≡◌, ℕ, ◌<◌, zero, suc, List, [], ◌∷◌, length, get_or, Option, Some, None, refl, ap, sym, ◌∙◌, subst, arith}
+use Rattle.std.specs.Prelude.{All, MatchResult, slice_get, option_map, true, unwrap_or}
 use Rattle.sql_values.specs.declared.fail.Fail.{Fail}
 use Rattle.operator_core.specs.Rows.{Row}
 use Rattle.driver_loop.specs.Drivers.{DriverState, HasFailed, IsWhole}
@@ -25,7 +25,9 @@ use Rattle.net_closing.specs.Left.{handed_in}
 use Rattle.net_closing.specs.Results.{IsResultOf}
 use Rattle.net_lanes.specs.Later.{AreLater}
 use Rattle.net_lanes.proofs.LaterLemmas.{drivers_on}
-use Rattle.task_executor.specs.Nets.{FailsFor, IsNetOf, IsOver}
+use Rattle.net_making.specs.Slots.{IsNew}
+use Rattle.task_executor.specs.Nets.{FailsFor, IsNetOf, IsOver, NetState, layout_in, plan_in}
+use Rattle.task_executor.specs.declared.answer.RunDone.{RunDone}
 use Rattle.task_executor.specs.Turns.{AreFailing, AreFinished, AreUnfailed, AreWholeDrivers}
 
 -- what the laws of nets say of the plan
@@ -69,39 +71,55 @@ lone_root layout drivers given r = record { at = r.at; is = r.only.is; only = r.
 pub whole_unfailed : (after : List DriverState) → AreUnfailed after → AreWholeDrivers after
 whole_unfailed after unfailed = λ k d less. subst IsWhole (sym (unfailed k d less)) tt
 
+-- drivers that were just made have no fault
+pub new_unfailed : (drivers : List DriverState) → All IsNew drivers → AreUnfailed drivers
+new_unfailed drivers fresh = λ k d less. (fresh k d less).unfailed
+
 -- the drivers after their turns are those of a net of the layout
-pub net_after : (tables : Tables) (layout : List PipeForm) (before after : List DriverState) → IsOver tables layout before → AreLater before after → AreWholeDrivers after → HasNet layout after
-net_after tables layout before after (split, made) later whole = record {
+pub net_after : (tables : Tables) (net : NetState) (after : List DriverState) → IsOver tables net → AreLater net.drivers after → AreWholeDrivers after → HasNet (layout_in net) after
+net_after tables net after (split, made) later whole = record {
   net = made.net;
   laid = made.of;
-  are = drivers_on made.net before after made.are later whole;
+  are = drivers_on made.net net.drivers after made.are later whole;
   seats = made.seats;
 }
 
-pub run_gives : (plan : PlanForm) (tables : Tables) (layout : List PipeForm) (before after : List DriverState) (pages rows : List Row) → GivesRows plan → IsNetOf plan tables layout before
-    → AreLater before after → AreWholeDrivers after → AreFinished after → Settles layout after → IsResultOf layout after pages → rows ≡ pages
-    → Allows (tree_of plan) tables rows
-run_gives plan tables layout before after pages rows gives is later whole finished settles result same =
+pub run_gives : (tables : Tables) (net : NetState) (after : List DriverState) (pages rows : List Row) → GivesRows (plan_in net) → IsNetOf (plan_in net) tables net → AreLater net.drivers after
+    → AreWholeDrivers after → AreFinished after → Settles (layout_in net) after → IsResultOf (layout_in net) after pages → rows ≡ pages
+    → Allows (tree_of (plan_in net)) tables rows
+run_gives tables net after pages rows gives is later whole finished settles result same =
     let made = is.over.1 in
-    let are = drivers_on made.net before after made.are later whole in
+    let are = drivers_on made.net net.drivers after made.are later whole in
     let settled = settles made.net made.of are in
     let h = handed_by after (driver_number result.only.pipe 0 0) pages (slice_get after (driver_number result.only.pipe 0 0)) refl result.rows in
-    let fits = subst (λ (ts : Tables). FitsTables (tree_of plan) ts) (sym made.over) is.fits in
-    let root = subst (λ (l : List PipeForm). IsLoneRoot l result.only.pipe) (sym made.of) (lone_root layout after pages result) in
+    let fits = subst (λ (ts : Tables). FitsTables (tree_of (plan_in net)) ts) (sym made.over) is.fits in
+    let root = subst (λ (l : List PipeForm). IsLoneRoot l result.only.pipe) (sym made.of) (lone_root (layout_in net) after pages result) in
     let given = gives is.consistent is.parallelism is.some is.first is.is_first made.net after (made.of ∙ is.laid) are settled fits result.only.pipe root finished h.d h.there in
-    subst (λ (ts : Tables). Gives strict (tree_of plan) ts rows) made.over
-    (subst (λ (list : List Row). Gives strict (tree_of plan) made.net.tables list) (h.rows ∙ sym same) given)
+    subst (λ (ts : Tables). Gives strict (tree_of (plan_in net)) ts rows) made.over
+    (subst (λ (list : List Row). Gives strict (tree_of (plan_in net)) made.net.tables list) (h.rows ∙ sym same) given)
 
-pub run_fails : (plan : PlanForm) (tables : Tables) (layout : List PipeForm) (before after : List DriverState) (pages : List Row) (fault : RunFault) → FailsSo plan → IsNetOf plan tables layout before
-    → AreLater before after → Settles layout after → IsResultOf layout after pages → AreFailing after fault
-    → FailsFor (tree_of plan) tables fault
-run_fails plan tables layout before after pages Memory fails is later settles result failing = tt
-run_fails plan tables layout before after pages (ExprFailed node kind) fails is later settles result (whole, (d, at, failed)) =
+pub run_fails : (tables : Tables) (net : NetState) (after : List DriverState) (pages : List Row) (fault : RunFault) → FailsSo (plan_in net) → IsNetOf (plan_in net) tables net
+    → AreLater net.drivers after → Settles (layout_in net) after → IsResultOf (layout_in net) after pages → AreFailing after fault
+    → FailsFor (tree_of (plan_in net)) tables fault
+run_fails tables net after pages Memory fails is later settles result failing = tt
+run_fails tables net after pages (ExprFailed node kind) fails is later settles result (whole, (d, at, failed)) =
     let made = is.over.1 in
-    let are = drivers_on made.net before after made.are later whole in
+    let are = drivers_on made.net net.drivers after made.are later whole in
     let settled = settles made.net made.of are in
-    let fits = subst (λ (ts : Tables). FitsTables (tree_of plan) ts) (sym made.over) is.fits in
-    let root = subst (λ (l : List PipeForm). IsLoneRoot l result.only.pipe) (sym made.of) (lone_root layout after pages result) in
+    let fits = subst (λ (ts : Tables). FitsTables (tree_of (plan_in net)) ts) (sym made.over) is.fits in
+    let root = subst (λ (l : List PipeForm). IsLoneRoot l result.only.pipe) (sym made.of) (lone_root (layout_in net) after pages result) in
     let there = found after at.0 d at.1 (sym at.2) in
-    subst (λ (ts : Tables). MayFail (tree_of plan) ts node kind) made.over
+    subst (λ (ts : Tables). MayFail (tree_of (plan_in net)) ts node kind) made.over
     (fails is.consistent is.parallelism is.some is.first is.is_first made.net after (made.of ∙ is.laid) are settled fits result.only.pipe root at.0 d there node kind failed)
+
+-- a net of a plan is one of its own plan
+pub own : (plan : PlanForm) (tables : Tables) (net seen : NetState) → net ≡ seen → IsNetOf plan tables net → IsNetOf (plan_in seen) tables seen
+own plan tables net seen same is =
+    subst (λ (n : NetState). IsNetOf (plan_in n) tables n) same (subst (λ (p : PlanForm). IsNetOf p tables net) (sym is.of) is)
+
+pub of_plan : (plan : PlanForm) (tables : Tables) (net seen : NetState) (answer : Result RunDone RunFault) → net ≡ seen → IsNetOf plan tables net
+    → MatchResult answer (λ done. Allows (tree_of (plan_in seen)) tables done.rows) (FailsFor (tree_of (plan_in seen)) tables)
+    → MatchResult answer (λ done. Allows (tree_of plan) tables done.rows) (FailsFor (tree_of plan) tables)
+of_plan plan tables net seen answer same is says =
+    subst (λ (p : PlanForm). MatchResult answer (λ done. Allows (tree_of p) tables done.rows) (FailsFor (tree_of p) tables))
+    (ap (λ (n : NetState). (plan_in n)) (sym same) ∙ is.of) says

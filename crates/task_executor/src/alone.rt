@@ -1,45 +1,31 @@
 //! A run on one thread.
-ghost use Rattle.std.specs.Prelude.{◌≡◌, ◌<◌, List, None, Some, false, true, length, map, IfOk, MatchResult};
-ghost use Rattle.plan_docs.specs.Plans.{plan_view};
-ghost use Rattle.plan_layout.specs.Pipes.{pipe_view};
+ghost use Rattle.std.specs.Prelude.{◌≡◌, ◌<◌, List, None, false, true, length, IfOk, IfSome, MatchResult};
+ghost use Rattle.plan_docs.specs.Plans.{PlanForm};
 ghost use Rattle.plan_reader.specs.Trees.{tree_of};
 ghost use Rattle.plan_trees.specs.Allowed.{Allows};
 ghost use Rattle.operator_core.specs.Rows.{Row};
 ghost use Rattle.net_lanes.specs.Later.{AreLater, IsLater};
-ghost use Rattle.task_executor.specs.Nets.{FailsFor, IsNetOf, IsSomeNet};
-ghost use Rattle.driver_loop.specs.declared.run_fault.RunFault.{RunFault};
+ghost use Rattle.task_executor.specs.Nets.{FailsFor, IsNetOf};
 ghost use Rattle.task_executor.specs.Turns.{AreFailing, AreFinished, AreUnfailed, AreWholeDrivers, IsFailing};
 
+use crate::answer::{RunDone, answer_of};
 use crate::net::Net;
-use crate::result::rows_of;
 use crate::run_bells::RunBells;
 use crate::shape::Shape;
-use driver_loop::{Driver, RunFault, Stage, Turn};
+use driver_loop::{Driver, RunFault, Turn};
 use futures::task::{Doorbell, Solo};
-use net_closing::close;
-use net_stands::{plans_fail, plans_give};
-use operator_core::laws;
-use plan_reader::Plan;
 use run_ports::Courier;
-use sql_values::{Memory, RowList};
+use sql_values::Memory;
 use std::alloc::Global;
-use std::marker::PhantomData;
 use std::random::RandomSource;
 use std::sync::Wait;
 use std::thread::Threads;
-
-/// What a run gave.
-#[derive(Drop)]
-pub struct RunDone {
-    pub rows: RowList,
-}
 
 /// Gives turns to the drivers of a net on this thread: first to those that the picks name, each modulo the
 /// number of drivers, and then to each that is not finished.
 pub fn run_alone<R, C>(
     rt: &R,
     alloc: Global,
-    plan: &Plan,
     net: Net<'_, '_, C>,
     shape: &Shape,
     picks: &[u32],
@@ -47,16 +33,11 @@ pub fn run_alone<R, C>(
 where
     R: Threads + Wait + Sync + RandomSource + AllocGlobal,
     C: Courier,
-    requires { IsSomeNet (map pipe_view net.pipes.now) net.drivers.items }
-    ensures { (tables : List (List Row))
-        → IsNetOf (plan_view plan.now) tables (map pipe_view net.entry.pipes.now) net.entry.drivers.items
-        → MatchResult result (λ done. Allows (tree_of (plan_view plan.now)) tables done.rows)
-        (FailsFor (tree_of (plan_view plan.now)) tables) }
+    ensures { (plan : PlanForm) (tables : List (List Row)) → IsNetOf plan tables net.entry
+        → MatchResult result (λ done. Allows (tree_of plan) tables done.rows) (FailsFor (tree_of plan) tables) }
 {
-    laws::laws::<Stage<'_>>(PhantomData);
-    plans_give(plan, PhantomData);
-    plans_fail(plan, PhantomData);
     let Net {
+        plan,
         pipes,
         mut drivers,
         bells,
@@ -64,22 +45,13 @@ where
     let Ok(solo) = Solo::new(rt, Doorbell::spinning()) else {
         return Err(RunFault::Memory);
     };
-    let Ok(mut bells) = RunBells::new(alloc, bells as usize) else {
+    let Ok(mut bells) = RunBells::new(alloc, bells) else {
         return Err(RunFault::Memory);
     };
     let Ok(failed) = drive_whole(rt, &solo, &mut drivers, &mut bells, shape.quantum, picks) else {
         return Err(RunFault::Memory);
     };
-    let Ok(pages) = close(alloc, pipes, drivers) else {
-        return Err(RunFault::Memory);
-    };
-    if let Some(fault) = failed {
-        return Err(fault);
-    }
-    let Ok(rows) = rows_of(alloc, pages) else {
-        return Err(RunFault::Memory);
-    };
-    Ok(RunDone { rows })
+    answer_of(alloc, plan, pipes, drivers, failed)
 }
 
 /// Gives turns until each driver is finished, or an expression failed in one, which is told.
@@ -95,8 +67,7 @@ fn drive_whole<R: Threads + Wait + Sync, C: Courier>(
     ensures later { AreLater drivers.old.items drivers.new.items }
     ensures whole { IfOk result (λ _. AreWholeDrivers drivers.new.items) }
     ensures finished { IfOk result (λ failed. failed ≡ None → AreFinished drivers.new.items) }
-    ensures failing { IfOk result (λ failed. (fault : RunFault) → failed ≡ Some fault
-        → AreFailing drivers.new.items fault) }
+    ensures failing { IfOk result (λ failed. IfSome failed (AreFailing drivers.new.items)) }
 {
     match drive(rt, solo, drivers, bells, quantum, picks) {
         Ok(()) => Ok(None),

@@ -3,10 +3,11 @@
 //! - `shape`: how the tables and the work of a run are cut
 //! - `wiring`: the pipes of a plan, and what their drivers share
 //! - `net`: the drivers of a plan over its tables (`specs/Nets.antt`)
-//! - `alone`: `run_alone`, a run on one thread. Where it answers rows, the plan's tree allows them over the tables;
-//!   where an expression failed, its node may fail so
-//! - `result`: the rows of a result, as one list
+//! - `alone`: `run_alone`, a run on one thread
 //! - `run_bells`: the bells of a run on one thread, which count their rings
+//! - `answer`: what a net gives whose drivers had their turns. Where it is rows, the plan's tree allows them over the
+//!   tables; where an expression failed, its node may fail so
+//! - `result`: the rows of a result, as one list
 //!
 //! A run is of any plan that was read, in any number of fragments, tasks and drivers. What its drivers are made of stands
 //! below (`net_making`), and so does how they are taken apart (`net_closing`) and why that is the plan's answer
@@ -14,13 +15,15 @@
 #![tactic(auto)]
 
 mod alone;
+mod answer;
 mod net;
 mod result;
 mod run_bells;
 mod shape;
 mod wiring;
 
-pub use alone::{RunDone, run_alone};
+pub use alone::run_alone;
+pub use answer::RunDone;
 pub use driver_loop::RunFault;
 pub use net::Net;
 pub use shape::Shape;

@@ -21,14 +21,31 @@ use plan_reader::Plan;
 use run_ports::Courier;
 use sql_values::{Memory, Table};
 use std::alloc::Global;
+use std::marker::Model;
 
 /// The drivers of a plan that run it over its tables, by their numbers.
 #[derive(Drop)]
 pub struct Net<'w, 'p, C: Courier> {
+    pub(crate) plan: &'p Plan,
     pub(crate) pipes: &'w [Pipe<'p>],
     pub(crate) drivers: Vec<Driver<'w, C>>,
     /// How many bells there are at which they wait.
     pub(crate) bells: u32,
+}
+
+impl<'w, 'p, C: Courier> Model for Net<'w, 'p, C> {
+    ghost use Rattle.plan_docs.specs.contracts.node.Node as n;
+    ghost use Rattle.sql_exprs.specs.contracts.expr.Expr as e;
+    ghost use Rattle.std.specs.Coded.{codes};
+    ghost use Rattle.task_executor.specs.Nets.{IsSomeNet, NetState};
+
+    ghost Value = { NetState };
+
+    ghost coded = { Prim.hlevel (codes, e.the_row.coded, n.the_row.coded) };
+
+    ghost view = { λ n. record { plan = n.plan.now; pipes = n.pipes.now; drivers = n.drivers.items } };
+
+    ghost invariant = { λ n. IsSomeNet (record { plan = n.plan.now; pipes = n.pipes.now; drivers = n.drivers.items }) };
 }
 
 impl<'w, 'p, C: Courier> Net<'w, 'p, C> {
@@ -36,7 +53,7 @@ impl<'w, 'p, C: Courier> Net<'w, 'p, C> {
     /// no other net.
     pub fn build(
         alloc: Global,
-        plan: &Plan,
+        plan: &'p Plan,
         tables: &'w [Table],
         wiring: &'w mut Wiring<'p>,
         shape: &Shape,
@@ -52,8 +69,7 @@ impl<'w, 'p, C: Courier> Net<'w, 'p, C> {
         requires wired { IsWiringOf (map pipe_view wiring.old.layout.pipes.items) tables.now
             shape.now.split wiring.old.shared }
         requires unused { AreUnused (map share_view wiring.old.shared.pipes.items) }
-        ensures { IfOk result (λ net. IsNetOf (plan_view plan.now) (map rows_of tables.now)
-            (map pipe_view net.pipes.now) net.drivers.items) }
+        ensures { IfOk result (IsNetOf (plan_view plan.now) (map rows_of tables.now)) }
     {
         layout_fits::layouts_fit(plan);
         plan_fits::consistent_plans_fit(plan);
@@ -70,6 +86,7 @@ impl<'w, 'p, C: Courier> Net<'w, 'p, C> {
             courier,
         )?;
         Ok(Net {
+            plan,
             pipes: layout.pipes.as_slice(),
             drivers,
             bells,

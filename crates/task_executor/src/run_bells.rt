@@ -18,10 +18,10 @@ pub(crate) struct RunBells {
 
 impl RunBells {
     /// Bells 0 to `count - 1`, none of which rang.
-    pub(crate) fn new(alloc: Global, count: usize) -> Result<RunBells, Memory>
+    pub(crate) fn new(alloc: Global, count: u32) -> Result<RunBells, Memory>
         ensures { IfOk result (λ bells. bells.rings.items ≡ replicate count 0) }
     {
-        let rings = Vec::from_elem(alloc, 0u64, count)?;
+        let rings = Vec::from_elem(alloc, 0u64, count as usize)?;
         Ok(RunBells { alloc, rings })
     }
 }

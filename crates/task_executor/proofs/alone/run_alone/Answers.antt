@@ -1,21 +1,14 @@
-use Rattle.std.proofs.Common.{rules}
-use Rattle.std.specs.Prelude.{map}
-use Rattle.plan_docs.specs.Plans.{plan_view}
-use Rattle.plan_layout.specs.Pipes.{pipe_view}
-use Rattle.task_executor.proofs.EndLemmas.{net_after, run_fails, run_gives}
+use Rattle.std.proofs.Common.{sym}
+use Rattle.task_executor.proofs.EndLemmas.{new_unfailed, of_plan, own}
 use Rattle.task_executor.proofs.alone.run_alone.Goals as goal
 
-pub close-requires-clause-net : goal.close-requires-clause-net
-close-requires-clause-net g c =
-    net_after c.requires.tables (map pipe_view c.args.net.pipes.now) c.args.net.drivers.items c.drive_whole.new.drivers.items c.requires.over c.drive_whole.ensures.later
-    c.in-Ok-drive_whole.ensures.whole
+pub drive_whole-requires : goal.drive_whole-requires
+drive_whole-requires g c = (c.type_bounds.sync-R, new_unfailed c.net.inside.drivers.items c.net.invariant.over.1.fresh)
+
+pub answer_of-requires-clause-net : goal.answer_of-requires-clause-net
+answer_of-requires-clause-net g c = (c.net.inside.drivers.items, c.net.invariant.tables, c.net.invariant.over, c.drive_whole.ensures.later)
 
 pub returns : goal.returns
-returns g c tables is =
-    run_gives (plan_view c.args.plan.now) tables (map pipe_view c.args.net.pipes.now) c.args.net.drivers.items c.drive_whole.new.drivers.items c.in-Ok-close.pages c.in-Ok-rows_of.rows
-    c.plans_give.ensures is c.drive_whole.ensures.later c.in-Ok-drive_whole.ensures.whole (c.in-Ok-drive_whole.ensures.finished (search rules)) c.in-Ok-close.ensures.settled c.in-Ok-close.ensures.rows c.in-Ok-rows_of.ensures
-
-pub returns-in-Some : goal.returns-in-Some
-returns-in-Some g c tables is =
-    run_fails (plan_view c.args.plan.now) tables (map pipe_view c.args.net.pipes.now) c.args.net.drivers.items c.drive_whole.new.drivers.items c.in-Ok-close.pages c.in-Some.fault
-    c.plans_fail.ensures is c.drive_whole.ensures.later c.in-Ok-close.ensures.settled c.in-Ok-close.ensures.rows (c.in-Ok-drive_whole.ensures.failing c.in-Some.fault c.in-Some.is)
+returns g c plan tables is =
+    of_plan plan tables c.args.net (record { plan = c.net.inside.plan.now; pipes = c.net.inside.pipes.now; drivers = c.net.inside.drivers.items }) c.answer_of.result (sym c.net.view_is) is
+    (c.answer_of.ensures c.net.inside.drivers.items tables (own plan tables _ _ (sym c.net.view_is) is) c.drive_whole.ensures.later)

@@ -1,4 +1,4 @@
-use Rattle.std.proofs.Common.{List, ap, sym, subst, ◌∙◌}
+use Rattle.std.proofs.Common.{List, refl, ap, sym, subst, ◌∙◌}
 use Rattle.std.specs.Prelude.{map}
 use Rattle.driver_nets.specs.Makes.{LayoutFits}
 use Rattle.driver_nets.specs.Types.{AreTyped}
@@ -6,7 +6,7 @@ use Rattle.plan_docs.specs.Plans.{plan_view}
 use Rattle.plan_fits.proofs.ConsistentLemmas.{some}
 use Rattle.plan_layout.specs.Pipes.{PipeForm, pipe_view}
 use Rattle.tree_evaluator.specs.Stops.{rows_of}
-use Rattle.task_executor.specs.Nets.{IsOver}
+use Rattle.net_making.specs.Nets as made
 use Rattle.task_executor.specs.Shapes.{parallelism_of}
 use Rattle.task_executor.proofs.net.Net.build.Goals as goal
 
@@ -25,6 +25,7 @@ returns g c =
     let first = some plan c.requires.consistent in
     let same = ap (map pipe_view) c.as_slice.ensures.value in
     record {
+      of = refl;
       consistent = c.requires.consistent;
       first = first.f;
       is_first = first.is;
@@ -32,5 +33,5 @@ returns g c =
       some = c.requires.shape.tasks;
       laid = same ∙ c.requires.laid;
       fits = c.consistent_plans_fit.ensures.tree c.requires.consistent c.args.tables.now c.requires.columns c.requires.readable;
-      over = subst (λ (layout : List PipeForm). IsOver (map rows_of c.args.tables.now) layout c.in_ok-drivers.drivers.items) (sym same) (_, c.in_ok-drivers.ensures);
+      over = (_, subst (λ (layout : List PipeForm). made.IsNetOf layout (map rows_of c.args.tables.now) c.args.shape.now.split c.in_ok-drivers.drivers.items) (sym same) c.in_ok-drivers.ensures);
     }

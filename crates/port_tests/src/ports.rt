@@ -1,7 +1,7 @@
 //! Each object once, through its trait.
 use run_ports::{
-    Courier, Delivery, DiskFiles, FileFault, Files, Meet, MemFiles, MemSink, NamedBytes, NoMeet,
-    ReplayCourier, StdSink, write_whole,
+    Courier, Delivery, DiskFiles, FileFault, Files, HoldUntil, Meet, MemFiles, MemSink, NamedBytes,
+    NoMeet, ReplayCourier, StdSink, write_whole,
 };
 use sql_values::{Memory, Text};
 use std::alloc::Global;
@@ -211,5 +211,32 @@ fn is_replayed(line: &str) -> bool {
 fn a_replay_courier_follows_its_generator(rt: HostRuntime) {
     for line in DELIVERIES.lines() {
         assert!(rt; is_replayed(line));
+    }
+}
+
+/// Drivers in the order in which they arrive where driver 1 is held until driver 2 comes, how many arrive, and whether
+/// driver 1 looks for it in vain.
+const ARRIVALS: &str = "\
+2 1 | 2 false
+1 | 1 true
+0 2 3 1 | 4 false
+0 3 | 2 false
+1 2 1 | 3 true";
+
+/// Whether the drivers of a line are held as it says.
+fn are_held(line: &str) -> bool {
+    let (drivers, rest) = line.split_once(" | ").unwrap_or((line, ""));
+    let (arrivals, late) = rest.split_once(' ').unwrap_or((rest, ""));
+    let meet = HoldUntil::new(1, 2, 3);
+    for driver in drivers.split(' ') {
+        meet.arrive(driver.parse().unwrap_or(0));
+    }
+    Ok(meet.arrivals()) == arrivals.parse() && (late == "true") == meet.was_late()
+}
+
+#[test]
+fn a_driver_is_held_until_another_comes(rt: HostRuntime) {
+    for line in ARRIVALS.lines() {
+        assert!(rt; are_held(line));
     }
 }

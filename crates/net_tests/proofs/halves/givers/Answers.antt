@@ -2,8 +2,8 @@ use Rattle.std.proofs.Common.{◌≡◌, ◌∷◌, rules, subst}
 use Rattle.std.specs.Prelude.{All}
 use Rattle.std.specs.Vec.Iter.{into_iter_items}
 use Rattle.std.proofs.lemmas.List.Elements.{All-tail}
-use Rattle.half_tests.proofs.EdgeLemmas.{IsNewPut}
-use Rattle.half_tests.proofs.halves.givers.Goals as goal
+use Rattle.net_tests.proofs.EdgeLemmas.{IsNewPut}
+use Rattle.net_tests.proofs.halves.givers.Goals as goal
 
 pub loop-seat-preserved : goal.loop-seat-preserved
 loop-seat-preserved c =

@@ -80,9 +80,13 @@ fn write_cell(text: &mut String, cell: ValueRef<'_>) -> Result<(), Memory> {
     }
 }
 
+/// Writes the rows of a page, which has at most three columns.
 fn write_page(text: &mut String, page: &Page) -> Result<(), Memory> {
+    let width = page.types().len().min(3) as u32;
     for row in 0..page.len() {
-        write_cell(text, page.cell(row, 0))?;
+        for column in 0..width {
+            write_cell(text, page.cell(row, column))?;
+        }
     }
     Ok(())
 }
@@ -111,4 +115,13 @@ pub(crate) fn write_all(text: &mut String, drivers: Vec<Driver<'_, Slow>>) -> Re
         write_driver(text, driver)?;
     }
     Ok(())
+}
+
+/// Writes the fault of a driver, or the rows of its result.
+pub(crate) fn write_outcome(text: &mut String, driver: Driver<'_, Slow>) -> Result<(), Memory> {
+    if let Some(fault) = driver.fault() {
+        return Ok(write!(text, "{fault}")?);
+    }
+    let mut pieces = driver.stop();
+    write_pages(text, &mut pieces.rows)
 }

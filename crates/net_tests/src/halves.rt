@@ -6,6 +6,7 @@ ghost use Rattle.sql_values.specs.declared.relational.Call.TheVariants.{CountAll
 ghost use Rattle.output_buffer.specs.Seats.{new_gather_put};
 ghost use Rattle.driver_loop.specs.Ends.{rows_taken, target_made};
 
+use crate::slow::Slow;
 use crate::turns::{give_turns, write_outcome};
 use aggregation::{FinalAgg, PartialAgg};
 use driver_ends::{LocalSource, PutKind, PutTarget};
@@ -14,7 +15,6 @@ use futures::task::{Doorbell, Solo};
 use operator_core::Operator;
 use output_buffer::{Gather, GatherPut, GatherTake};
 use row_ops::ValuesOp;
-use run_ports::ReplayCourier;
 use sql_values::{Call, Memory, Row, RowList, SqlType, Types, Value};
 use std::alloc::Global;
 use std::sync::Wait;
@@ -76,7 +76,7 @@ fn rows(alloc: Global, words: &str) -> Result<RowList, Memory>
 }
 
 /// Pages of two rows.
-fn source<'w>(alloc: Global, words: &str) -> Result<Source<'w, ReplayCourier>, Memory>
+fn source<'w>(alloc: Global, words: &str) -> Result<Source<'w, Slow>, Memory>
     ensures { IfOk result (λ s. rows_taken s ≡ []) }
 {
     let types = pairs(alloc)?;
@@ -134,11 +134,7 @@ fn result<'w>(alloc: Global) -> Result<Target<'w>, Memory>
 }
 
 /// Gives the partial rows of the groups of some rows to an edge.
-fn giver<'w>(
-    alloc: Global,
-    words: &str,
-    target: Target<'w>,
-) -> Result<Driver<'w, ReplayCourier>, Memory>
+fn giver<'w>(alloc: Global, words: &str, target: Target<'w>) -> Result<Driver<'w, Slow>, Memory>
     requires { target_made target ≡ target }
 {
     let source = source(alloc, words)?;
@@ -146,7 +142,7 @@ fn giver<'w>(
     Driver::new(alloc, 1, source, stages, target)
 }
 
-fn local(seat: GatherTake<'_>) -> Source<'_, ReplayCourier>
+fn local(seat: GatherTake<'_>) -> Source<'_, Slow>
     requires { seat.took ≡ [] }
     ensures { rows_taken result ≡ [] }
 {
@@ -154,10 +150,7 @@ fn local(seat: GatherTake<'_>) -> Source<'_, ReplayCourier>
 }
 
 /// Merges the partial rows of an edge.
-fn merger<'w>(
-    alloc: Global,
-    source: Source<'w, ReplayCourier>,
-) -> Result<Driver<'w, ReplayCourier>, Memory>
+fn merger<'w>(alloc: Global, source: Source<'w, Slow>) -> Result<Driver<'w, Slow>, Memory>
     requires { rows_taken source ≡ [] }
 {
     let stages = second_half(alloc)?;
@@ -170,7 +163,7 @@ fn givers<'w>(
     alloc: Global,
     case: &str,
     seats: Vec<GatherPut<'w>>,
-) -> Result<Vec<Driver<'w, ReplayCourier>>, Memory>
+) -> Result<Vec<Driver<'w, Slow>>, Memory>
     requires { All (λ seat. seat ≡ new_gather_put seat.edge seat.number) seats.items }
 {
     let mut pieces = case.split('|');
@@ -187,7 +180,7 @@ fn drivers_of<'e>(
     alloc: Global,
     case: &str,
     edge: &'e mut Gather,
-) -> Result<Vec<Driver<'e, ReplayCourier>>, Memory>
+) -> Result<Vec<Driver<'e, Slow>>, Memory>
     requires { edge.old.is_handed_out ≡ false }
 {
     let (puts, take) = edge.seats()?;
@@ -200,7 +193,7 @@ fn drivers_of<'e>(
 fn said<R: Threads + Wait + Sync>(
     rt: &R,
     alloc: Global,
-    mut drivers: Vec<Driver<'_, ReplayCourier>>,
+    mut drivers: Vec<Driver<'_, Slow>>,
     solo: &Solo,
 ) -> Result<String, Memory> {
     for _ in 0..3 {

@@ -1,3 +1,4 @@
+pub mod Expressions
 pub mod RowJudges
 pub mod RowsHeld
 pub mod RowLaws

@@ -10,6 +10,7 @@ ghost use Rattle.sql_exprs.specs.Forms.{form_view};
 ghost use Rattle.row_ops.specs.RowJudges.{AreTyped, IsOf, row_judge};
 ghost use Rattle.row_ops.specs.RowsHeld.{rows_held};
 
+use crate::expressions::{Expressions, SendExpressions};
 use crate::judge_page::judge_page;
 use blocked::{Bells, BlockedOn};
 use col_pages::Page;
@@ -28,8 +29,7 @@ pub struct FilterProject {
     alloc: Global,
     node: u32,
     types: Vec<SqlType>,
-    predicate: Option<Expr>,
-    columns: Vec<Expr>,
+    expressions: SendExpressions,
     held: Option<Page>,
     /// That of the first row that failed. No row after it is judged.
     failure: Option<Fail>,
@@ -50,10 +50,10 @@ impl Model for FilterProject {
     ghost use Rattle.sql_exprs.specs.Forms.{form_view};
     ghost use Rattle.row_ops.specs.RowJudges.{AreTyped};
 
-    ghost view = { λ s. record { node = s.node; types = s.types.items; predicate = s.predicate; columns = s.columns.items; held = s.held; failure = s.failure; is_told = s.is_told } };
+    ghost view = { λ s. record { node = s.node; types = s.types.items; predicate = s.expressions.predicate; columns = s.expressions.columns; held = s.held; failure = s.failure; is_told = s.is_told } };
 
-    ghost invariant = { λ s. AreTyped s.types.items (option_map form_view s.predicate)
-        (map form_view s.columns.items) };
+    ghost invariant = { λ s. AreTyped s.types.items (option_map form_view s.expressions.predicate)
+        (map form_view s.expressions.columns) };
 }
 
 impl FilterProject {
@@ -88,8 +88,7 @@ impl FilterProject {
             alloc,
             node,
             types,
-            predicate,
-            columns,
+            expressions: SendExpressions::new(Expressions { predicate, columns }),
             held: None,
             failure: None,
             is_told: false,
@@ -179,7 +178,12 @@ impl Operator for FilterProject {
         if let Some(kind) = self.failure {
             return Err(self.fault(kind));
         }
-        let judged = judge_page(self.alloc, &self.predicate, &self.columns, page)?;
+        let judged = judge_page(
+            self.alloc,
+            self.expressions.predicate(),
+            self.expressions.columns(),
+            page,
+        )?;
         self.held = Some(judged.page);
         self.failure = judged.failure;
         match judged.failure {

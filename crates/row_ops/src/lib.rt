@@ -4,6 +4,7 @@
 //!   values of its columns. It judges a page as it comes in, up to the first row that fails, gives
 //!   the rows before that one, and then fails as that row does
 //! - `typing`: `are_typed`, whether expressions can be those of an operator over some input
+//! - `expressions`: the expressions of a `FilterProject`, in a form that may go to another thread
 //! - `judge_page`: what the expressions make of a page, by the judges of `page_judges`
 //!
 //! - `limit`: `LimitOp` gives as many of the first rows as its count says. It takes all pages in
@@ -14,6 +15,7 @@
 //! give and fail on.
 #![tactic(auto)]
 
+mod expressions;
 mod filter_project;
 mod judge_page;
 mod limit;

@@ -8,7 +8,8 @@
 //! - `words`: the words that the system gives
 //! - `documents`: those of a demo, in the place of files
 //! - `load`: the plan and its tables, from files
-//! - `top`: `run`, and the text of what a plan gives
+//! - `top`: `run`
+//! - `results`: the text of what a plan gives
 //! - `lines`: the line that is told for each answer
 //! - `status`: the answers, and the exit status of each
 #![tactic(auto)]
@@ -16,12 +17,14 @@
 mod documents;
 mod lines;
 mod load;
+mod results;
 mod status;
 mod top;
 mod words;
 
 pub use lines::tell_first;
 pub use load::{ROW_LIMIT, files_of, load_plan, load_tables};
+pub use results::{result_alone, result_of};
 pub use status::Status;
-pub use top::{result_of, run, shape_of};
+pub use top::{run, shape_of};
 pub use words::words_of;

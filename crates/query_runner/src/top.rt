@@ -2,31 +2,26 @@ ghost use Rattle.std.specs.Prelude.{◌≡◌, ◌↔◌, ◌≤◌, ℕ, [], ma
 ghost use Rattle.plan_docs.specs.Plans.{plan_view};
 ghost use Rattle.command_line.specs.Words.{HasBounds, Job as Asked, asked, job_of};
 ghost use Rattle.plan_fits.specs.Tables.{HaveColumns, WasRead};
-ghost use Rattle.plan_reader.specs.Trees.{tree_of};
-ghost use Rattle.plan_trees.specs.Allowed.{Allows};
-ghost use Rattle.task_executor.specs.Nets.{FailsFor};
-ghost use Rattle.task_executor.specs.Shapes.{AreFew, IsShape};
+ghost use Rattle.task_executor.specs.Shapes.{IsShape};
 ghost use Rattle.tree_evaluator.specs.Fits.{TablesFit};
-ghost use Rattle.query_runner.specs.Answers.{Answered, IsComplete, IsResult, IsTextOf, JobAnswered, PlanAnswered, RunFails, demo_of, seen_for, status_of};
+ghost use Rattle.query_runner.specs.Answers.{Answered, IsComplete, IsResult, IsTextOf, JobAnswered, PlanAnswered, demo_of, seen_for, status_of};
 ghost use Rattle.query_runner.specs.Jobs.{AreTablesAsked, Contents, rows_of};
 ghost use Rattle.query_runner.specs.Demos.{demo_contents};
 
 use crate::documents::Documents;
 use crate::lines::{tell, tell_first};
 use crate::load::{files_of, load_plan, load_tables};
+use crate::results::result_of;
 use crate::status::Status;
 use command_line::{Job, read_words};
-use csv_tables::text_of;
-use plan_links::read_plans_are_consistent;
-use plan_reader::{Plan, tree};
-use plan_trees::types_of_tree;
+use plan_reader::Plan;
 use run_ports::{Courier, Files, Meet, Sink, write_whole};
 use sql_values::{Table, Text};
 use std::alloc::Global;
 use std::random::RandomSource;
 use std::sync::Wait;
 use std::thread::Threads;
-use task_executor::{Net, RunDone, RunFault, Shape, Wiring, run_alone};
+use task_executor::Shape;
 
 /// Runs the plan that the words name over the tables that they name, and writes the result's text
 /// to `out`. For each answer but Ok it writes one line to `err`.
@@ -39,7 +34,7 @@ pub fn run<R, F, O, E, C, M>(
     out: &mut O,
     err: &mut E,
     courier: &C,
-    _meet: &M,
+    meet: &M,
 ) -> Status
 where
     R: Threads + Wait + Sync + RandomSource + AllocGlobal,
@@ -81,11 +76,11 @@ where
         tell_first(err, &Status::BadWords);
         return Status::BadWords;
     };
-    run_source(rt, alloc, &job, files, out, err, courier)
+    run_source(rt, alloc, &job, files, out, err, courier, meet)
 }
 
 /// Does what the words ask for, over the files or over the documents of a demo.
-fn run_source<R, F, O, E, C>(
+fn run_source<R, F, O, E, C, M>(
     rt: &R,
     alloc: Global,
     job: &Job<'_>,
@@ -93,13 +88,15 @@ fn run_source<R, F, O, E, C>(
     out: &mut O,
     err: &mut E,
     courier: &C,
+    meet: &M,
 ) -> Status
 where
     R: Threads + Wait + Sync + RandomSource + AllocGlobal,
     F: Files,
     O: Sink,
     E: Sink,
-    C: Courier,
+    C: Courier + Send,
+    M: Meet + Sync,
     requires { HasBounds (asked job.now) }
     ensures answer { JobAnswered (asked job.now) (seen_for (asked job.now).demo (record {
       held = F.holds files.old;
@@ -120,13 +117,13 @@ where
         → (asked job.now).demo ≡ Some number → files.new ≡ files.old }
 {
     match job.demo() {
-        None => run_job(rt, alloc, job, files, out, err, courier),
-        Some(number) => run_demo(rt, alloc, job, number, out, err, courier),
+        None => run_job(rt, alloc, job, files, out, err, courier, meet),
+        Some(number) => run_demo(rt, alloc, job, number, out, err, courier, meet),
     }
 }
 
 /// Does what the words ask for over the documents of the demo of a number, which no read takes from the files.
-fn run_demo<R, O, E, C>(
+fn run_demo<R, O, E, C, M>(
     rt: &R,
     alloc: Global,
     job: &Job<'_>,
@@ -134,12 +131,14 @@ fn run_demo<R, O, E, C>(
     out: &mut O,
     err: &mut E,
     courier: &C,
+    meet: &M,
 ) -> Status
 where
     R: Threads + Wait + Sync + RandomSource + AllocGlobal,
     O: Sink,
     E: Sink,
-    C: Courier,
+    C: Courier + Send,
+    M: Meet + Sync,
     requires { HasBounds (asked job.now) }
     ensures answer { JobAnswered (asked job.now) (record {
       held = Some (demo_contents number);
@@ -161,11 +160,11 @@ where
         tell(err, job, &[], &Status::Memory);
         return Status::Memory;
     };
-    run_job(rt, alloc, job, &mut documents, out, err, courier)
+    run_job(rt, alloc, job, &mut documents, out, err, courier, meet)
 }
 
 /// Does what the words ask for, over some files.
-fn run_job<R, F, O, E, C>(
+fn run_job<R, F, O, E, C, M>(
     rt: &R,
     alloc: Global,
     job: &Job<'_>,
@@ -173,13 +172,15 @@ fn run_job<R, F, O, E, C>(
     out: &mut O,
     err: &mut E,
     courier: &C,
+    meet: &M,
 ) -> Status
 where
     R: Threads + Wait + Sync + RandomSource + AllocGlobal,
     F: Files,
     O: Sink,
     E: Sink,
-    C: Courier,
+    C: Courier + Send,
+    M: Meet + Sync,
     requires { HasBounds (asked job.now) }
     ensures answer { JobAnswered (asked job.now) (record {
       held = F.holds files.old;
@@ -204,7 +205,7 @@ where
             return status;
         }
     };
-    let status = status_of(run_plan(rt, alloc, job, &plan, files, out, courier));
+    let status = status_of(run_plan(rt, alloc, job, &plan, files, out, courier, meet));
     tell(err, job, plan.tables.as_slice(), &status);
     status
 }
@@ -220,7 +221,7 @@ fn status_of(done: Result<(), Status>) -> Status
 }
 
 /// Runs the plan over its tables.
-fn run_plan<R, F, O, C>(
+fn run_plan<R, F, O, C, M>(
     rt: &R,
     alloc: Global,
     job: &Job<'_>,
@@ -228,12 +229,14 @@ fn run_plan<R, F, O, C>(
     files: &mut F,
     out: &mut O,
     courier: &C,
+    meet: &M,
 ) -> Result<(), Status>
 where
     R: Threads + Wait + Sync + RandomSource + AllocGlobal,
     F: Files,
     O: Sink,
-    C: Courier,
+    C: Courier + Send,
+    M: Meet + Sync,
     requires bounds { HasBounds (asked job.now) }
     requires read { WasRead (plan_view plan.now) }
     ensures same { F.holds files.new ≡ F.holds files.old }
@@ -260,7 +263,7 @@ where
         plan,
         tables.as_slice(),
         courier,
-        &[],
+        meet,
     )?;
     results_are_typed(plan, tables.as_slice(), text.as_slice());
     write_whole(out, text.as_slice())?;
@@ -278,71 +281,6 @@ fn results_are_typed(plan: &Plan, tables: &[Table], text: &[u8])
         → IsResult held job (plan_view plan.now) text.now }
 {}
 
-/// The text of what the plan gives over its tables, under these picks of drivers.
-pub fn result_of<R, C>(
-    rt: &R,
-    alloc: Global,
-    shape: &Shape,
-    plan: &Plan,
-    tables: &[Table],
-    courier: &C,
-    picks: &[u32],
-) -> Result<Vec<u8>, Status>
-where
-    R: Threads + Wait + Sync + RandomSource + AllocGlobal,
-    C: Courier,
-    requires shape { IsShape shape.now }
-    requires read { WasRead (plan_view plan.now) }
-    requires columns { HaveColumns (plan_view plan.now).tables tables.now }
-    requires fit { TablesFit tables.now }
-    requires few { AreFew tables.now }
-    ensures { MatchResult result
-        (λ text. IsTextOf (plan_view plan.now) (map rows_of tables.now) text.items)
-        (RunFails (plan_view plan.now) (map rows_of tables.now)) }
-{
-    let types = types_of_tree(alloc, &tree(alloc, plan)?)?;
-    match run_of(rt, alloc, shape, plan, tables, courier, picks) {
-        Ok(done) => {
-            let rows = &done.rows;
-            Ok(text_of(alloc, plan.output.as_slice(), types.as_slice(), rows)?)
-        }
-        Err(RunFault::ExprFailed { node, kind }) => Err(Status::ExprFailed { node, kind }),
-        Err(RunFault::Memory) => Err(Status::Memory),
-    }
-}
-
-/// What the drivers of the plan give over its tables.
-fn run_of<R, C>(
-    rt: &R,
-    alloc: Global,
-    shape: &Shape,
-    plan: &Plan,
-    tables: &[Table],
-    courier: &C,
-    picks: &[u32],
-) -> Result<RunDone, RunFault>
-where
-    R: Threads + Wait + Sync + RandomSource + AllocGlobal,
-    C: Courier,
-    requires shape { IsShape shape.now }
-    requires read { WasRead (plan_view plan.now) }
-    requires columns { HaveColumns (plan_view plan.now).tables tables.now }
-    requires fit { TablesFit tables.now }
-    requires few { AreFew tables.now }
-    ensures { MatchResult result
-        (λ done. Allows (tree_of (plan_view plan.now)) (map rows_of tables.now) done.rows)
-        (FailsFor (tree_of (plan_view plan.now)) (map rows_of tables.now)) }
-{
-    read_plans_are_consistent(plan);
-    let Ok(mut wiring) = Wiring::build(alloc, plan, tables, shape) else {
-        return Err(RunFault::Memory);
-    };
-    let Ok(net) = Net::build(alloc, plan, tables, &mut wiring, shape, courier) else {
-        return Err(RunFault::Memory);
-    };
-    run_alone(rt, alloc, net, shape, picks)
-}
-
 /// How a job cuts its tables and its work.
 pub fn shape_of(job: &Job<'_>) -> Shape
     requires { HasBounds (asked job.now) }
@@ -355,5 +293,6 @@ pub fn shape_of(job: &Job<'_>) -> Shape
         page: job.page,
         quantum: job.quantum,
         replay: job.replay,
+        workers: job.workers,
     }
 }

@@ -5,7 +5,7 @@ use crate::couriers::{Telling, Thirds, cells_of, were_asked};
 use crate::plain::gives;
 use crate::plans::plan_of;
 use query_runner::run;
-use run_ports::{Courier, MemSink, NoMeet, ReplayCourier};
+use run_ports::{Courier, Meet, MemSink, NoMeet, ReplayCourier};
 use std::alloc::Global;
 use std::random::RandomSource;
 use std::sync::Wait;
@@ -14,12 +14,12 @@ use std::thread::Threads;
 
 /// The shapes in which each case is run.
 const SHAPES: &str = "\
---tasks 1 --drivers 1
+--tasks 1 --drivers 1 --workers 1
 --tasks 4
---tasks 2 --split 1 --page 1
+--tasks 2 --split 1 --page 1 --workers 8
 --tasks 3 --drivers 4 --split 2 --page 2 --quantum 1
---tasks 2 --drivers 3 --split 1 --page 1 --quantum 2 --replay 7
---tasks 5 --drivers 16 --split 1 --replay 18446744073709551615";
+--tasks 2 --drivers 3 --split 1 --page 1 --quantum 2 --replay 7 --workers 1
+--tasks 5 --drivers 16 --split 1 --replay 18446744073709551615 --workers 8";
 
 /// A case is a line `order | plan | rows | answer`, where the order of the answer's records is `any` or `sorted`.
 const CASES: &str = "\
@@ -178,13 +178,13 @@ fn each_edge_asks_its_courier(rt: HostRuntime) -> Result<(), Fail> {
         write: 0,
     };
     let told = "0|g,n,s~x,2,4~y,1,2~z,1,4~|";
-    assert!(rt; is_told_by(&rt, &courier, &given, "any", told)?);
+    assert!(rt; is_told_by(&rt, &courier, &NoMeet, &given, "any", told)?);
     assert!(rt; were_asked(cells.as_slice(), 3, 7));
     Ok(())
 }
 
 /// Groups over a hash exchange.
-const GROUPED: &str = "\
+pub(crate) const GROUPED: &str = "\
 {'version':1,'output':['g','n','s'],'tables':[$p],'fragments':[\
 {'id':0,'placement':'SINGLE','root':{'id':1,'op':'remote','fragment':1}},\
 {'id':1,'placement':'HASH','output':{'kind':'SINGLE'},'root':{'id':2,'op':'aggregate','step':'FINAL','input':\
@@ -201,12 +201,12 @@ const SORTED: &str = "\
 
 /// Shapes in which each row is a page of its own.
 const SINGLE_ROWS: &str = "\
---tasks 1 --drivers 1
---tasks 4
+--tasks 1 --drivers 1 --workers 1
+--tasks 4 --workers 4
 --tasks 2 --quantum 1
---tasks 3 --drivers 4 --quantum 7
+--tasks 3 --drivers 4 --quantum 7 --workers 8
 --tasks 2 --drivers 1 --replay 7
---tasks 16 --drivers 2 --replay 99";
+--tasks 16 --drivers 2 --replay 99 --workers 1";
 
 #[test]
 fn a_thousand_values_pass_over_an_edge(rt: HostRuntime) -> Result<(), Fail> {
@@ -242,7 +242,8 @@ where
         read: 0,
         write: 0,
     };
-    is_told_by(rt, &ReplayCourier::new(), &given, "sorted", told.as_str())
+    let courier = ReplayCourier::new();
+    is_told_by(rt, &courier, &NoMeet, &given, "sorted", told.as_str())
 }
 
 /// The first shape and case that a run answers otherwise, if any.
@@ -262,7 +263,12 @@ where
 }
 
 /// Whether a run in this shape answers a case as it tells.
-fn answers<R, C>(rt: &R, courier: &C, shape: &str, case: &str) -> Result<bool, Fail>
+pub(crate) fn answers<R, C>(
+    rt: &R,
+    courier: &C,
+    shape: &str,
+    case: &str,
+) -> Result<bool, Fail>
 where
     R: Threads + Wait + Sync + RandomSource + AllocGlobal,
     C: Courier + Send,
@@ -279,11 +285,11 @@ where
         read: 0,
         write: 0,
     };
-    is_told_by(rt, courier, &given, order, told)
+    is_told_by(rt, courier, &NoMeet, &given, order, told)
 }
 
 /// The document of a case.
-fn document_of(alloc: Global, plan: &str) -> Result<String, Fail> {
+pub(crate) fn document_of(alloc: Global, plan: &str) -> Result<String, Fail> {
     let mut document = String::from_str(alloc, plan)?;
     for (name, text) in LONG {
         document = document.as_str().replace(alloc, name, text)?;
@@ -291,10 +297,11 @@ fn document_of(alloc: Global, plan: &str) -> Result<String, Fail> {
     plan_of(alloc, "", "", document.as_str())
 }
 
-/// Whether a run with this courier answers so.
-fn is_told_by<R, C>(
+/// Whether a run with this courier and this meet answers so.
+pub(crate) fn is_told_by<R, C, M>(
     rt: &R,
     courier: &C,
+    meet: &M,
     given: &Given<'_>,
     order: &str,
     told: &str,
@@ -302,6 +309,7 @@ fn is_told_by<R, C>(
 where
     R: Threads + Wait + Sync + RandomSource + AllocGlobal,
     C: Courier + Send,
+    M: Meet + Sync,
 {
     let alloc = rt.alloc();
     let words = words_in(alloc, given.words)?;
@@ -310,7 +318,7 @@ where
     let mut err = MemSink::new(alloc, 1000, 7, Vec::new(alloc))?;
     let words = words.as_slice();
     let status = run(
-        rt, alloc, words, &mut files, &mut out, &mut err, courier, &NoMeet,
+        rt, alloc, words, &mut files, &mut out, &mut err, courier, meet,
     );
     let (code, rest) = part(told);
     let (text, notes) = rest.split_once('|').unwrap_or((rest, ""));

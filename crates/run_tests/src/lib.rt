@@ -11,6 +11,7 @@
 //! - `scans`, `orders`, `aggregates`, `joins`: the cases of one fragment
 //! - `demos`: runs of a demo
 //! - `fragments`: the cases of several, and `couriers`: couriers for them
+//! - `workers`: runs on one worker and on more
 #![tactic(auto)]
 
 #[cfg(test)]
@@ -33,3 +34,5 @@ mod plain;
 mod plans;
 #[cfg(test)]
 mod scans;
+#[cfg(test)]
+mod workers;

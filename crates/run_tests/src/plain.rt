@@ -13,7 +13,7 @@ use plan_links::read_plans_are_consistent;
 use plan_reader::{Plan, tree};
 use plan_trees::types_of_tree;
 use query_runner::{
-    Status, files_of as files_of_tables, load_plan, load_tables, result_of, shape_of,
+    Status, files_of as files_of_tables, load_plan, load_tables, result_alone, shape_of,
 };
 use run_ports::{MemFiles, ReplayCourier};
 use sql_values::Table;
@@ -113,7 +113,7 @@ fn tables_give<R: Threads + Wait + Sync + RandomSource + AllocGlobal>(
     requires fit { TablesFit tables.now }
     requires few { AreFew tables.now }
 {
-    match result_of(
+    match result_alone(
         rt,
         rt.alloc(),
         shape,

@@ -45,7 +45,7 @@ t=t --plan=p --workers=8 | | | $c | 'a','c' | @c | a,c~1,x~2,~\\N,\\N~ | 0|a,c~1
 --plan p u=u t=z=z | | | $a | 'a' | @a | a~ | 3||trinorun: cannot read z=z~
 --plan p u=t | | | $a | 'a' | @a | a~ | 4||trinorun: plan refused 4 at /tables/0/name~
 --plan p t=t | | 3 | $a | 'a' | @a | a~3~1~\\N~ | 7|a~3~1~\\N|trinorun: cannot write~
---plan p --split 4 --page 3 --quantum 1 t=t | | | $a | 'a' | {'id':1,'op':'filter','predicate':{'call':'>','args':[{'col':0},{'lit':'1','type':'bigint'}]},'input':@a} | a~1~2~3~4~5~6~7~8~9~10~ | 0|a~2~3~4~5~6~7~8~9~10~|";
+--plan p --split 4 --page 3 --quantum 1 --workers 1 t=t | | | $a | 'a' | {'id':1,'op':'filter','predicate':{'call':'>','args':[{'col':0},{'lit':'1','type':'bigint'}]},'input':@a} | a~1~2~3~4~5~6~7~8~9~10~ | 0|a~2~3~4~5~6~7~8~9~10~|";
 
 #[test]
 fn runs_answer_as_told(rt: HostRuntime) -> Result<(), Fail> {

@@ -1,3 +1,4 @@
 mod LaterLemmas
 mod TurnLemmas
 mod EndLemmas
+mod WaitLemmas

@@ -2,3 +2,4 @@ pub mod RunBells
 pub mod Shapes
 pub mod Turns
 pub mod Nets
+pub mod Waits

@@ -1,5 +1,6 @@
 -- What turns leave of drivers.
-use Rattle.std.specs.Prelude.{◌≡◌, List, All, Contains, None, Some, true}
+use Rattle.std.specs.Prelude.{◌≡◌, List, All, Contains, Option, None, Some, is_some, true, false}
+use Rattle.std.proofs.Common.{refl}
 use Rattle.driver_loop.specs.Drivers.{DriverState, HasFailed, IsWhole}
 use Rattle.driver_loop.specs.declared.run_fault.RunFault.{RunFault}
 use Rattle.driver_loop.specs.declared.run_fault.RunFault.TheVariants.{ExprFailed, Memory}
@@ -23,3 +24,8 @@ IsFailing driver Memory = Unit {0}
 abbrev pub AreFailing : List DriverState → RunFault → Type 0
 AreFailing drivers (ExprFailed node kind) = AreWholeDrivers drivers × ((d : DriverState) × Contains drivers d × HasFailed d node kind)
 AreFailing drivers Memory = Unit {0}
+
+-- where no fault is seen there is none
+pub unfailed : (fault : Option RunFault) → is_some fault ≡ false → fault ≡ None
+unfailed None whole = refl
+unfailed (Some fault) whole = absurd cc

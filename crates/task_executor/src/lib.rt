@@ -4,6 +4,8 @@
 //! - `wiring`: the pipes of a plan, and what their drivers share
 //! - `net`: the drivers of a plan over its tables (`specs/Nets.antt`)
 //! - `alone`: `run_alone`, a run on one thread
+//! - `workers`: `run_workers`, a run on several, which share the drivers
+//! - `pooled`: a driver as workers share it, which meets another when it has its first turn
 //! - `run_bells`: the bells of a run on one thread, which count their rings
 //! - `answer`: what a net gives whose drivers had their turns. Where it is rows, the plan's tree allows them over the
 //!   tables; where an expression failed, its node may fail so
@@ -17,10 +19,12 @@
 mod alone;
 mod answer;
 mod net;
+mod pooled;
 mod result;
 mod run_bells;
 mod shape;
 mod wiring;
+mod workers;
 
 pub use alone::run_alone;
 pub use answer::RunDone;
@@ -28,3 +32,4 @@ pub use driver_loop::RunFault;
 pub use net::Net;
 pub use shape::Shape;
 pub use wiring::Wiring;
+pub use workers::run_workers;

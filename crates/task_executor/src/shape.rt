@@ -19,6 +19,8 @@ pub struct Shape {
     pub quantum: u32,
     /// The number under which couriers deliver.
     pub replay: u64,
+    /// How many workers share the drivers, at least 1; a run on one thread has none.
+    pub workers: u32,
 }
 
 impl Shape {

@@ -1,4 +1,5 @@
 use Rattle.std.proofs.Common.{rules}
+use Rattle.task_executor.specs.Nets.{NetState}
 use Rattle.task_executor.proofs.EndLemmas.{net_after, run_fails, run_gives}
 use Rattle.task_executor.proofs.answer.answer_of.Goals as goal
 

@@ -1,0 +1,169 @@
+//! The text of what a plan gives over its tables: on the workers of a shape, or on one thread under picks.
+ghost use Rattle.std.specs.Prelude.{map, MatchResult};
+ghost use Rattle.plan_docs.specs.Plans.{plan_view};
+ghost use Rattle.plan_fits.specs.Tables.{HaveColumns, WasRead};
+ghost use Rattle.plan_reader.specs.Trees.{tree_of};
+ghost use Rattle.plan_trees.specs.Allowed.{Allows};
+ghost use Rattle.task_executor.specs.Nets.{FailsFor};
+ghost use Rattle.task_executor.specs.Shapes.{AreFew, IsShape};
+ghost use Rattle.tree_evaluator.specs.Fits.{TablesFit};
+ghost use Rattle.query_runner.specs.Answers.{IsTextOf, RunFails};
+ghost use Rattle.query_runner.specs.Jobs.{rows_of};
+
+use crate::status::Status;
+use csv_tables::text_of;
+use plan_links::read_plans_are_consistent;
+use plan_reader::{Plan, tree};
+use plan_trees::types_of_tree;
+use run_ports::{Courier, Meet};
+use sql_values::Table;
+use std::alloc::Global;
+use std::random::RandomSource;
+use std::sync::Wait;
+use std::thread::Threads;
+use task_executor::{Net, RunDone, RunFault, Shape, Wiring, run_alone, run_workers};
+
+/// The text of what the plan gives over its tables, on the workers of the shape.
+pub fn result_of<R, C, M>(
+    rt: &R,
+    alloc: Global,
+    shape: &Shape,
+    plan: &Plan,
+    tables: &[Table],
+    courier: &C,
+    meet: &M,
+) -> Result<Vec<u8>, Status>
+where
+    R: Threads + Wait + Sync + RandomSource + AllocGlobal,
+    C: Courier + Send,
+    M: Meet + Sync,
+    requires shape { IsShape shape.now }
+    requires read { WasRead (plan_view plan.now) }
+    requires columns { HaveColumns (plan_view plan.now).tables tables.now }
+    requires fit { TablesFit tables.now }
+    requires few { AreFew tables.now }
+    ensures { MatchResult result
+        (λ text. IsTextOf (plan_view plan.now) (map rows_of tables.now) text.items)
+        (RunFails (plan_view plan.now) (map rows_of tables.now)) }
+{
+    let done = run_of(rt, alloc, shape, plan, tables, courier, meet);
+    text_of_run(alloc, plan, tables, done)
+}
+
+/// The text of what the plan gives over its tables, on this thread, under these picks of drivers.
+pub fn result_alone<R, C>(
+    rt: &R,
+    alloc: Global,
+    shape: &Shape,
+    plan: &Plan,
+    tables: &[Table],
+    courier: &C,
+    picks: &[u32],
+) -> Result<Vec<u8>, Status>
+where
+    R: Threads + Wait + Sync + RandomSource + AllocGlobal,
+    C: Courier,
+    requires shape { IsShape shape.now }
+    requires read { WasRead (plan_view plan.now) }
+    requires columns { HaveColumns (plan_view plan.now).tables tables.now }
+    requires fit { TablesFit tables.now }
+    requires few { AreFew tables.now }
+    ensures { MatchResult result
+        (λ text. IsTextOf (plan_view plan.now) (map rows_of tables.now) text.items)
+        (RunFails (plan_view plan.now) (map rows_of tables.now)) }
+{
+    let done = run_alone_of(rt, alloc, shape, plan, tables, courier, picks);
+    text_of_run(alloc, plan, tables, done)
+}
+
+/// The text of what a run gave.
+fn text_of_run(
+    alloc: Global,
+    plan: &Plan,
+    tables: &[Table],
+    done: Result<RunDone, RunFault>,
+) -> Result<Vec<u8>, Status>
+    requires read { WasRead (plan_view plan.now) }
+    requires columns { HaveColumns (plan_view plan.now).tables tables.now }
+    requires fit { TablesFit tables.now }
+    requires done { MatchResult done
+        (λ done. Allows (tree_of (plan_view plan.now)) (map rows_of tables.now) done.rows)
+        (FailsFor (tree_of (plan_view plan.now)) (map rows_of tables.now)) }
+    ensures { MatchResult result
+        (λ text. IsTextOf (plan_view plan.now) (map rows_of tables.now) text.items)
+        (RunFails (plan_view plan.now) (map rows_of tables.now)) }
+{
+    match done {
+        Ok(done) => {
+            let types = types_of_tree(alloc, &tree(alloc, plan)?)?;
+            Ok(text_of(alloc, plan.output.as_slice(), types.as_slice(), &done.rows)?)
+        }
+        Err(RunFault::ExprFailed { node, kind }) => Err(Status::ExprFailed { node, kind }),
+        Err(RunFault::Memory) => Err(Status::Memory),
+    }
+}
+
+/// What the drivers of the plan give over its tables, shared by the workers of the shape.
+fn run_of<R, C, M>(
+    rt: &R,
+    alloc: Global,
+    shape: &Shape,
+    plan: &Plan,
+    tables: &[Table],
+    courier: &C,
+    meet: &M,
+) -> Result<RunDone, RunFault>
+where
+    R: Threads + Wait + Sync + RandomSource + AllocGlobal,
+    C: Courier + Send,
+    M: Meet + Sync,
+    requires shape { IsShape shape.now }
+    requires read { WasRead (plan_view plan.now) }
+    requires columns { HaveColumns (plan_view plan.now).tables tables.now }
+    requires fit { TablesFit tables.now }
+    requires few { AreFew tables.now }
+    ensures { MatchResult result
+        (λ done. Allows (tree_of (plan_view plan.now)) (map rows_of tables.now) done.rows)
+        (FailsFor (tree_of (plan_view plan.now)) (map rows_of tables.now)) }
+{
+    read_plans_are_consistent(plan);
+    let Ok(mut wiring) = Wiring::build(alloc, plan, tables, shape) else {
+        return Err(RunFault::Memory);
+    };
+    let Ok(net) = Net::build(alloc, plan, tables, &mut wiring, shape, courier) else {
+        return Err(RunFault::Memory);
+    };
+    run_workers(rt, alloc, net, shape, meet)
+}
+
+/// What the drivers of the plan give over its tables, on this thread.
+fn run_alone_of<R, C>(
+    rt: &R,
+    alloc: Global,
+    shape: &Shape,
+    plan: &Plan,
+    tables: &[Table],
+    courier: &C,
+    picks: &[u32],
+) -> Result<RunDone, RunFault>
+where
+    R: Threads + Wait + Sync + RandomSource + AllocGlobal,
+    C: Courier,
+    requires shape { IsShape shape.now }
+    requires read { WasRead (plan_view plan.now) }
+    requires columns { HaveColumns (plan_view plan.now).tables tables.now }
+    requires fit { TablesFit tables.now }
+    requires few { AreFew tables.now }
+    ensures { MatchResult result
+        (λ done. Allows (tree_of (plan_view plan.now)) (map rows_of tables.now) done.rows)
+        (FailsFor (tree_of (plan_view plan.now)) (map rows_of tables.now)) }
+{
+    read_plans_are_consistent(plan);
+    let Ok(mut wiring) = Wiring::build(alloc, plan, tables, shape) else {
+        return Err(RunFault::Memory);
+    };
+    let Ok(net) = Net::build(alloc, plan, tables, &mut wiring, shape, courier) else {
+        return Err(RunFault::Memory);
+    };
+    run_alone(rt, alloc, net, shape, picks)
+}

@@ -1,1 +1,7 @@
 pub mod BoundLemmas
+mod WordLemmas
+mod ClassLemmas
+mod FoundLemmas
+mod ParseLemmas
+mod JobLemmas
+mod ReadLemmas

@@ -1,9 +1,7 @@
--- What stands on a command line: options with what is written for them, and other words.
-use Rattle.std.specs.Prelude.{ℕ, List, [], ◌∷◌, length, map, Bool, not, ◌&&◌, ◌==◌, nat_eq, nat_lt, slice_index, Option, Some, None, if◌then◌else◌, codes}
-use Rattle.std.specs.List.{after_first, before_first, position_or_len}
+-- What stands on a command line: options with their values, and other words.
+use Rattle.std.specs.Prelude.{ℕ, List, [], ◌∷◌, length, map, Bool, false, not, ◌&&◌, ◌==◌, nat_eq, nat_lt, slice_index, Option, Some, None, drop, option_map, if◌then◌else◌}
+use Rattle.std.specs.List.{after_first, before_first, list_any}
 use Rattle.std.specs.Cmp.Lexicographic.{pointwise}
-use Rattle.command_line.specs.declared.items as items
-use Rattle.command_line.specs.declared.items.Item.TheVariants as told
 
 abbrev pub same_text : List ℕ → List ℕ → Bool
 same_text = pointwise nat_eq
@@ -15,13 +13,28 @@ dash = 45
 abbrev pub begins_with_dash : List ℕ → Bool
 begins_with_dash word = nat_lt 0 (length word) && slice_index word 0 == dash
 
+-- what begins with `-` is an option, or ends the options; `-` alone is neither
+abbrev pub is_option : List ℕ → Bool
+is_option [] = false
+is_option (byte ∷ []) = false
+is_option (byte ∷ next ∷ rest) = byte == dash
+
+-- the word that ends the options, `--`
+abbrev pub end_of_options : List ℕ
+end_of_options = dash ∷ dash ∷ []
+
+-- a word that begins with `--`
+abbrev pub begins_with_dashes : List ℕ → Bool
+begins_with_dashes [] = false
+begins_with_dashes (byte ∷ []) = false
+begins_with_dashes (byte ∷ next ∷ rest) = byte == dash && next == dash
+
 -- the byte of `=`
 abbrev pub is_equals_sign : ℕ → Bool
 is_equals_sign byte = byte == 61
 
--- the first `=` stands before the end
 abbrev pub has_equals_sign : List ℕ → Bool
-has_equals_sign word = nat_lt (position_or_len is_equals_sign word) (length word)
+has_equals_sign word = list_any is_equals_sign word
 
 -- the two parts of a word round its first `=`
 abbrev pub first_part : List ℕ → List ℕ
@@ -30,37 +43,35 @@ first_part word = before_first is_equals_sign word
 abbrev pub second_part : List ℕ → List ℕ
 second_part word = after_first is_equals_sign word
 
--- an option with what is written for it, or a word that is none
+-- an option, by its name, with what is written for it, or a word that is none
 pub data Item : Type 0 where
   valued : List ℕ → List ℕ → Item
   named : List ℕ → Item
 
--- the items of words, behind an option that still has no value if there is one. An option is `--name=value`, or
--- `--name` and the word behind it; for one at the end nothing is written. Behind a word `--` there are no options.
-abbrev pub items_from : Option (List ℕ) → List (List ℕ) → List Item
-items_from None [] = []
-items_from (Some option) [] = valued option [] ∷ []
-items_from (Some option) (value ∷ words) = valued option value ∷ items_from None words
-items_from None (word ∷ words) =
-    if not (begins_with_dash word) then named word ∷ items_from None words
-    else if same_text word (codes "--") then map named words
-    else if has_equals_sign word then valued (first_part word) (second_part word) ∷ items_from None words
-    else items_from (Some word) words
+abbrev pub before : Item → Option (List Item) → Option (List Item)
+before item = option_map (λ items. item ∷ items)
 
-abbrev pub items_of : List (List ℕ) → List Item
+-- the items of words, behind an option that still has no value if there is one; None where nothing is written for an
+-- option, or a word begins with one `-`. An option is `--name=value`, or `--name` and the word behind it, which is then
+-- no option itself. Behind a word `--` there are no options.
+abbrev pub items_from : Option (List ℕ) → List (List ℕ) → Option (List Item)
+items_from None [] = Some []
+items_from (Some name) [] = None
+items_from (Some name) (value ∷ words) =
+    if is_option value then None else before (valued name value) (items_from None words)
+items_from None (word ∷ words) =
+    if not (is_option word) then before (named word) (items_from None words)
+    else if same_text word end_of_options then Some (map named words)
+    else if not (begins_with_dashes word) then None
+    else if has_equals_sign (drop 2 word)
+    then before (valued (first_part (drop 2 word)) (second_part (drop 2 word))) (items_from None words)
+    else items_from (Some (drop 2 word)) words
+
+abbrev pub items_of : List (List ℕ) → Option (List Item)
 items_of words = items_from None words
 
 -- the words that are no options and belong to none
 abbrev pub named_in : List Item → List (List ℕ)
 named_in [] = []
-named_in (valued option value ∷ items) = named_in items
+named_in (valued name value ∷ items) = named_in items
 named_in (named word ∷ items) = word ∷ named_in items
-
--- an item that borrows its words
-abbrev pub told_item : items.Item.Item → Item
-told_item (told.Valued option value) = valued option.now value.now
-told_item (told.Named word) = named word.now
-
--- the items that are still to be read
-abbrev pub items_left : items.Items.Items → List Item
-items_left left = if left.ended then map named left.words.now else items_of left.words.now

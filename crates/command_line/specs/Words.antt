@@ -1,12 +1,13 @@
 -- The command line: which words are one, and what it asks for.
-use Rattle.std.specs.Prelude.{ℕ, List, length, map, Bool, true, not, ◌&&◌, ◌≤◌, ◌<◌, ◌^◌, nat_lt, [], ◌∷◌, Option, Some, None, false, option_map, option_and_then, unwrap_or, slice_get, if◌then◌else◌, codes}
+use Rattle.std.specs.Prelude.{◌≡◌, ℕ, List, length, map, Bool, true, not, ◌&&◌, ◌≤◌, ◌<◌, ◌^◌, nat_lt, [], ◌∷◌, Option, Some, None, false, option_map, option_and_then, unwrap_or, slice_get, if◌then◌else◌, codes}
 use Rattle.std.specs.List.{list_all, list_any, position_from}
-use Rattle.command_line.specs.Items.{Item, begins_with_dash, first_part, items_left, items_of, named_in, same_text, second_part}
-use Rattle.command_line.specs.Options.{are_options, counts_in, number_for, number_in, plan_option, row_of, written_in}
+use Rattle.command_line.specs.Items.{Item, begins_with_dash, first_part, items_of, named_in, same_text, second_part}
+use Rattle.command_line.specs.Options.{Given, are_options, are_plain, counts_in, number_for, number_in, plan_option, row_of, written_in}
 use Rattle.command_line.specs.declared.options.NumberOption.{NumberOption}
 use Rattle.command_line.specs.declared.options.NumberOption.TheVariants as option
 use Rattle.command_line.specs.declared.job as job
-use Rattle.command_line.specs.declared.job.Source.TheVariants as source
+use Rattle.command_line.specs.declared.command.WordsFault.{WordsFault}
+use Rattle.command_line.specs.declared.command.WordsFault.TheVariants as fault
 
 -- a table's name and its file
 pub record NamedFile : Type 0 where
@@ -99,23 +100,23 @@ source_given (Some plan) (Some number) words = None
 source_given None (Some number) (word ∷ words) = None
 source_given None None words = None
 
-abbrev pub source_in : List Item → Option Source
-source_in items = source_given (written_in plan_option items) (written_in (row_of option.Demo).word items) (named_in items)
+abbrev pub source_in : Given → List (List ℕ) → Option Source
+source_in given words = source_given (given plan_option) (given (row_of option.Demo).name) words
 
 -- what follows from the number of an option
-abbrev pub with_number : NumberOption → List Item → (ℕ → Option Job) → Option Job
-with_number option items job = option_and_then job (number_in option items)
+abbrev pub with_number : NumberOption → Given → (ℕ → Option Job) → Option Job
+with_number option given job = option_and_then job (number_in option given)
 
 -- what the options ask for of this source
-abbrev pub job_with : List Item → Source → Option Job
-job_with items source =
-    with_number option.Split items (λ split.
-    with_number option.Page items (λ page.
-    with_number option.Quantum items (λ quantum.
-    with_number option.Workers items (λ workers.
-    with_number option.Tasks items (λ tasks.
-    with_number option.Drivers items (λ drivers.
-    with_number option.Replay items (λ replay.
+abbrev pub job_with : Given → Source → Option Job
+job_with given source =
+    with_number option.Split given (λ split.
+    with_number option.Page given (λ page.
+    with_number option.Quantum given (λ quantum.
+    with_number option.Workers given (λ workers.
+    with_number option.Tasks given (λ tasks.
+    with_number option.Drivers given (λ drivers.
+    with_number option.Replay given (λ replay.
     option_map (λ counts. record {
       plan = source.plan;
       files = source.files;
@@ -128,14 +129,18 @@ job_with items source =
       drivers = drivers;
       replay = replay;
       counts = counts;
-    }) (counts_in items))))))))
+    }) (counts_in given))))))))
+
+-- what is asked for by what is written for the options, and by the words that belong to none
+abbrev pub job_from : Given → List (List ℕ) → Option Job
+job_from given words = if are_plain given then option_and_then (job_with given) (source_in given words) else None
 
 abbrev pub job_of_items : List Item → Option Job
-job_of_items items = if are_options items then option_and_then (job_with items) (source_in items) else None
+job_of_items items = if are_options items then job_from (λ name. written_in name items) (named_in items) else None
 
 -- what the words ask for; None where they are no command line
 abbrev pub job_of : List (List ℕ) → Option Job
-job_of words = job_of_items (items_of words)
+job_of words = option_and_then job_of_items (items_of words)
 
 -- a job of no file and of the usual numbers, for what is told where the words are no command line
 abbrev pub no_job : Job
@@ -153,17 +158,19 @@ no_job = record {
   counts = false;
 }
 
--- what a source that borrows its words is
+-- the file of a table that borrows its words
+abbrev pub told_file : job.NamedFile.NamedFile → NamedFile
+told_file told = record { name = told.name.now; file = told.file.now }
+
 abbrev pub asked_source : job.Source.Source → Source
-asked_source (source.Files plan items) = source_of_files plan.now (named_in (items_left items))
-asked_source (source.Demo number) = source_of_demo number
+asked_source told = record { plan = told.plan.now; files = map told_file told.files.items; demo = told.demo }
 
 -- what a job that borrows its words asks for
 abbrev pub asked : job.Job.Job → Job
 asked told = record {
-  plan = (asked_source told.source).plan;
-  files = (asked_source told.source).files;
-  demo = (asked_source told.source).demo;
+  plan = told.source.plan.now;
+  files = map told_file told.source.files.items;
+  demo = told.source.demo;
   split = told.split;
   page = told.page;
   quantum = told.quantum;
@@ -173,6 +180,11 @@ asked told = record {
   replay = told.replay;
   counts = told.counts;
 }
+
+-- words were not read: they are no command line, or memory was wanting
+abbrev pub Refuses : {A : Type 0} → Option A → WordsFault → Type 0
+Refuses found fault.Bad = found ≡ None
+Refuses found fault.Memory = Unit {0}
 
 -- a file is that of the table of this name
 abbrev pub is_named : List ℕ → NamedFile → Bool

@@ -1,22 +1,29 @@
 //! What a command line asks for.
-ghost use Rattle.std.specs.Prelude.{◌≡◌, option_map, map};
+ghost use Rattle.std.specs.Prelude.{◌≡◌, option_map};
 ghost use Rattle.std.specs.List.{position_from};
-ghost use Rattle.command_line.specs.Items.{items_left, named_in};
-ghost use Rattle.command_line.specs.Words.{asked, asked_file, demo_files, file_at, file_of, is_named, named_file, no_job};
+ghost use Rattle.command_line.specs.Words.{asked, asked_file, file_at, file_of, is_named, no_job};
 
-use crate::items::{Items, first_part, second_part};
+use std::alloc::Global;
+
+/// The file that a word gives to the table of a name.
+#[derive(Clone, Copy)]
+pub struct NamedFile<'a> {
+    pub name: &'a str,
+    pub file: &'a str,
+}
 
 /// What is run.
-#[derive(Clone, Copy)]
-pub enum Source<'a> {
-    /// A plan's file, and the words that give files to tables.
-    Files { plan: &'a str, items: Items<'a> },
-    /// The documents of the demo of a number.
-    Demo { number: u64 },
+#[derive(Drop)]
+pub struct Source<'a> {
+    /// The plan's file, or the name of a demo's plan.
+    pub plan: &'a str,
+    pub files: Vec<NamedFile<'a>>,
+    /// The number of the demo, where one is run.
+    pub demo: Option<u64>,
 }
 
 /// What the words ask for: what is run, and the numbers of the options.
-#[derive(Clone, Copy)]
+#[derive(Drop)]
 pub struct Job<'a> {
     pub source: Source<'a>,
     /// The most rows of a split.
@@ -45,14 +52,15 @@ pub struct TableFile<'a> {
 }
 
 impl<'a> Job<'a> {
-    /// A job of no file and of the usual numbers.
-    pub fn none() -> Job<'a>
+    /// A job of no file and of the usual numbers. It takes no memory.
+    pub fn none(alloc: Global) -> Job<'a>
         ensures { asked result ≡ no_job }
     {
         Job {
-            source: Source::Files {
+            source: Source {
                 plan: "",
-                items: Items::of(&[]),
+                files: Vec::new(alloc),
+                demo: None,
             },
             split: 10_000,
             page: 1024,
@@ -69,20 +77,14 @@ impl<'a> Job<'a> {
     pub fn demo(&self) -> Option<u64>
         ensures { result ≡ (asked self.now).demo }
     {
-        match self.source {
-            Source::Files { .. } => None,
-            Source::Demo { number } => Some(number),
-        }
+        self.source.demo
     }
 
     /// The plan's file, or the name of a demo's plan.
     pub fn plan(&self) -> &'a str
         ensures { result.now ≡ (asked self.now).plan }
     {
-        match self.source {
-            Source::Files { plan, .. } => plan,
-            Source::Demo { .. } => "plan",
-        }
+        self.source.plan
     }
 
     /// The file of a table.
@@ -97,71 +99,22 @@ impl<'a> Job<'a> {
     fn place_of(&self, name: &str) -> Option<usize>
         ensures { result ≡ position_from (is_named name.now) 0 (asked self.now).files }
     {
-        match self.source {
-            Source::Files { items, .. } => place_among(items, name),
-            Source::Demo { .. } => demo_place(name),
+        let files = self.source.files.as_slice();
+        for place in 0..files.len() {
+            if files[place].name == name {
+                return Some(place);
+            }
         }
+        None
     }
 
     /// The file at a place; no text where there is none.
     pub fn file_at(&self, place: usize) -> &'a str
         ensures { result.now ≡ file_at (asked self.now).files place }
     {
-        match self.source {
-            Source::Files { items, .. } => file_among(items, place),
-            Source::Demo { .. } => demo_file(place),
+        match self.source.files.get(place) {
+            Some(named) => named.file,
+            None => "",
         }
-    }
-}
-
-fn place_among(items: Items<'_>, name: &str) -> Option<usize>
-    ensures { result
-        ≡ position_from (is_named name.now) 0 (map named_file (named_in (items_left items.entry))) }
-{
-    let mut left = items;
-    for place in 0..items.len() {
-        let front = left.split_named()?;
-        if first_part(front.word) == name {
-            return Some(place);
-        }
-        left = front.rest;
-    }
-    None
-}
-
-fn file_among(items: Items<'_>, place: usize) -> &str
-    ensures { result.now ≡ file_at (map named_file (named_in (items_left items.entry))) place }
-{
-    let mut left = items;
-    let mut before = place;
-    while let Some(front) = left.split_named() {
-        if before == 0 {
-            return second_part(front.word);
-        }
-        before -= 1;
-        left = front.rest;
-    }
-    ""
-}
-
-fn demo_place(name: &str) -> Option<usize>
-    ensures { result ≡ position_from (is_named name.now) 0 demo_files }
-{
-    if name == "orders" {
-        return Some(0);
-    }
-    if name == "customers" {
-        return Some(1);
-    }
-    None
-}
-
-fn demo_file(place: usize) -> &'static str
-    ensures { result.now ≡ file_at demo_files place }
-{
-    match place {
-        0 => "orders",
-        1 => "customers",
-        _ => "",
     }
 }

@@ -1,20 +1,20 @@
 //! The command line: the words after the program's name, and what they ask for.
 //!
 //! `specs/Items.antt` says what stands on a command line, `specs/Options.antt` which options there are and what each
-//! has for its value, `specs/Words.antt` which words are a command line and what it asks for. Words are lent, not copied,
-//! so that reading them takes no memory.
+//! has for its value, `specs/Words.antt` which words are a command line and what it asks for. None of them knows how
+//! words are read: that is `clap`'s part, and `specs/Found.antt` says what it is told and what it finds.
 //!
-//! - `items`: options with their values, and other words, one after the other
-//! - `options`: the options
+//! - `command`: the command for `clap`, and what it finds in the words
+//! - `options`: the options, and what each is given
 //! - `words`: `read_words`
 //! - `job`: what is asked for, and the file of a table
 #![tactic(auto)]
 
-mod items;
+mod command;
 mod job;
 mod options;
 mod words;
 
-pub use items::Items;
-pub use job::{Job, Source, TableFile};
-pub use words::read_words;
+pub use command::WordsFault;
+pub use job::{Job, NamedFile, Source, TableFile};
+pub use words::{lend_words, read_words};

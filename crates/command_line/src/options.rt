@@ -1,11 +1,11 @@
 //! The options, and what each is given.
-ghost use Rattle.std.specs.Prelude.{◌≡◌, ◌≤◌, ◌<◌, ◌^◌, option_and_then, option_map, IfSome};
-ghost use Rattle.std.specs.List.{list_any};
-ghost use Rattle.scalar_texts.specs.Numbers.{number_of};
-ghost use Rattle.command_line.specs.Items.{items_left, told_item};
-ghost use Rattle.command_line.specs.Options.{are_options, counts_in, counts_written, every_option, is_given, is_known, is_word_of, may_stand, number_for, number_in, row, row_of, within, written_in};
+ghost use Rattle.std.specs.Prelude.{◌≡◌, ◌≤◌, ◌<◌, ◌^◌, map, option_map, IfSome};
+ghost use Rattle.std.specs.List.{list_all};
+ghost use Rattle.command_line.specs.Options.{are_plain, counts_in, counts_written, is_plain, number_for, number_in, row, row_of, within};
+ghost use Rattle.command_line.specs.Items.{begins_with_dash};
+ghost use Rattle.command_line.specs.Found.{given_in};
 
-use crate::items::{Front, Item, Items, begins_with_dash};
+use clap::ArgMatches;
 use scalar_texts::read_number;
 
 /// An option whose value is a number.
@@ -29,36 +29,30 @@ pub enum NumberOption {
     Replay,
 }
 
-const EVERY_OPTION: [NumberOption; 8] = [
-    NumberOption::Demo,
-    NumberOption::Split,
-    NumberOption::Page,
-    NumberOption::Quantum,
-    NumberOption::Workers,
-    NumberOption::Tasks,
-    NumberOption::Drivers,
-    NumberOption::Replay,
+/// The option of the plan's file.
+pub const PLAN: &str = "plan";
+
+const COUNTS: &str = "counts";
+
+/// The names of all options.
+pub const OPTION_NAMES: [&str; 10] = [
+    "plan", "counts", "demo", "split", "page", "quantum", "workers", "tasks", "drivers", "replay",
 ];
 
-/// The options that are given no number.
-pub const PLAN: &str = "--plan";
-
-const COUNTS: &str = "--counts";
-
-/// An option's word, the bounds of its number, and the number that it has where it is not given.
+/// An option's name, the bounds of its number, and the number that it has where it is not given.
 #[derive(Clone, Copy)]
 struct OptionRow {
-    word: &'static str,
+    name: &'static str,
     least: u64,
     most: u64,
     usual: u64,
 }
 
-fn row_with(word: &'static str, least: u64, most: u64, usual: u64) -> OptionRow
-    ensures { row result ≡ record { word = word.now; least = least; most = most; usual = usual } }
+fn row_with(name: &'static str, least: u64, most: u64, usual: u64) -> OptionRow
+    ensures { row result ≡ record { name = name.now; least = least; most = most; usual = usual } }
 {
     OptionRow {
-        word,
+        name,
         least,
         most,
         usual,
@@ -70,23 +64,22 @@ impl NumberOption {
         ensures { row result ≡ row_of self }
     {
         match self {
-            NumberOption::Demo => row_with("--demo", 0, u64::MAX, 0),
-            NumberOption::Split => row_with("--split", 1, 1_000_000, 10_000),
-            NumberOption::Page => row_with("--page", 1, 8192, 1024),
-            NumberOption::Quantum => row_with("--quantum", 1, 1_000_000, 100_000),
-            NumberOption::Workers => row_with("--workers", 1, 64, 2),
-            NumberOption::Tasks => row_with("--tasks", 1, 16, 2),
-            NumberOption::Drivers => row_with("--drivers", 1, 16, 2),
-            NumberOption::Replay => row_with("--replay", 0, u64::MAX, 0),
+            NumberOption::Demo => row_with("demo", 0, u64::MAX, 0),
+            NumberOption::Split => row_with("split", 1, 1_000_000, 10_000),
+            NumberOption::Page => row_with("page", 1, 8192, 1024),
+            NumberOption::Quantum => row_with("quantum", 1, 1_000_000, 100_000),
+            NumberOption::Workers => row_with("workers", 1, 64, 2),
+            NumberOption::Tasks => row_with("tasks", 1, 16, 2),
+            NumberOption::Drivers => row_with("drivers", 1, 16, 2),
+            NumberOption::Replay => row_with("replay", 0, u64::MAX, 0),
         }
     }
 
     /// What is written for this option.
-    pub fn written_in(self, items: Items<'_>) -> Option<&str>
-        ensures { option_map (λ text. text.now) result
-            ≡ written_in (row_of self).word (items_left items.entry) }
+    pub fn written_in<'a>(self, found: &ArgMatches<'a>) -> Option<&'a str>
+        ensures { option_map (λ text. text.now) result ≡ given_in found.now (row_of self).name }
     {
-        written_in(self.row().word, items)
+        found.get_str(self.row().name)
     }
 
     /// The number that a text gives to this option; None where it is no number of digits alone, or out of bounds.
@@ -98,23 +91,23 @@ impl NumberOption {
     }
 
     /// The number of this option on a command line, or the usual one.
-    pub fn number_in(self, items: Items<'_>) -> Option<u64>
-        ensures number { result ≡ number_in self (items_left items.entry) }
+    pub fn number_in(self, found: &ArgMatches<'_>) -> Option<u64>
+        ensures number { result ≡ number_in self (given_in found.now) }
         ensures bounds { IfSome result (λ n. ((row_of self).least ≤ n) × (n ≤ (row_of self).most)) }
     {
-        match self.written_in(items) {
+        match self.written_in(found) {
             Some(text) => self.number_for(text),
             None => Some(self.row().usual),
         }
     }
 
     /// The same of an option whose numbers have 32 bits.
-    pub fn short_number_in(self, items: Items<'_>) -> Option<u32>
+    pub fn short_number_in(self, found: &ArgMatches<'_>) -> Option<u32>
         requires { (row_of self).most < 2 ^ 32 }
-        ensures number { result ≡ number_in self (items_left items.entry) }
+        ensures number { result ≡ number_in self (given_in found.now) }
         ensures bounds { IfSome result (λ n. ((row_of self).least ≤ n) × (n ≤ (row_of self).most)) }
     {
-        Some(self.number_in(items)? as u32)
+        Some(self.number_in(found)? as u32)
     }
 }
 
@@ -137,10 +130,10 @@ fn within(of: OptionRow, number: u64) -> Option<u64>
 }
 
 /// Whether counts are asked for; None where something else is written.
-pub fn counts_in(items: Items<'_>) -> Option<bool>
-    ensures { result ≡ counts_in (items_left items.entry) }
+pub fn counts_in(found: &ArgMatches<'_>) -> Option<bool>
+    ensures { result ≡ counts_in (given_in found.now) }
 {
-    match written_in(COUNTS, items) {
+    match found.get_str(COUNTS) {
         Some(text) => counts_written(text),
         None => Some(false),
     }
@@ -155,66 +148,35 @@ fn counts_written(text: &str) -> Option<bool>
     Some(true)
 }
 
-/// What is written for an option, where it first stands.
-pub fn written_in<'a>(option: &str, items: Items<'a>) -> Option<&'a str>
-    ensures { option_map (λ text. text.now) result ≡ written_in option.now (items_left items.entry) }
+/// Whether no value begins with `-`.
+pub fn are_plain(found: &ArgMatches<'_>) -> bool
+    ensures { result ≡ are_plain (given_in found.now) }
 {
-    let mut left = items;
-    while let Some(front) = left.split() {
-        if let Item::Valued {
-            option: given,
-            value,
-        } = front.item
-        {
-            if given == option {
-                return Some(value);
-            }
-        }
-        left = front.rest;
-    }
-    None
+    are_plain_among(found, &OPTION_NAMES)
 }
 
-fn is_given(option: &str, items: Items<'_>) -> bool
-    ensures { result ≡ is_given option.now (items_left items.entry) }
+fn are_plain_among(found: &ArgMatches<'_>, names: &[&str]) -> bool
+    ensures { result ≡ list_all (λ name. is_plain (given_in found.now name)) (map (λ name. name.now) names.now) }
 {
-    written_in(option, items).is_some()
-}
-
-fn is_known(word: &str) -> bool
-    ensures { result ≡ is_known word.now }
-{
-    word == PLAN || word == COUNTS || takes_number(word)
-}
-
-fn takes_number(word: &str) -> bool
-    ensures { result ≡ list_any (is_word_of word.now) every_option }
-{
-    EVERY_OPTION.iter().any(|option| word == option.row().word)
-}
-
-/// Whether each option is known and stands once, and no value begins with `-`.
-pub fn are_options(items: Items<'_>) -> bool
-    ensures { result ≡ are_options (items_left items.entry) }
-{
-    let mut left = items;
-    while let Some(front) = left.split() {
-        if !may_stand(front) {
+    for name in names {
+        if !is_plain(found.get_str(name)) {
             return false;
         }
-        left = front.rest;
     }
     true
 }
 
-/// Whether an item may stand before those behind it.
-fn may_stand(front: Front<'_>) -> bool
-    ensures { result ≡ may_stand (told_item front.entry.item) (items_left front.entry.rest) }
+fn is_plain(given: Option<&str>) -> bool
+    ensures { result ≡ is_plain (option_map (λ text. text.now) given.entry) }
 {
-    match front.item {
-        Item::Valued { option, value } => {
-            is_known(option) && !begins_with_dash(value) && !is_given(option, front.rest)
-        }
-        Item::Named { .. } => true,
+    match given {
+        Some(text) => !begins_with_dash(text),
+        None => true,
     }
+}
+
+pub fn begins_with_dash(word: &str) -> bool
+    ensures { result ≡ begins_with_dash word.now }
+{
+    !word.is_empty() && word.as_bytes()[0] == b'-'
 }

@@ -1,12 +1,14 @@
 //! Words and what they ask for, as lines.
-use command_line::{Job, read_words};
+use command_line::{Job, WordsFault, lend_words, read_words};
 use sql_values::Text;
 use std::alloc::Global;
 use std::test::Fail;
 
+/// The words of a line, in which two quotes stand for the word of no letter.
 fn words_in(alloc: Global, line: &str) -> Result<Vec<Text>, Fail> {
     let mut words = Vec::new(alloc);
     for word in line.split_whitespace() {
+        let word = if word == "''" { "" } else { word };
         words.push(Text::copy_of(alloc, word)?)?;
     }
     Ok(words)
@@ -15,7 +17,11 @@ fn words_in(alloc: Global, line: &str) -> Result<Vec<Text>, Fail> {
 /// Whether the words are no command line.
 fn is_refused(alloc: Global, line: &str) -> Result<bool, Fail> {
     let words = words_in(alloc, line)?;
-    Ok(read_words(words.as_slice()).is_none())
+    let lent = lend_words(alloc, words.as_slice())?;
+    match read_words(alloc, lent.as_slice()) {
+        Err(WordsFault::Bad) => Ok(true),
+        _ => Ok(false),
+    }
 }
 
 /// What is no command line.
@@ -98,7 +104,18 @@ t=t --demo 1\n\
 --demo 1 orders=orders\n\
 --demo 1 -- t=t\n\
 --demo 1 1\n\
---demo 1 --tasks 17";
+--demo 1 --tasks 17\n\
+''\n\
+--plan ''\n\
+--plan p ''\n\
+--plan p --counts ''\n\
+--demo ''\n\
+--demo 1 ''\n\
+-é\n\
+--plan -é\n\
+--plan p -é t=t\n\
+--plané p\n\
+--plan p -- -é=t";
 
 #[test]
 fn refuses_what_is_no_command_line(rt: HostRuntime) -> Result<(), Fail> {
@@ -122,6 +139,7 @@ t=t --split 3 u=u --plan p v=v --page=5 -- w=w x==x | p no t 0 t u 1 u v 2 v w 3
 --plan p t=t --counts yes u=- | p yes t 0 t u 1 -\n\
 --counts=yes --plan t=t | t=t yes\n\
 --plan p orders=o | p no orders 0 o\n\
+--plan é ü=ß | é no ü 0 ß\n\
 --demo 0 | demo 0 no orders 0 orders customers 1 customers\n\
 --demo=007 --workers 4 --tasks 3 --page 100 | demo 7 no\n\
 --counts yes --demo 18446744073709551615 -- | demo 18446744073709551615 yes";
@@ -180,9 +198,10 @@ fn has_source(alloc: Global, job: &Job<'_>, want: &str) -> Result<bool, Fail> {
 
 fn is_asked(alloc: Global, line: &str, want: &str) -> Result<bool, Fail> {
     let words = words_in(alloc, line)?;
-    match read_words(words.as_slice()) {
-        Some(job) => has_source(alloc, &job, want),
-        None => Ok(false),
+    let lent = lend_words(alloc, words.as_slice())?;
+    match read_words(alloc, lent.as_slice()) {
+        Ok(job) => has_source(alloc, &job, want),
+        Err(_) => Ok(false),
     }
 }
 
@@ -282,9 +301,11 @@ fn has_numbers(alloc: Global, job: &Job<'_>, want: &str) -> Result<bool, Fail> {
 }
 
 fn gives_numbers(alloc: Global, words: &[Text], want: &str) -> Result<bool, Fail> {
-    match read_words(words) {
-        Some(job) => has_numbers(alloc, &job, want),
-        None => Ok(want == "none"),
+    let lent = lend_words(alloc, words)?;
+    match read_words(alloc, lent.as_slice()) {
+        Ok(job) => has_numbers(alloc, &job, want),
+        Err(WordsFault::Bad) => Ok(want == "none"),
+        Err(WordsFault::Memory) => Ok(false),
     }
 }
 

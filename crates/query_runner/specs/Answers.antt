@@ -13,6 +13,8 @@ use Rattle.plan_trees.specs.Laws.{CannotFail}
 use Rattle.plan_reader.specs.Trees.{tree_of}
 use Rattle.csv_tables.specs.ResultTexts.{result_text}
 use Rattle.command_line.specs.Words.{Job, no_job}
+use Rattle.command_line.specs.declared.command.WordsFault.{WordsFault}
+use Rattle.command_line.specs.declared.command.WordsFault.TheVariants as fault
 use Rattle.query_runner.specs.Demos.{demo_contents}
 use Rattle.query_runner.specs.Jobs.{AreTablesAsked, Contents, IsPlanAsked, Row}
 use Rattle.query_runner.specs.Loading.{FirstIsRefused, HasNoFile, PlanFails, SomeTableIsUnread}
@@ -135,9 +137,14 @@ seen_for (Some number) seen = record seen {
   refused = None;
 }
 
--- the words are no command line
+-- the answer where the words were not read
+abbrev pub status_of_words : WordsFault → Status
+status_of_words fault.Bad = status.BadWords
+status_of_words fault.Memory = status.Memory
+
+-- the words are no command line: that is told, or memory was wanting
 pub record WordsAreBad (seen : Seen) (heard : Heard) (answer : Status) : Type 0 where
-  pub is : answer ≡ status.BadWords
+  pub is : (answer ≡ status.BadWords) ⊎ (answer ≡ status.Memory)
   pub nothing : WroteNothing seen
   pub told : Told heard (message no_job [] answer) answer
 

@@ -12,6 +12,7 @@ use itoa::Buffer;
 use plan_reader::TableDoc;
 use run_ports::{Sink, SinkFailed, write_whole};
 use sql_values::Fail;
+use std::alloc::Global;
 
 /// Writes the line of an answer to the errors, where it is not Ok. It takes no memory. A write that
 /// fails ends it.
@@ -30,7 +31,7 @@ pub fn tell<E: Sink>(err: &mut E, job: &Job<'_>, tables: &[TableDoc], status: &S
 }
 
 /// The same of an answer before there is a job.
-pub fn tell_first<E: Sink>(err: &mut E, status: &Status)
+pub fn tell_first<E: Sink>(alloc: Global, err: &mut E, status: &Status)
     ensures { Told (record {
       told_before = E.written err.old;
       told_after = E.written err.new;
@@ -38,7 +39,7 @@ pub fn tell_first<E: Sink>(err: &mut E, status: &Status)
       faults_after = E.faults err.new;
     }) (message no_job [] status.now) status.now }
 {
-    tell(err, &Job::none(), &[], status);
+    tell(err, &Job::none(alloc), &[], status);
 }
 
 fn write_line<E: Sink>(

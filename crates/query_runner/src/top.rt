@@ -1,10 +1,11 @@
-ghost use Rattle.std.specs.Prelude.{◌≡◌, ◌↔◌, ◌≤◌, ℕ, [], map, None, Some, Ok, Err, IfOk, MatchResult};
+ghost use Rattle.std.specs.Prelude.{◌≡◌, ◌⊎◌, ◌≤◌, ℕ, [], map, None, Some, Ok, Err, IfOk, MatchResult};
 ghost use Rattle.plan_docs.specs.Plans.{plan_view};
-ghost use Rattle.command_line.specs.Words.{HasBounds, Job as Asked, asked, job_of};
+ghost use Rattle.command_line.specs.Words.{HasBounds, Job as Asked, asked, job_of, no_job};
 ghost use Rattle.plan_fits.specs.Tables.{HaveColumns, WasRead};
 ghost use Rattle.task_executor.specs.Shapes.{IsShape};
 ghost use Rattle.tree_evaluator.specs.Fits.{TablesFit};
-ghost use Rattle.query_runner.specs.Answers.{Answered, IsComplete, IsResult, IsTextOf, JobAnswered, PlanAnswered, demo_of, seen_for, status_of};
+ghost use Rattle.query_runner.specs.Answers.{Answered, IsComplete, IsResult, IsTextOf, JobAnswered, PlanAnswered, Told, demo_of, seen_for, status_of, status_of_words};
+ghost use Rattle.query_runner.specs.Lines.{message};
 ghost use Rattle.query_runner.specs.Jobs.{AreTablesAsked, Contents, rows_of};
 ghost use Rattle.query_runner.specs.Demos.{demo_contents};
 
@@ -13,7 +14,7 @@ use crate::lines::{tell, tell_first};
 use crate::load::{files_of, load_plan, load_tables};
 use crate::results::result_of;
 use crate::status::Status;
-use command_line::{Job, read_words};
+use command_line::{Job, WordsFault, lend_words, read_words};
 use plan_reader::Plan;
 use run_ports::{Courier, Files, Meet, Sink, write_whole};
 use sql_values::{Table, Text};
@@ -43,7 +44,8 @@ where
     E: Sink,
     C: Courier + Send,
     M: Meet + Sync,
-    ensures bad_words { (result ≡ Status.BadWords) ↔ (job_of words.now ≡ None) }
+    ensures bad_words { result ≡ Status.BadWords → job_of words.now ≡ None }
+    ensures no_words { job_of words.now ≡ None → (result ≡ Status.BadWords) ⊎ (result ≡ Status.Memory) }
     ensures answer { Answered (job_of words.now) (record {
       held = F.holds files.old;
       read_faults_before = F.faults files.old;
@@ -72,11 +74,31 @@ where
     ensures demo_reads_no_file { (number : ℕ)
         → demo_of (job_of words.now) ≡ Some number → files.new ≡ files.old }
 {
-    let Some(job) = read_words(words) else {
-        tell_first(err, &Status::BadWords);
-        return Status::BadWords;
+    let Ok(lent) = lend_words(alloc, words) else {
+        return refuse(alloc, err, WordsFault::Memory);
     };
-    run_source(rt, alloc, &job, files, out, err, courier, meet)
+    match read_words(alloc, lent.as_slice()) {
+        Ok(job) => run_source(rt, alloc, &job, files, out, err, courier, meet),
+        Err(fault) => refuse(alloc, err, fault),
+    }
+}
+
+/// Tells why the words were not read.
+fn refuse<E: Sink>(alloc: Global, err: &mut E, fault: WordsFault) -> Status
+    ensures status { result ≡ status_of_words fault }
+    ensures told { Told (record {
+      told_before = E.written err.old;
+      told_after = E.written err.new;
+      faults_before = E.faults err.old;
+      faults_after = E.faults err.new;
+    }) (message no_job [] result) result }
+{
+    let status = match fault {
+        WordsFault::Bad => Status::BadWords,
+        WordsFault::Memory => Status::Memory,
+    };
+    tell_first(alloc, err, &status);
+    status
 }
 
 /// Does what the words ask for, over the files or over the documents of a demo.

@@ -6,7 +6,7 @@ ghost use Rattle.task_executor.specs.Shapes.{AreFew, IsShape};
 ghost use Rattle.tree_evaluator.specs.Fits.{TablesFit};
 
 use crate::answers::{Given, files_of, is_text, words_in};
-use command_line::{Job, read_words};
+use command_line::{Job, lend_words, read_words};
 use csv_tables::text_of;
 use plan_fits::consistent_plans_fit;
 use plan_links::read_plans_are_consistent;
@@ -33,9 +33,10 @@ pub(crate) fn gives<R: Threads + Wait + Sync + RandomSource + AllocGlobal>(
     text: &str,
 ) -> Result<bool, Fail> {
     let words = words_in(rt.alloc(), given.words)?;
-    match read_words(words.as_slice()) {
-        Some(job) => job_gives(rt, &job, given, picks, text),
-        None => Ok(false),
+    let lent = lend_words(rt.alloc(), words.as_slice())?;
+    match read_words(rt.alloc(), lent.as_slice()) {
+        Ok(job) => job_gives(rt, &job, given, picks, text),
+        Err(_) => Ok(false),
     }
 }
 

@@ -19,7 +19,7 @@ fn main(rt: HostRuntime) -> ExitCode {
             &NoMeet,
         ),
         Err(status) => {
-            tell_first(&mut err, &status);
+            tell_first(rt.alloc(), &mut err, &status);
             status
         }
     };

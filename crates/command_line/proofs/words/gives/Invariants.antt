@@ -1,11 +1,7 @@
-use Rattle.std.proofs.Common.{◌≡◌, length}
+use Rattle.std.proofs.Common.{◌≡◌, map, drop}
 use Rattle.std.specs.List.{list_any}
-use Rattle.command_line.specs.Items.{items_left, named_in}
 use Rattle.command_line.specs.Words.{names}
 use Rattle.command_line.proofs.words.gives.Given as goal
 
-abbrev pub decreases-loop-front : goal.decreases-loop-front
-decreases-loop-front l = length l.left.words.now
-
-abbrev pub invariant-loop-front : goal.invariant-loop-front
-invariant-loop-front l = list_any (names l.name) (named_in (items_left l.items)) ≡ list_any (names l.name) (named_in (items_left l.left))
+abbrev pub invariant-loop-word : goal.invariant-loop-word
+invariant-loop-word l = list_any (names l.name) (map (λ word. word.now) l.words) ≡ list_any (names l.name) (map (λ word. word.now) (drop l.word-index l.words))

@@ -11,7 +11,6 @@ use Rattle.plan_places.specs.Places.{pointer_text}
 use Rattle.plan_grammar.specs.Spots.{Spot, places_of}
 use Rattle.plan_checks.specs.declared.fault.PlanFault.{PlanFault}
 use Rattle.plan_checks.specs.declared.fault.PlanFault.TheVariants.{Refused, Memory}
-use Rattle.plan_checks.specs.Built.{first_unbuilt}
 use Rattle.plan_checks.specs.Fragments.{first_unlinked}
 use Rattle.plan_checks.specs.Halves.{first_alone}
 use Rattle.plan_checks.specs.Limits.{first_beyond}
@@ -21,17 +20,6 @@ use Rattle.plan_checks.specs.Shapes.{fault_path, is_misshapen}
 -- the code of a check that fails at a place, and the place
 abbrev pub at : ℕ → Option Spot → Option (ℕ × Spot)
 at code place = option_map (λ s. (code, s)) place
-
--- the first failing check over the places of a document: code 10 comes once each place is in its form and has its
--- name, before what fragments and halves have to do with one another
-abbrev pub first_refused : Data → List Spot → Option (ℕ × Spot)
-first_refused document all =
-    option_or (at 2 (find is_misshapen all))
-    (option_or (at 3 (first_beyond all))
-    (option_or (at 4 (first_misnamed document [] all))
-    (option_or (at 10 (first_unbuilt all))
-    (option_or (at 6 (first_unlinked document all))
-    (at 7 (first_alone document all))))))
 
 -- a value out of its form, beyond its limit, or with a name that it may not have
 abbrev pub first_malformed : Data → List Spot → Option (ℕ × Spot)
@@ -44,9 +32,9 @@ first_malformed document all =
 abbrev pub first_unjoined : Data → List Spot → Option (ℕ × Spot)
 first_unjoined document all = option_or (at 6 (first_unlinked document all)) (at 7 (first_alone document all))
 
--- the first failing check, whether or not all forms are built
-abbrev pub first_inconsistent : Data → List Spot → Option (ℕ × Spot)
-first_inconsistent document all = option_or (first_malformed document all) (first_unjoined document all)
+-- the first failing check over the places of a document
+abbrev pub first_refused : Data → List Spot → Option (ℕ × Spot)
+first_refused document all = option_or (first_malformed document all) (first_unjoined document all)
 
 -- the code and the pointer of a refusal
 abbrev pub refusal : ℕ × Spot → ℕ × List ℕ
@@ -55,10 +43,6 @@ refusal r = (r.0, pointer_text (fault_path r.1))
 -- why a document is refused, if it is
 abbrev pub refusal_of : Data → Option (ℕ × List ℕ)
 refusal_of document = option_map refusal (first_refused document (places_of document))
-
--- why it is refused whether or not all of it is built
-abbrev pub inconsistency_of : Data → Option (ℕ × List ℕ)
-inconsistency_of document = option_map refusal (first_inconsistent document (places_of document))
 
 -- the bytes are JSON, and the document is the value that they write
 pub record IsJson (bytes : List ℕ) (document : Data) : Type 0 where

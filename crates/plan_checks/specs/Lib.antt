@@ -2,7 +2,6 @@ pub mod Shapes
 pub mod Limits
 pub mod Types
 pub mod Names
-pub mod Built
 pub mod Fragments
 pub mod Halves
 pub mod Documents

@@ -7,7 +7,7 @@ use std::fmt;
 #[derive(Debug, Drop)]
 pub enum PlanFault {
     /// The document was refused. The code says by which check, and the path, a JSON Pointer, at
-    /// which place: code 1 is no JSON, and code 10 a form that is not built yet.
+    /// which place: code 1 is no JSON.
     Refused { code: u8, path: Text },
     /// Memory was wanting.
     Memory,

@@ -6,14 +6,12 @@
 //! - `shapes`: code 2, kinds of JSON, keys and words
 //! - `limits`: code 3
 //! - `names`, `types`: code 4, names that nothing has or that are given twice
-//! - `built`: code 10, what is not built yet: the dynamic filters of joins
 //! - `fragments`: code 6, which fragment reads which
 //! - `halves`: code 7, the two halves of an operator
 //! - `refusal`, `fault`: the first of all, and as the answer
 //! - `read`: `read_document`
 #![tactic(auto)]
 
-mod built;
 mod fault;
 mod fragments;
 mod halves;

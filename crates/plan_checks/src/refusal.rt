@@ -6,7 +6,6 @@ ghost use Rattle.plan_places.specs.Places.{pointer_text};
 ghost use Rattle.plan_checks.specs.Documents.{RefusedAs, first_malformed, first_refused, first_unjoined, refusal as refusal_text, refusal_of};
 ghost use Rattle.plan_checks.specs.Shapes.{fault_path};
 
-use crate::built::first_unbuilt;
 use crate::fault::PlanFault;
 use crate::fragments::first_unlinked;
 use crate::halves::first_alone;
@@ -39,16 +38,12 @@ pub fn judge(alloc: Global, document: &Value) -> Result<(), PlanFault>
     }
 }
 
-#[tactic(auto, using(crate::proofs::RefusalLemmas::three_first))]
 fn first_refused<'p, 'v>(document: &Value, places: &'p [Place<'v>]) -> Option<Refusal<'p, 'v>>
     ensures { option_map (λ r. (r.code, spot_of r.place.now)) result
         ≡ first_refused (view document.now) (map spot_of places.now) }
 {
-    if let Some(refusal) = first_malformed(document, places) {
-        return Some(refusal);
-    }
-    match first_unbuilt(places) {
-        Some(place) => Some(Refusal { code: 10, place }),
+    match first_malformed(document, places) {
+        Some(refusal) => Some(refusal),
         None => first_unjoined(document, places),
     }
 }

@@ -1,5 +1,5 @@
 -- What follows of a consistent document.
-use Rattle.std.proofs.Common.{◌≡◌, ℕ, ◌<◌, List, [], map, Option, Some, None, option_map, refl, ap, sym, subst, arith}
+use Rattle.std.proofs.Common.{◌≡◌, ℕ, ◌<◌, List, [], map, Option, Some, None, option_map, refl, sym, subst, arith}
 use Rattle.std.specs.Prelude.{Result, Ok, Err, slice_get, ◌||◌}
 use Rattle.std.specs.Option.{option_or}
 use Rattle.std.specs.List.{count_by, find}
@@ -10,8 +10,7 @@ use Rattle.plan_places.specs.declared.step.Step.{Step}
 use Rattle.plan_grammar.specs.declared.kind.Kind.TheVariants as kind
 use Rattle.plan_grammar.specs.Json.{entries_under}
 use Rattle.plan_grammar.specs.Spots.{Spot, places_of}
-use Rattle.plan_checks.specs.Built.{first_unbuilt}
-use Rattle.plan_checks.specs.Documents.{at, first_inconsistent, first_refused, inconsistency_of, refusal, refusal_of}
+use Rattle.plan_checks.specs.Documents.{at, first_refused, refusal, refusal_of}
 use Rattle.plan_checks.specs.Fragments.{first_mislinked, first_unlinked, fragments_count, is_unread}
 use Rattle.plan_checks.specs.Halves.{first_alone, is_alone}
 use Rattle.plan_checks.specs.Limits.{bound_of, exceeds, first_beyond, is_beyond, is_crowded, is_filter, is_node, lacks_work}
@@ -19,8 +18,11 @@ use Rattle.plan_checks.specs.Names.{first_misnamed}
 use Rattle.plan_checks.specs.Shapes.{is_misshapen}
 use Rattle.plan_docs.specs.Documents.{fragment_of, plan_of, table_of}
 use Rattle.plan_docs.specs.Plans.{FragmentForm, PlanForm}
-use Rattle.plan_reader.specs.Judgement.{IsPlan, any_judgement_of, misplaced, plan_refusal, untyped}
+use Rattle.plan_reader.specs.Filters.{first_misdirected}
+use Rattle.plan_reader.specs.Judgement.{IsPlan, judgement_of, misdirected, misplaced, plan_refusal, untyped}
+use Rattle.plan_reader.specs.Reaches.{FiltersReach}
 use Rattle.plan_reader.specs.Trees.{tree_of}
+use Rattle.plan_reader.proofs.ReachLemmas.{all_reach, first_option, second_option}
 use Rattle.plan_runs.specs.Placements.{Placed}
 use Rattle.plan_runs.specs.RunPlans.{tree_of_run}
 use Rattle.plan_runs.specs.Spreads.{whole}
@@ -45,14 +47,6 @@ use Rattle.plan_links.proofs.ReadLemmas.{document_found, read_some}
 use Rattle.plan_links.proofs.RunLemmas.{plan_runs_as}
 use Rattle.plan_links.proofs.SourceLemmas.{found_once, none_back, read_by_one}
 use Rattle.plan_links.proofs.StepLemmas.{all_known}
-
-first_option : {A : Type 0} (o p : Option A) → option_or o p ≡ None → o ≡ None
-first_option None p h = refl
-first_option (Some x) p h = h
-
-second_option : {A : Type 0} (o p : Option A) → option_or o p ≡ None → p ≡ None
-second_option None p h = h
-second_option (Some x) p h = absurd cc
 
 unmapped : {A B : Type 0} (f : A → B) (o : Option A) → option_map f o ≡ None → o ≡ None
 unmapped f None h = refl
@@ -85,7 +79,7 @@ record NoneFails (d : Data) (all : List Spot) : Type 0 where
   linked : first_unlinked d all ≡ None
   joined : first_alone d all ≡ None
 
-none_fails : (d : Data) (all : List Spot) → first_inconsistent d all ≡ None → NoneFails d all
+none_fails : (d : Data) (all : List Spot) → first_refused d all ≡ None → NoneFails d all
 none_fails d all e =
     let shapes = at 2 (find is_misshapen all) in
     let limits = at 3 (first_beyond all) in
@@ -103,25 +97,25 @@ none_fails d all e =
       joined = unmapped (λ (s : Spot). (7, s)) (first_alone d all) (second_option links halves unjoined);
     }
 
-pub document_checked : (d : Data) → inconsistency_of d ≡ None → Each (Checked d (places_of d)) (places_of d)
+pub document_checked : (d : Data) → refusal_of d ≡ None → Each (Checked d (places_of d)) (places_of d)
 document_checked d e =
     let all = places_of d in
-    let none = none_fails d all (unmapped refusal (first_inconsistent d all) e) in
+    let none = none_fails d all (unmapped refusal (first_refused d all) e) in
     all_checked d all none.shaped none.within none.named (first_option (first_mislinked d [] all) (find (is_unread all) all) none.linked) none.joined
 
-document_meets : (d : Data) → inconsistency_of d ≡ None → HalvesMeet (map (fragment_of d) (entries_under key.Fragments d))
+document_meets : (d : Data) → refusal_of d ≡ None → HalvesMeet (map (fragment_of d) (entries_under key.Fragments d))
 document_meets d e =
     let all = places_of d in
-    let none = none_fails d all (unmapped refusal (first_inconsistent d all) e) in
+    let none = none_fails d all (unmapped refusal (first_refused d all) e) in
     let linked = first_option (first_mislinked d [] all) (find (is_unread all) all) none.linked in
     let checked = document_checked d e in
     let known = all_known (Checked d all) d d [] d kind.Document 0 (record { value = refl; step = λ h. absurd cc }) checked in
     fragments_meet d all checked known (λ n i j s t at there is so. read_by_one d n [] all i j s t linked at there is so)
 
-document_reads : (d : Data) → inconsistency_of d ≡ None → AreReadOnce (map (fragment_of d) (entries_under key.Fragments d))
+document_reads : (d : Data) → refusal_of d ≡ None → AreReadOnce (map (fragment_of d) (entries_under key.Fragments d))
 document_reads d e n some lt =
     let all = places_of d in
-    let none = none_fails d all (unmapped refusal (first_inconsistent d all) e) in
+    let none = none_fails d all (unmapped refusal (first_refused d all) e) in
     let linked = first_option (first_mislinked d [] all) (find (is_unread all) all) none.linked in
     let unread = second_option (first_mislinked d [] all) (find (is_unread all) all) none.linked in
     let checked = document_checked d e in
@@ -139,8 +133,8 @@ pub tables_of : (d : Data) → (plan_of d).tables ≡ map table_of (entries_unde
 unfolding plan_of
 tables_of d = refl
 
-pub passes_first : (d : Data) → any_judgement_of d ≡ None → inconsistency_of d ≡ None
-passes_first d h = first_option (inconsistency_of d) (plan_refusal (plan_of d)) h
+pub passes_first : (d : Data) → judgement_of d ≡ None → refusal_of d ≡ None
+passes_first d h = first_option (refusal_of d) (plan_refusal (plan_of d)) h
 
 pub plan_meets : (plan : PlanForm) → IsConsistent plan → HalvesMeet plan.fragments
 plan_meets plan c =
@@ -175,17 +169,31 @@ placed_had : {A : Type 0} (r : Result A (List Step)) → misplaced r ≡ None �
 placed_had (Ok x) h = record { has = x; is = refl }
 placed_had (Err path) h = absurd cc
 
--- its types and its spreads
+none_misdirected : (r : Option (List Step)) → misdirected r ≡ None → r ≡ None
+none_misdirected None h = refl
+none_misdirected (Some path) h = absurd cc
+
+-- its types and its spreads, and that no filter is misdirected
 pub record Judged (plan : PlanForm) : Type 0 where
   pub types : Had (plan_types plan)
   pub spreads : Had (plan_spreads plan)
+  pub directed : first_misdirected plan ≡ None
 
 pub judged_plan : (plan : PlanForm) → IsConsistent plan → Judged plan
 judged_plan plan c =
-    let judged = subst (λ (p : PlanForm). plan_refusal p ≡ None) (sym c.means) (second_option (inconsistency_of c.document) (plan_refusal (plan_of c.document)) c.passes) in
+    let judged = subst (λ (p : PlanForm). plan_refusal p ≡ None) (sym c.means) (second_option (refusal_of c.document) (plan_refusal (plan_of c.document)) c.passes) in
     let types = untyped (plan_types plan) in
     let spreads = misplaced (plan_spreads plan) in
-    record { types = typed_had (plan_types plan) (first_option types spreads judged); spreads = placed_had (plan_spreads plan) (second_option types spreads judged) }
+    let filters = misdirected (first_misdirected plan) in
+    let later = second_option types (option_or spreads filters) judged in
+    record {
+      types = typed_had (plan_types plan) (first_option types (option_or spreads filters) judged);
+      spreads = placed_had (plan_spreads plan) (first_option spreads filters later);
+      directed = none_misdirected (first_misdirected plan) (second_option spreads filters later);
+    }
+
+pub filters_reach : (plan : PlanForm) → IsConsistent plan → FiltersReach plan
+filters_reach plan c = all_reach plan (judged_plan plan c).directed
 
 pub plan_is_placed : (plan : PlanForm) → IsConsistent plan → (tasks : ℕ) → 0 < tasks → Placed 1 (plan_run tasks plan) whole
 plan_is_placed plan c tasks some =
@@ -210,33 +218,5 @@ parts_fit_widths plan c tasks some =
     let j = judged_plan plan c in
     parts_fit plan j.types.has j.spreads.has j.types.is j.spreads.is (plan_meets plan c) (plan_leaves plan c) tasks some
 
-neither_one : {A : Type 0} (o p : Option A) → o ≡ None → p ≡ None → option_or o p ≡ None
-neither_one None p h g = g
-neither_one (Some x) p h g = absurd cc
-
--- a document that no check refuses is consistent
-not_refused : (d : Data) (all : List Spot) → first_refused d all ≡ None → first_inconsistent d all ≡ None
-not_refused d all e =
-    let shapes = at 2 (find is_misshapen all) in
-    let limits = at 3 (first_beyond all) in
-    let names = at 4 (first_misnamed d [] all) in
-    let built = at 10 (first_unbuilt all) in
-    let others = option_or (at 6 (first_unlinked d all)) (at 7 (first_alone d all)) in
-    let e2 = second_option shapes (option_or limits (option_or names (option_or built others))) e in
-    let e3 = second_option limits (option_or names (option_or built others)) e2 in
-    let e4 = second_option names (option_or built others) e3 in
-    let malformed = neither_one shapes (option_or limits names) (first_option shapes (option_or limits (option_or names (option_or built others))) e)
-    (neither_one limits names (first_option limits (option_or names (option_or built others)) e2) (first_option names (option_or built others) e3)) in
-    neither_one (option_or shapes (option_or limits names)) others malformed (second_option built others e4)
-
 pub read_consistent : (plan : PlanForm) (bytes : List ℕ) → IsPlan bytes plan → IsConsistent plan
-read_consistent plan bytes p =
-    let d = p.document in
-    let all = places_of d in
-    let first = unmapped refusal (first_refused d all) (first_option (refusal_of d) (plan_refusal (plan_of d)) p.passes) in
-    let none : inconsistency_of d ≡ None = ap (option_map refusal) (not_refused d all first) in
-    record {
-      document = d;
-      passes = neither_one (inconsistency_of d) (plan_refusal (plan_of d)) none (second_option (refusal_of d) (plan_refusal (plan_of d)) p.passes);
-      means = p.means;
-    }
+read_consistent plan bytes p = record { document = p.document; passes = p.passes; means = p.means }

@@ -2,6 +2,7 @@
 ghost use Rattle.std.specs.Prelude.{◌≡◌, ◌<◌, ℕ, List, None, Ok, Some, slice_get};
 ghost use Rattle.plan_docs.specs.Plans.{FragmentForm, plan_view};
 ghost use Rattle.plan_reader.specs.Judgement.{IsPlan};
+ghost use Rattle.plan_reader.specs.Reaches.{FiltersReach};
 ghost use Rattle.plan_reader.specs.Trees.{tree_of};
 ghost use Rattle.plan_runs.specs.Placements.{Placed};
 ghost use Rattle.plan_runs.specs.RunPlans.{tree_of_run};
@@ -51,4 +52,10 @@ pub fn consistent_plans_are_placed(plan: &Plan)
         → Placed (tasks_of tasks f.placement)
         (part_read 0 (fragment_parts tasks 0 (plan_view plan.now).fragments) i).root
         (row_spread_view s) }
+{}
+
+/// The law that in such a plan each dynamic filter is one of an inner join and names the column of a scan from which the
+/// left column of its pair comes, through nothing that can fail.
+pub fn filters_reach_their_scans(plan: &Plan)
+    ensures { IsConsistent (plan_view plan.now) → FiltersReach (plan_view plan.now) }
 {}

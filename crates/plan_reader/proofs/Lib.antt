@@ -1,2 +1,3 @@
 pub mod JudgeLemmas
+pub mod ReachLemmas
 pub mod SizeLemmas

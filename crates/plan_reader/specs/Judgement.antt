@@ -7,11 +7,12 @@ use Rattle.plan_places.specs.declared.step.Step.{Step}
 use Rattle.plan_places.specs.Places.{pointer_text}
 use Rattle.plan_checks.specs.declared.fault.PlanFault.{PlanFault}
 use Rattle.plan_checks.specs.declared.fault.PlanFault.TheVariants.{Refused, Memory}
-use Rattle.plan_checks.specs.Documents.{IsJson, IsNotJson, inconsistency_of, refusal_of}
+use Rattle.plan_checks.specs.Documents.{IsJson, IsNotJson, refusal_of}
 use Rattle.plan_docs.specs.Documents.{plan_of}
 use Rattle.plan_docs.specs.Plans.{PlanForm}
 use Rattle.plan_spreads.specs.Plans.{plan_spreads}
 use Rattle.plan_types.specs.Plans.{plan_types}
+use Rattle.plan_reader.specs.Filters.{first_misdirected}
 
 abbrev pub refused_at : ℕ → List Step → Option (ℕ × List ℕ)
 refused_at code path = Some (code, pointer_text path)
@@ -26,17 +27,21 @@ abbrev pub misplaced : {A : Type 0} → Result A (List Step) → Option (ℕ × 
 misplaced (Ok spreads) = None
 misplaced (Err path) = refused_at 8 path
 
+-- code 9, at the dynamic filter that was found
+abbrev pub misdirected : Option (List Step) → Option (ℕ × List ℕ)
+misdirected None = None
+misdirected (Some path) = refused_at 9 path
+
 -- the checks of a plan, in their order
 abbrev pub plan_refusal : PlanForm → Option (ℕ × List ℕ)
-plan_refusal plan = option_or (untyped (plan_types plan)) (misplaced (plan_spreads plan))
+plan_refusal plan =
+    option_or (untyped (plan_types plan))
+    (option_or (misplaced (plan_spreads plan))
+    (misdirected (first_misdirected plan)))
 
 -- all checks of a document, in their order
 abbrev pub judgement_of : Data → Option (ℕ × List ℕ)
 judgement_of d = option_or (refusal_of d) (plan_refusal (plan_of d))
-
--- the same whether or not all of the document is built
-abbrev pub any_judgement_of : Data → Option (ℕ × List ℕ)
-any_judgement_of d = option_or (inconsistency_of d) (plan_refusal (plan_of d))
 
 -- the bytes are a document that no check refuses, and the plan is what it means
 pub record IsPlan (bytes : List ℕ) (plan : PlanForm) : Type 0 where

@@ -1,2 +1,4 @@
-pub mod Judgement
 pub mod Trees
+pub mod Filters
+pub mod Reaches
+pub mod Judgement

@@ -3,8 +3,10 @@ ghost use Rattle.plan_checks.specs.Documents.{RefusedAs};
 ghost use Rattle.plan_docs.specs.Plans.{plan_view};
 ghost use Rattle.plan_spreads.specs.Plans.{plan_spreads};
 ghost use Rattle.plan_types.specs.Plans.{plan_types};
-ghost use Rattle.plan_reader.specs.Judgement.{misplaced, plan_refusal, refused_at, untyped};
+ghost use Rattle.plan_reader.specs.Filters.{first_misdirected};
+ghost use Rattle.plan_reader.specs.Judgement.{misdirected, misplaced, plan_refusal, refused_at, untyped};
 
+use crate::filters::pass_filters;
 use plan_checks::PlanFault;
 use plan_docs::Plan;
 use plan_places::{Step, pointer_of};
@@ -20,7 +22,8 @@ pub fn judge(alloc: Global, plan: &Plan) -> Result<(), PlanFault>
         (RefusedAs (plan_refusal (plan_view plan.now))) }
 {
     pass_types(alloc, plan)?;
-    pass_placement(alloc, plan)
+    pass_placement(alloc, plan)?;
+    pass_paths(alloc, plan)
 }
 
 fn pass_types(alloc: Global, plan: &Plan) -> Result<(), PlanFault>
@@ -51,5 +54,16 @@ fn pass_placement(alloc: Global, plan: &Plan) -> Result<(), PlanFault>
         Ok(_spreads) => Ok(()),
         Err(SpreadFault::Refused(path)) => Err(PlanFault::Refused { code: 8, path }),
         Err(SpreadFault::Memory) => Err(PlanFault::Memory),
+    }
+}
+
+fn pass_paths(alloc: Global, plan: &Plan) -> Result<(), PlanFault>
+    ensures { MatchResult result (λ _. misdirected (first_misdirected (plan_view plan.now)) ≡ None)
+        (RefusedAs (misdirected (first_misdirected (plan_view plan.now)))) }
+{
+    match pass_filters(alloc, plan) {
+        Ok(()) => Ok(()),
+        Err(Misfit::At(path)) => Err(refused_at(alloc, 9, path.as_slice())),
+        Err(Misfit::Memory) => Err(PlanFault::Memory),
     }
 }

@@ -1,9 +1,11 @@
 //! Plans: a document is read into a plan, or the first check that fails is told with its place.
 //!
 //! `specs/Judgement.antt` has the order of the checks as one definition: those of the document's
-//! own places, then the types, then the placement (`plan_spreads`). The plan of a document that passes
-//! is the one that the document means. `specs/Trees.antt` says which tree of operators a plan is.
+//! own places, then the types, then the placement (`plan_spreads`), then the paths of dynamic filters
+//! (`specs/Filters.antt`). The plan of a document that passes is the one that the document means.
+//! `specs/Trees.antt` says which tree of operators a plan is.
 //!
+//! - `filters`: what dynamic filters name
 //! - `judge`: the checks of a plan
 //! - `read`: `read_plan`
 //! - `copies`: copies of a plan's parts
@@ -11,6 +13,7 @@
 #![tactic(auto)]
 
 mod copies;
+mod filters;
 mod judge;
 mod read;
 mod trees;

@@ -62,8 +62,9 @@ fn inner(
     Ok(Box::new(alloc, node_tree(alloc, fragments, most, node)?)?)
 }
 
+/// The tree of a node.
 #[cycle(trees)]
-fn node_tree(
+pub fn node_tree(
     alloc: Global,
     fragments: &[Fragment],
     most: usize,

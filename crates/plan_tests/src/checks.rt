@@ -1,7 +1,7 @@
 mod cases;
 
 use crate::lines::{Case, case_of, is_fault, unquoted};
-use cases::{CASES, DYNAMIC, FILTERED, LINKS, LISTS, MORE, NAMES, ROOTS, SCAN, SMALL, WHOLE};
+use cases::{CASES, FILTERED, LINKS, LISTS, MORE, NAMES, ROOTS, SCAN, SMALL, WHOLE};
 use plan_checks::{documents_are_one, read_document};
 use std::alloc::Global;
 use std::test::Fail;
@@ -175,14 +175,7 @@ fn limits_names(rt: HostRuntime) -> Result<(), Fail> {
 #[test]
 fn a_name_may_have_128_bytes(rt: HostRuntime) -> Result<(), Fail> {
     let longest = name_of(rt.alloc(), 128)?;
-    assert!(rt;
-        is_told_with(
-            rt.alloc(),
-            "'x'",
-            longest.as_str(),
-            "10 /fragments/1/root/input/filters"
-        )?
-    );
+    assert!(rt; is_told_with(rt.alloc(), "'x'", longest.as_str(), "0")?);
     Ok(())
 }
 
@@ -213,7 +206,7 @@ fn untold_root(alloc: Global, lines: &'static str) -> Result<&'static str, Fail>
 }
 
 #[test]
-fn knows_what_is_built(rt: HostRuntime) -> Result<(), Fail> {
+fn judges_each_root(rt: HostRuntime) -> Result<(), Fail> {
     assert_eq!(rt; untold_root(rt.alloc(), ROOTS)?, "");
     documents_are_one(b"{}");
     Ok(())
@@ -329,30 +322,8 @@ fn limits_the_nodes_of_all_fragments(rt: HostRuntime) -> Result<(), Fail> {
     Ok(())
 }
 
-/// Whether the line tells what is told of the document without its dynamic filter.
-fn is_link(alloc: Global, line: &str) -> Result<bool, Fail> {
-    match case_of(line) {
-        Some(case) => {
-            let document = WHOLE.replace(alloc, DYNAMIC, "")?;
-            let document = document.replace(alloc, case.from, case.to)?;
-            is_told(alloc, document.as_str(), case.told)
-        }
-        None => Ok(line.starts_with('#')),
-    }
-}
-
-/// The first line that does not tell what is told without dynamic filters.
-fn untold_link(alloc: Global, lines: &'static str) -> Result<&'static str, Fail> {
-    for line in lines.lines() {
-        if !is_link(alloc, line)? {
-            return Ok(line);
-        }
-    }
-    Ok("")
-}
-
 #[test]
 fn joins_fragments_and_halves(rt: HostRuntime) -> Result<(), Fail> {
-    assert_eq!(rt; untold_link(rt.alloc(), LINKS)?, "");
+    assert_eq!(rt; untold(rt.alloc(), LINKS)?, "");
     Ok(())
 }

@@ -1,7 +1,9 @@
 mod cases;
+mod filters;
 
 use crate::lines::{case_of, is_fault, unquoted};
 use cases::{CASES, GROUPED, P1, P2, P3, ROOTS, SCAN, SEVERAL, SMALL, WHOLE};
+use filters::{ACROSS, ALONE, SOURCES, STEPS};
 use plan_docs::{Plan, read_plan_doc};
 use plan_reader::{Tree, read_plan, tree};
 use serde_json::Value;
@@ -101,6 +103,35 @@ fn untold_several(alloc: Global, lines: &'static str) -> Result<&'static str, Fa
 #[test]
 fn refuses_several_fragments_at_the_first_place(rt: HostRuntime) -> Result<(), Fail> {
     assert_eq!(rt; untold_several(rt.alloc(), SEVERAL)?, "");
+    Ok(())
+}
+
+/// Whether the line tells what is told of the document with its scan.
+fn is_step(alloc: Global, document: &str, line: &str) -> Result<bool, Fail> {
+    match case_of(line) {
+        Some(case) => {
+            let document = document.replace(alloc, case.from, case.to)?;
+            let document = document.replace(alloc, "SCAN", filters::SCAN)?;
+            is_told(alloc, document.as_str(), case.told)
+        }
+        None => Ok(line.starts_with('#')),
+    }
+}
+
+/// The first line that does not tell what is told of the document.
+fn untold_step(alloc: Global, document: &str, lines: &'static str) -> Result<&'static str, Fail> {
+    for line in lines.lines() {
+        if !is_step(alloc, document, line)? {
+            return Ok(line);
+        }
+    }
+    Ok("")
+}
+
+#[test]
+fn follows_dynamic_filters_to_their_scans(rt: HostRuntime) -> Result<(), Fail> {
+    assert_eq!(rt; untold_step(rt.alloc(), ALONE, STEPS)?, "");
+    assert_eq!(rt; untold_step(rt.alloc(), ACROSS, SOURCES)?, "");
     Ok(())
 }
 

@@ -56,6 +56,14 @@ any | {'version':1,'output':['k','n'],'tables':[$k],'fragments':[\
 {'id':2,'placement':'SOURCE','output':{'kind':'HASH','columns':[0]},'root':@t},\
 {'id':3,'placement':'SOURCE','output':{'kind':'BROADCAST'},'root':@u}]} \
 | k,x~1,a~1,b~2,c~3,d~;k,y~1,p~2,q~2,r~ | 0|k,n~1,2~2,2~|
+any | {'version':1,'output':['k','x','l','y'],'tables':[$k],'fragments':[\
+{'id':0,'placement':'SINGLE','root':{'id':1,'op':'remote','fragment':1}},\
+{'id':1,'placement':'HASH','output':{'kind':'SINGLE'},'root':{'id':2,'op':'join','kind':'INNER','on':[[0,0]],'left':\
+{'id':3,'op':'remote','fragment':2},'right':{'id':4,'op':'remote','fragment':3},\
+'filters':[{'id':1,'key':0,'scan':9,'column':0,'wait':true}]}},\
+{'id':2,'placement':'SOURCE','output':{'kind':'HASH','columns':[0]},'root':@t},\
+{'id':3,'placement':'SOURCE','output':{'kind':'HASH','columns':[0]},'root':@u}]} \
+| k,x~0,a~3,b~7,c~\\N,d~9,e~;k,y~3,p~7,q~3,r~ | 0|k,x,l,y~3,b,3,p~3,b,3,r~7,c,7,q~|
 sorted | {'version':1,'output':['n'],'tables':[$a],'fragments':[\
 {'id':0,'placement':'SINGLE','root':{'id':1,'op':'remote','fragment':1}},\
 {'id':1,'placement':'SINGLE','output':{'kind':'SINGLE'},'root':{'id':2,'op':'aggregate','step':'SINGLE','keys':[],\

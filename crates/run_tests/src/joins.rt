@@ -30,6 +30,21 @@ fn rows_are_joined(rt: HostRuntime) -> Result<(), Fail> {
     Ok(())
 }
 
+/// Joins with dynamic filters, by which a scan may leave out what has no partner, and joins whose filters are misdirected.
+const FILTERED: &str = "\
+$k | 'a','b','c','d' | {'id':1,'op':'join','kind':'INNER','on':[[0,0]],'left':@t,'right':@u,'filters':[{'id':1,'key':0,'scan':9,'column':0,'wait':true}]} | k,x~0,a~3,b~5,c~7,d~\\N,e~;k,y~3,p~7,q~3,r~\\N,s~ | 0|a,b,c,d~3,b,3,p~3,b,3,r~7,d,7,q~|\n\
+$k | 'a','b','c','d' | {'id':1,'op':'join','kind':'INNER','on':[[0,0]],'left':@t,'right':@u,'filters':[{'id':1,'key':0,'scan':9,'column':0,'wait':false}]} | k,x~0,a~3,b~5,c~7,d~\\N,e~;k,y~3,p~7,q~3,r~\\N,s~ | 0|a,b,c,d~3,b,3,p~3,b,3,r~7,d,7,q~|\n\
+$k | 'a','b','c','d' | {'id':1,'op':'join','kind':'INNER','on':[[0,0]],'left':@t,'right':@u,'filters':[{'id':1,'key':0,'scan':9,'column':0,'wait':true}]} | k,x~0,a~3,b~;k,y~ | 0|a,b,c,d~|\n\
+$k | 'a','b','c','d' | {'id':1,'op':'project','columns':[{'col':0},{'col':3},{'col':4},{'col':5}],'input':{'id':2,'op':'join','kind':'INNER','on':[[0,0],[1,1]],'left':{'id':3,'op':'join','kind':'INNER','on':[[0,0]],'left':@t,'right':@u,'filters':[{'id':9,'key':0,'scan':9,'column':0,'wait':true}]},'right':@v,'filters':[{'id':8,'key':1,'scan':9,'column':1,'wait':true},{'id':7,'key':0,'scan':9,'column':0,'wait':false}]}} | k,x~1,a~2,b~4,c~;k,y~2,p~1,q~2,r~3,s~ | 0|a,b,c,d~1,q,1,a~2,p,2,b~2,r,2,b~|\n\
+$k | 'a','b','c','d','e' | {'id':1,'op':'join','kind':'INNER','on':[[0,0]],'left':{'id':4,'op':'project','columns':[{'col':0},{'col':1},{'call':'/','args':[{'lit':'6','type':'bigint'},{'col':0}]}],'input':@t},'right':@u,'filters':[{'id':1,'key':0,'scan':9,'column':0,'wait':true}]} | k,x~3,a~;k,y~3,p~ | 4||trinorun: plan refused 9 at /fragments/0/root/filters/0~\n\
+$k | 'a','b','c','d' | {'id':1,'op':'join','kind':'LEFT','on':[[0,0]],'left':@t,'right':@u,'filters':[{'id':1,'key':0,'scan':9,'column':0,'wait':true}]} | k,x~3,a~;k,y~3,p~ | 4||trinorun: plan refused 9 at /fragments/0/root/filters/0~";
+
+#[test]
+fn dynamic_filters_change_no_row(rt: HostRuntime) -> Result<(), Fail> {
+    assert_eq!(rt; first_wrong(&rt, FILTERED)?, "");
+    Ok(())
+}
+
 /// A join whose right side is a join, under a join.
 const NESTED: &str = "\
 {'id':1,'op':'project','columns':[{'col':0},{'col':3},{'col':5},{'col':6}],'input':\

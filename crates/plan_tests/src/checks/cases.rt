@@ -1,5 +1,4 @@
-/// A document with every object of the grammar, written with `'` for the quotation mark. No check
-/// fails but that of what is built, for its dynamic filter.
+/// A document with every object of the grammar, written with `'` for the quotation mark. No check of its places fails.
 pub const WHOLE: &str = "{'version':1,'output':['x','y'],'tables':[\
     {'name':'t','columns':[{'name':'a','type':'bigint'},{'name':'b','type':'varchar'}]},\
     {'name':'u','columns':[{'name':'a','type':'date'}]}],\
@@ -30,7 +29,7 @@ pub const WHOLE: &str = "{'version':1,'output':['x','y'],'tables':[\
 /// A line for each case: a text of the document, what is put in its place, and the code and the
 /// path that are told then. A line that begins with `#` is a heading.
 pub const CASES: &str = "\
-'version':1, | 'version':1 , | 10 /fragments/1/root/input/filters\n\
+'version':1, | 'version':1 , | 0\n\
 'version':1, | 'version':01, | 1\n\
 'version':1, | 'version':1e999, | 1\n\
 # The document, its tables and columns.\n\
@@ -149,37 +148,37 @@ pub const CASES: &str = "\
 'args':[{'col':10}] | 'args':[10] | 2 /fragments/2/root/input/predicate/case/0/then/args/0\n\
 'else': | 'other': | 2 /fragments/2/root/input/predicate\n\
 # Limits of numbers, and an aggregate of nothing.\n\
-'id':15 | 'id':4294967295 | 10 /fragments/1/root/input/filters\n\
+'id':15 | 'id':4294967295 | 0\n\
 'id':15 | 'id':4294967296 | 3 /fragments/3/root/right/input/input/id\n\
-'count':12 | 'count':2147483647 | 10 /fragments/1/root/input/filters\n\
+'count':12 | 'count':2147483647 | 0\n\
 'count':12 | 'count':2147483648 | 3 /fragments/3/root/right/count\n\
-{'id':3,'placement' | {'id':2147483647,'placement' | 10 /fragments/1/root/input/filters\n\
+{'id':3,'placement' | {'id':2147483647,'placement' | 6 /fragments/3/id\n\
 {'id':3,'placement' | {'id':2147483648,'placement' | 3 /fragments/3/id\n\
 {'id':3,'placement' | {'id':18446744073709551615,'placement' | 3 /fragments/3/id\n\
-'fragment':2 | 'fragment':2147483647 | 10 /fragments/1/root/input/filters\n\
+'fragment':2 | 'fragment':2147483647 | 6 /fragments/1/root/input/left/fragment\n\
 'fragment':2 | 'fragment':2147483648 | 3 /fragments/1/root/input/left/fragment\n\
-'filters':[{'id':0 | 'filters':[{'id':4294967295 | 10 /fragments/1/root/input/filters\n\
+'filters':[{'id':0 | 'filters':[{'id':4294967295 | 0\n\
 'filters':[{'id':0 | 'filters':[{'id':4294967296 | 3 /fragments/1/root/input/filters/0/id\n\
 'scan':10 | 'scan':4294967296 | 3 /fragments/1/root/input/filters/0/scan\n\
-'scan':10 | 'scan':4294967295 | 10 /fragments/1/root/input/filters\n\
+'scan':10 | 'scan':4294967295 | 0\n\
 'key':4 | 'key':2147483648 | 3 /fragments/1/root/input/filters/0/key\n\
 'column':5 | 'column':2147483648 | 3 /fragments/1/root/input/filters/0/column\n\
 [2,3] | [2,2147483648] | 3 /fragments/1/root/input/on/0/1\n\
-[2,3] | [2,2147483647] | 10 /fragments/1/root/input/filters\n\
+[2,3] | [2,2147483647] | 0\n\
 [6] | [2147483648] | 3 /fragments/2/output/columns/0\n\
 [8] | [2147483648] | 3 /fragments/2/root/keys/0\n\
 'column':9 | 'column':2147483648 | 3 /fragments/2/root/calls/1/column\n\
 'column':13 | 'column':2147483648 | 3 /fragments/3/root/right/input/keys/0/column\n\
 'col':11 | 'col':2147483648 | 3 /fragments/2/root/input/input/columns/0/col\n\
-'col':11 | 'col':2147483647 | 10 /fragments/1/root/input/filters\n\
+'col':11 | 'col':2147483647 | 0\n\
 'keys':[8],'calls':[{'name':'count_all'},{'name':'sum','column':9}] | 'keys':[],'calls':[] | 3 /fragments/2/root/calls\n\
-'keys':[8] | 'keys':[] | 10 /fragments/1/root/input/filters\n\
-[{'name':'count_all'},{'name':'sum','column':9}] | [] | 10 /fragments/1/root/input/filters\n\
+'keys':[8] | 'keys':[] | 0\n\
+[{'name':'count_all'},{'name':'sum','column':9}] | [] | 0\n\
 # Names and ids.\n\
 'name':'u' | 'name':'t' | 4 /tables/1/name\n\
 'name':'b' | 'name':'a' | 4 /tables/0/columns/1/name\n\
 'type':'date' | 'type':'Date' | 4 /tables/1/columns/0/type\n\
-'type':'date' | 'type':'decimal(38,38)' | 10 /fragments/1/root/input/filters\n\
+'type':'date' | 'type':'decimal(38,38)' | 0\n\
 'type':'date' | 'type':'decimal(39,0)' | 4 /tables/1/columns/0/type\n\
 'type':'date' | 'type':'decimal(2,3)' | 4 /tables/1/columns/0/type\n\
 'type':'date' | 'type':'decimal(2, 1)' | 4 /tables/1/columns/0/type\n\
@@ -187,7 +186,7 @@ pub const CASES: &str = "\
 'type':'varchar'},'type' | 'type':'text'},'type' | 4 /fragments/2/root/input/predicate/else/cast/type\n\
 'bigint','date' | 'bigint','day' | 4 /fragments/3/root/left/types/1\n\
 'id':15 | 'id':1 | 4 /fragments/3/root/right/input/input/id\n\
-'filters':[{'id':0 | 'filters':[{'id':1 | 10 /fragments/1/root/input/filters\n\
+'filters':[{'id':0 | 'filters':[{'id':1 | 0\n\
 'table':'u' | 'table':'v' | 4 /fragments/3/root/right/input/input/table\n\
 'table':'u','columns':['a'] | 'table':'u','columns':['b'] | 4 /fragments/3/root/right/input/input/columns/0\n\
 'call':'not' | 'call':'nor' | 4 /fragments/2/root/input/predicate/case/0/then/call\n\
@@ -206,18 +205,18 @@ pub const CASES: &str = "\
 /// A line for each list of the document: the list, an entry for a list in its place, and then how
 /// many entries it may have, what is told at most, and what is told of a list that is too long.
 pub const LISTS: &str = "\
-['x','y'] | 'z' | 1..256, 10 /fragments/1/root/input/filters, 3 /output\n\
+['x','y'] | 'z' | 1..256, 0, 3 /output\n\
 [{'name':'a','type':'date'}] | {'name':'a','type':'date'} | 1..256, 4 /tables/1/columns/1/name, 3 /tables/1/columns\n\
-['a','b'] | 'a' | 1..256, 10 /fragments/1/root/input/filters, 3 /fragments/2/root/input/input/input/columns\n\
-[{'col':11}] | {'col':0} | 1..256, 10 /fragments/1/root/input/filters, 3 /fragments/2/root/input/input/columns\n\
-[[2,3]] | [0,0] | 1..16, 10 /fragments/1/root/input/filters, 3 /fragments/1/root/input/on\n\
-[6] | 0 | 1..16, 10 /fragments/1/root/input/filters, 3 /fragments/2/output/columns\n\
-[{'column':1,'order':'ASC'}] | {'column':0,'order':'DESC'} | 1..16, 10 /fragments/1/root/input/filters, 3 /fragments/1/root/keys\n\
-[{'column':13,'order':'DESC'}] | {'column':0,'order':'DESC'} | 1..16, 10 /fragments/1/root/input/filters, 3 /fragments/3/root/right/input/keys\n\
-[8] | 0 | 0..16, 10 /fragments/1/root/input/filters, 3 /fragments/2/root/keys\n\
-[{'name':'count_all'},{'name':'sum','column':9}] | {'name':'max','column':0} | 0..64, 10 /fragments/1/root/input/filters, 3 /fragments/2/root/calls\n\
-[{'when':{'null':'boolean'},'then':{'call':'not','args':[{'col':10}]}}] | {'when':{'col':0},'then':{'col':0}} | 1..64, 10 /fragments/1/root/input/filters, 3 /fragments/2/root/input/predicate/case\n\
-[['1',null],[null,'x']] | ['',null] | 0..10000, 10 /fragments/1/root/input/filters, 3 /fragments/3/root/left/rows\n\
+['a','b'] | 'a' | 1..256, 0, 3 /fragments/2/root/input/input/input/columns\n\
+[{'col':11}] | {'col':0} | 1..256, 0, 3 /fragments/2/root/input/input/columns\n\
+[[2,3]] | [0,0] | 1..16, 0, 3 /fragments/1/root/input/on\n\
+[6] | 0 | 1..16, 0, 3 /fragments/2/output/columns\n\
+[{'column':1,'order':'ASC'}] | {'column':0,'order':'DESC'} | 1..16, 0, 3 /fragments/1/root/keys\n\
+[{'column':13,'order':'DESC'}] | {'column':0,'order':'DESC'} | 1..16, 0, 3 /fragments/3/root/right/input/keys\n\
+[8] | 0 | 0..16, 0, 3 /fragments/2/root/keys\n\
+[{'name':'count_all'},{'name':'sum','column':9}] | {'name':'max','column':0} | 0..64, 0, 3 /fragments/2/root/calls\n\
+[{'when':{'null':'boolean'},'then':{'call':'not','args':[{'col':10}]}}] | {'when':{'col':0},'then':{'col':0}} | 1..64, 0, 3 /fragments/2/root/input/predicate/case\n\
+[['1',null],[null,'x']] | ['',null] | 0..10000, 0, 3 /fragments/3/root/left/rows\n\
 [{'id':0,'key':4,'scan':10,'column':5,'wait':false}] | {'id':0,'key':4,'scan':10,'column':5,'wait':false} | 0..16, 4 /fragments/1/root/input/filters/1/id, 3 /fragments/1/root/input/filters";
 
 /// Lines as in `CASES`: each leaves out a name.
@@ -262,18 +261,15 @@ ROOT | {'id':2,'op':'aggregate','step':'PARTIAL','keys':[0],'calls':[],'input':S
 ROOT | {'id':2,'op':'aggregate','step':'FINAL','input':{'id':3,'op':'remote','fragment':9}} | 6 /fragments/0/root/input/fragment\n\
 ROOT | {'id':2,'op':'join','kind':'INNER','on':[[0,0]],'left':SCAN,'right':{'id':3,'op':'scan','table':'t','columns':['a']}} | 0\n\
 ROOT | {'id':2,'op':'join','kind':'LEFT','on':[[0,0]],'left':SCAN,'right':{'id':3,'op':'scan','table':'t','columns':['a']},'filters':[]} | 0\n\
-ROOT | {'id':2,'op':'join','kind':'INNER','on':[[0,0]],'left':SCAN,'right':{'id':3,'op':'scan','table':'t','columns':['a']},'filters':[{'id':0,'key':0,'scan':1,'column':0,'wait':false}]} | 10 /fragments/0/root/filters\n\
-ROOT | {'id':2,'op':'join','kind':'INNER','on':[[0,0]],'left':SCAN,'right':{'id':3,'op':'remote','fragment':9},'filters':[{'id':0,'key':0,'scan':1,'column':0,'wait':false}]} | 10 /fragments/0/root/filters\n\
+ROOT | {'id':2,'op':'join','kind':'INNER','on':[[0,0]],'left':SCAN,'right':{'id':3,'op':'scan','table':'t','columns':['a']},'filters':[{'id':0,'key':0,'scan':1,'column':0,'wait':false}]} | 0\n\
+ROOT | {'id':2,'op':'join','kind':'INNER','on':[[0,0]],'left':SCAN,'right':{'id':3,'op':'remote','fragment':9},'filters':[{'id':0,'key':0,'scan':1,'column':0,'wait':false}]} | 6 /fragments/0/root/right/fragment\n\
 ROOT | {'id':2,'op':'join','kind':'INNER','on':[[0,0]],'left':{'id':3,'op':'union','left':SCAN,'right':{'id':4,'op':'scan','table':'t','columns':['a']}},'right':{'id':5,'op':'remote','fragment':9}} | 6 /fragments/0/root/right/fragment\n\
 ROOT | {'id':2,'op':'union','left':SCAN,'right':{'id':3,'op':'scan','table':'t','columns':['a']}} | 0\n\
 ROOT | {'id':2,'op':'filter','predicate':{'col':0},'input':{'id':3,'op':'remote','fragment':9}} | 6 /fragments/0/root/input/fragment\n\
 ROOT | {'id':2,'op':'scan','table':'z','columns':['a']} | 4 /fragments/0/root/table\n\
 ROOT | {'id':2,'op':'limit','step':'SINGLE','count':2147483648,'input':SCAN} | 3 /fragments/0/root/count";
 
-/// The dynamic filter of the document.
-pub const DYNAMIC: &str = "{'id':0,'key':4,'scan':10,'column':5,'wait':false}";
-
-/// Lines as in `CASES`, of the document without its dynamic filter.
+/// Lines as in `CASES`, on what fragments and halves have to do with one another.
 pub const LINKS: &str = "\
 'version':1, | 'version':1, | 0\n\
 # Code 6: ids of fragments, and what sources read.\n\

@@ -126,7 +126,8 @@ SCAN | 8 /fragments/0/placement\n\
 {'id':1,'op':'project','columns':[{'col':1}],'input':{'id':2,'op':'join','kind':'LEFT','on':[[0,0]],'left':SCAN,'right':{'id':8,'op':'scan','table':'t','columns':['a']},'filters':[]}} | 8 /fragments/0/placement\n\
 {'id':1,'op':'join','kind':'INNER','on':[[0,0]],'left':SCAN,'right':{'id':8,'op':'scan','table':'t','columns':['a']}} | 5 /output\n\
 {'id':1,'op':'join','kind':'INNER','on':[[0,0],[0,1]],'left':SCAN,'right':{'id':8,'op':'scan','table':'t','columns':['a']}} | 5 /fragments/0/root/on/1\n\
-{'id':1,'op':'join','kind':'INNER','on':[[0,1]],'left':SCAN,'right':{'id':8,'op':'scan','table':'t','columns':['a']},'filters':[{'id':0,'key':7,'scan':9,'column':0,'wait':true}]} | 10 /fragments/0/root/filters\n\
+{'id':1,'op':'join','kind':'INNER','on':[[0,1]],'left':SCAN,'right':{'id':8,'op':'scan','table':'t','columns':['a']},'filters':[{'id':0,'key':7,'scan':9,'column':0,'wait':true}]} | 5 /fragments/0/root/on/0\n\
+{'id':1,'op':'project','columns':[{'col':0}],'input':{'id':2,'op':'join','kind':'LEFT','on':[[0,0]],'left':SCAN,'right':{'id':8,'op':'scan','table':'t','columns':['a']},'filters':[{'id':0,'key':7,'scan':9,'column':0,'wait':true}]}} | 8 /fragments/0/placement\n\
 {'id':1,'op':'project','columns':[{'col':9}],'input':{'id':2,'op':'union','left':SCAN,'right':{'id':3,'op':'remote','fragment':0}}} | 6 /fragments/0/root/input/right/fragment\n\
 {'id':1,'op':'union','left':SCAN,'right':{'id':3,'op':'values','types':['date'],'rows':[]}} | 5 /fragments/0/root\n\
 {'id':1,'op':'union','left':SCAN,'right':{'id':3,'op':'scan','table':'t','columns':['a']}} | 8 /fragments/0/placement";

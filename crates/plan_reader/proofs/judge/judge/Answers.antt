@@ -1,0 +1,1 @@
+use Rattle.plan_reader.proofs.judge.judge.Goals as goal

@@ -1,0 +1,1 @@
+use Rattle.plan_reader.proofs.judge.pass_paths.Goals as goal

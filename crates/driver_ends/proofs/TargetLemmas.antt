@@ -1,13 +1,14 @@
 -- Outlets one by one, and what each has of the rows.
 use Rattle.std.proofs.Common.{◌≡◌, ◌≢◌, ℕ, zero, suc, ◌+◌, ◌-◌, ◌<◌, ◌≤◌, List, [], ◌∷◌, ◌++◌, Bool, true, false, cond, length, get_or, set, map, refl, sym, ap, ◌∙◌, subst, arith}
-use Rattle.std.specs.Prelude.{All, filter, nat_eq, replicate}
+use Rattle.std.specs.Prelude.{All, filter, nat_eq, replicate, ◌==◌}
 use Rattle.std.specs.List.{range_with_len}
 use Rattle.std.proofs.Math.ListN.{get_or-map}
 use Rattle.std.proofs.lemmas.List.{get_or-map as get_or-map-within}
 use Rattle.std.proofs.lemmas.List.{append-nil, get_or-replicate, get_or-set_other, length-map, length-replicate, map-append, map-set, replicate_more}
 use Rattle.std.proofs.lemmas.List.Elements.{All-map, All-nil, All-tail, filter-append}
 use Rattle.std.proofs.lemmas.List.FromFn.{get_or-map-range_with_len, length-map-range_with_len, length-range_with_len}
-use Rattle.std.proofs.lemmas.Bool.{true≢false}
+use Rattle.std.proofs.lemmas.Bool.{cond-true, eq-eqb, true≢false}
+use Rattle.std.proofs.Math.Nat.{mod-one}
 use Rattle.std.proofs.lemmas.List.Sums.{sum_by-set, get_or-le-sum_by}
 use Rattle.sql_values.specs.declared.value.Value.{Value}
 use Rattle.col_pages.specs.Pages.{TypedPage}
@@ -134,6 +135,18 @@ pub parts_sent : (by : Partition) (n : ℕ) (page : TypedPage) (pages : List Typ
 parts_sent by n page pages fits is =
     ap (map (λ (p : TypedPage). p.rows)) is ∙ map_twice (λ (p : TypedPage). p.rows) (part_of by page) (range_with_len 0 by.parts)
     ∙ ap (λ m. map (λ k. of_bucket (key_bucket by.parts by.columns) k page.rows) (range_with_len 0 m)) (sym fits)
+
+-- all rows are of the only bucket
+all_of_one : (columns : List ℕ) (rows : List (List Value)) → of_bucket (key_bucket 1 columns) 0 rows ≡ rows
+all_of_one columns [] = refl
+all_of_one columns (row ∷ rows) =
+    let first : (key_bucket 1 columns row == 0) ≡ true = eq-eqb _ 0 (mod-one _) in
+    cond-true (key_bucket 1 columns row == 0) (row ∷ of_bucket (key_bucket 1 columns) 0 rows) _ first ∙ ap (λ left. row ∷ left) (all_of_one columns rows)
+
+pub only_sent : (by : Partition) (page : TypedPage) (pages : List TypedPage) → by.parts ≡ 1 → pages ≡ replicate 1 page →
+    map (λ (p : TypedPage). p.rows) pages ≡ sent_to (Hash by) 1 page.rows
+only_sent by page pages one is =
+    ap (map (λ (p : TypedPage). p.rows)) is ∙ ap (λ rows. rows ∷ []) (sym (ap (λ n. of_bucket (key_bucket n by.columns) 0 page.rows) one ∙ all_of_one by.columns page.rows))
 
 pub copies_sent : (n : ℕ) (page : TypedPage) (pages : List TypedPage) → pages ≡ replicate n page → map (λ (p : TypedPage). p.rows) pages ≡ replicate n page.rows
 copies_sent n page pages is = ap (map (λ (p : TypedPage). p.rows)) is ∙ map_replicate (λ (p : TypedPage). p.rows) n page

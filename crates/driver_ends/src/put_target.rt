@@ -4,6 +4,7 @@ ghost use Rattle.sql_values.specs.declared.value.Value.{Value};
 ghost use Rattle.std.specs.Prelude.{List};
 ghost use Rattle.std.specs.Vec.{vec_capacity};
 ghost use Rattle.output_buffer.specs.Edges.{end_count};
+ghost use Rattle.driver_ends.specs.declared.put_target.PutKind.TheVariants.{Hash};
 ghost use Rattle.driver_ends.specs.Ends.{put_finished, put_wants};
 ghost use Rattle.driver_ends.specs.Outlets.{IsClear, IsThrough, OutletInOrder, outlet_kept, new_outlet, rows_sent};
 ghost use Rattle.driver_ends.specs.Targets.{AreThrough, FitsKind, HasSent, HasStuckOutlet, HavePutAll, HavePutFirst, HaveTried, IsFinished, KeepsTarget, Wants, add_each, dues, dues_of, earlier, fulls_of, sent_to};
@@ -267,8 +268,24 @@ fn pages_for(alloc: Global, kind: &PutKind, outlets: usize, page: Page) -> Resul
 {
     match kind {
         PutKind::One | PutKind::Each => copies_of(alloc, page, outlets),
-        PutKind::Hash(partitioner) => partitioner.split(alloc, &page),
+        PutKind::Hash(partitioner) => parts_of(alloc, partitioner, outlets, page),
     }
+}
+
+/// The page's rows by their buckets; the only one of one outlet has them all.
+fn parts_of(
+    alloc: Global,
+    partitioner: &Partitioner,
+    outlets: usize,
+    page: Page,
+) -> Result<Vec<Page>, Memory>
+    requires { outlets ≡ partitioner.now.parts }
+    ensures { IfOk result (λ pages. map (λ p. p.rows) pages.items ≡ sent_to (Hash partitioner.now) outlets page.rows) }
+{
+    if outlets == 1 {
+        return copies_of(alloc, page, outlets);
+    }
+    partitioner.split(alloc, &page)
 }
 
 /// The page so many times; the last is the page itself.

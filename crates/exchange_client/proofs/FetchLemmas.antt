@@ -5,7 +5,7 @@ use Rattle.std.proofs.lemmas.List.Elements.{All-weaker, All-push, All-drop}
 use Rattle.std.proofs.lemmas.Bool.{and_parts, or_cases, eqb-true}
 use Rattle.col_pages.specs.Pages.{TypedPage}
 use Rattle.page_window.specs.Windows.{WindowState, end_of, from_token, pushed, acknowledged}
-use Rattle.exchange_client.specs.Clients.{ClientState, KeptValue, next_of, accepted}
+use Rattle.exchange_client.specs.Clients.{ClientState, KeptValue, accepted, given_away}
 use Rattle.exchange_client.specs.Fetches.{FetchState, rest, MayArrive, KeepsTokens, fresh_of}
 
 module _ (w : WindowState) (next : ℕ) (low : w.base ≤ next) (high : next ≤ end_of w) where
@@ -30,6 +30,7 @@ rest_at_end w next same = drop_all (next - w.base) w.held (omega (arith, same))
 pub arrives_alike : (w v : WindowState) (next : ℕ) (r : KeptValue) → (w.is_ended ≡ true → v.is_ended ≡ true) → end_of v ≡ end_of w → from_token v next ≡ from_token w next → MayArrive w next r → MayArrive v next r
 arrives_alike w v next r going same_end same_rest may = record {
   past = may.past;
+  whole = may.whole;
   first = λ at. let (more, split) = may.first at in (more, same_rest ∙ split);
   ended = λ done. let e = may.ended done in (going e.0, e.1 ∙ sym same_end);
 }
@@ -44,6 +45,7 @@ module _ (w : WindowState) (c : ClientState) (most : ℕ) (kept : List KeptValue
     complete = λ done. let e = (keeps.complete done).0 in absurd (still e);
     arrives = All-weaker (MayArrive w c.next) (MayArrive (pushed w page) c.next) (λ r may. record {
       past = may.past;
+      whole = may.whole;
       first = λ at. let (more, split) = may.first at in
           (more ++ page ∷ [], rest_pushed w c.next keeps.low keeps.high page ∙ ap (λ ys. ys ++ page ∷ []) split ∙ append_assoc r.pages more (page ∷ []));
       ended = λ done. absurd (still (may.ended done).0);
@@ -72,38 +74,54 @@ module _ (w : WindowState) (c : ClientState) (most : ℕ) (kept : List KeptValue
     within = let (more, split) = may.first at in omega (arith, rest_length w c.next keeps.low keeps.high, ap length split, length-append r.pages more)
 
     -- what is left once the reply is accepted
-    pub rest_accepted : from_token w c.next ≡ r.pages ++ from_token w (next_of r)
+    pub rest_accepted : from_token w c.next ≡ r.pages ++ from_token w r.next
     rest_accepted =
         let (more, split) = may.first at in
-        let here : next_of r - w.base ≡ (c.next - w.base) + length r.pages = omega (arith, at, keeps.low) in
-        let left : from_token w (next_of r) ≡ more =
+        let here : r.next - w.base ≡ (c.next - w.base) + length r.pages = omega (arith, at, may.whole at, keeps.low) in
+        let left : from_token w r.next ≡ more =
         ap (λ n. drop n w.held) here ∙ sym (drop-drop (length r.pages) (c.next - w.base) w.held) ∙ ap (drop (length r.pages)) split ∙ drop_at r.pages more (length r.pages) refl in
         split ∙ ap (λ ys. r.pages ++ ys) (sym left)
 
     pub keeps_accepted : KeepsTokens w (accepted c r) most kept
     keeps_accepted = record {
       some = keeps.some;
-      low = omega (arith, at, keeps.low);
-      high = omega (arith, at, within);
+      low = omega (arith, at, may.whole at, keeps.low);
+      high = omega (arith, at, may.whole at, within);
       complete = λ done. ended (or_cases c.is_complete r.is_complete done);
-      arrives = All-weaker (MayArrive w c.next) (MayArrive w (next_of r)) (λ s one. record {
-        past = omega (arith, at, one.past);
+      arrives = All-weaker (MayArrive w c.next) (MayArrive w r.next) (λ s one. record {
+        past = omega (arith, at, may.whole at, one.past);
+        whole = λ on. one.whole (omega (arith, at, may.whole at, one.past, on));
         first = λ on.
-            let still : next_of r ≡ c.next = omega (arith, at, one.past, on) in
+            let still : r.next ≡ c.next = omega (arith, at, may.whole at, one.past, on) in
             let (more, split) = one.first (on ∙ still) in
             (more, ap (from_token w) still ∙ split);
         ended = one.ended;
       }) kept keeps.arrives;
     }
       where
-        ended : (c.is_complete ≡ true) ⊎ (r.is_complete ≡ true) → (w.is_ended ≡ true) × (next_of r ≡ end_of w)
-        ended (inl whole) = let e = keeps.complete whole in (e.0, omega (arith, at, within, e.1))
+        ended : (c.is_complete ≡ true) ⊎ (r.is_complete ≡ true) → (w.is_ended ≡ true) × (r.next ≡ end_of w)
+        ended (inl whole) = let e = keeps.complete whole in (e.0, omega (arith, at, may.whole at, within, e.1))
         ended (inr whole) = may.ended whole
+
+    -- the reply may arrive again without its pages, since the client is behind them
+    given_arrives : MayArrive w r.next (given_away r)
+    given_arrives = record {
+      past = omega (arith, may.whole at);
+      whole = λ on. omega (arith, on);
+      first = λ _. (from_token w r.next, refl);
+      ended = may.ended;
+    }
+
+-- the latest of what is kept and a reply whose pages are given
+pub keeps_given : (w : WindowState) (c : ClientState) (most : ℕ) (kept : List KeptValue) (r : KeptValue) (n : ℕ) → KeepsTokens w c most kept → r.token ≡ c.next → MayArrive w c.next r → KeepsTokens w (accepted c r) most (drop n (kept ++ given_away r ∷ []))
+keeps_given w c most kept r n keeps at may =
+    keeps_latest w (accepted c r) most kept (keeps_accepted w c most kept keeps r at may) (given_away r) n (given_arrives w c most kept keeps r at may)
 
 -- the fresh reply may arrive
 pub fresh_arrives : (f : FetchState) → KeepsTokens f.window f.client f.most f.kept → MayArrive f.window f.client.next (fresh_of f)
 fresh_arrives f keeps = record {
   past = omega arith;
+  whole = λ _. refl;
   first = λ _. (drop f.most (rest f), sym (take-append-drop f.most (rest f)));
   ended = λ done.
       let both = and_parts f.window.is_ended (f.client.next + length (take f.most (rest f)) == end_of f.window) done in

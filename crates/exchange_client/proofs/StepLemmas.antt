@@ -1,5 +1,5 @@
 -- A step of a fetch: what arrives, and what it gives.
-use Rattle.std.proofs.Common.{zero, suc, ◌≡◌, ◌⊎◌, ℕ, ◌+◌, ◌<◌, List, [], ◌∷◌, ◌++◌, length, take, All, Bool, true, false, not, ◌&&◌, ◌==◌, Option, Some, None, option_map, IfSome, slice_get, arith, ap, sym, ◌∙◌, refl, subst, inl, inr}
+use Rattle.std.proofs.Common.{zero, suc, ◌≡◌, ◌⊎◌, ℕ, ◌+◌, ◌<◌, List, [], ◌∷◌, ◌++◌, length, take, All, Bool, true, false, not, ◌&&◌, Result, Ok, Err, IfOk, OnOk, ◌==◌, Option, Some, None, option_map, IfSome, slice_get, if◌then◌else◌, arith, ap, sym, ◌∙◌, refl, subst, inl, inr}
 use Rattle.std.proofs.lemmas.List.{append_assoc, nil_from_length, length-take}
 use Rattle.std.proofs.lemmas.List.Elements.{All-head, All-tail}
 use Rattle.std.proofs.lemmas.Bool.{and_parts, and_from, eq-eqb, eqb-true, cond-true, leb-false, not-true, or_right, false_from_ne_true}
@@ -9,15 +9,35 @@ use Rattle.page_window.specs.declared.reply.Reply.{Reply}
 use Rattle.run_ports.specs.Counts.{Rose}
 use Rattle.run_ports.specs.declared.courier.Delivery.{Delivery}
 use Rattle.run_ports.specs.declared.courier.Delivery.TheVariants.{Fresh, Again, Nothing}
-use Rattle.exchange_client.specs.Clients.{ClientState, KeptValue, kept_as, pages_given, client_after}
+use Rattle.exchange_client.specs.Clients.{ClientState, KeptValue, kept_as, accepted, pages_given, client_after, unless_stale}
 use Rattle.exchange_client.specs.Fetches.{FetchState, rest, Carries, KeepsTokens, fresh_of, is_used_up, last_token, KeepsRest, GivesWhatIsLeft}
-use Rattle.exchange_client.specs.Steps.{arriving, IsDelivered, HasArrived, HasMissed, is_due, taken, most_fruitless}
+use Rattle.exchange_client.specs.Steps.{arriving, IsDelivered, HasArrived, HasStepped, HasMissed, is_due, delivered, taken, most_fruitless}
 use Rattle.exchange_client.proofs.FetchLemmas.{rest_length, rest_at_end}
 
 -- a page that was given is no longer to be given
 pub carries_on : (old new : FetchState) (pages : List TypedPage) → rest old ≡ pages ++ rest new → (put given : List TypedPage) → Carries put given old → Carries put (given ++ pages) new
 carries_on old new pages step put given so_far =
     so_far ∙ ap (λ ys. given ++ ys) step ∙ sym (append_assoc given pages (rest new))
+
+-- what is stale gives nothing, and changes nothing
+pages_by : (b : Bool) (c : ClientState) (r : KeptValue) → (r.token == c.next) ≡ b → pages_given c (if b then Some r else None) ≡ (if b then r.pages else [])
+pages_by true c r is = ap (λ (b : Bool). if b then r.pages else []) is
+pages_by false c r is = refl
+
+pub pages_unless_stale : (c : ClientState) (o : Option KeptValue) → pages_given c (unless_stale c o) ≡ pages_given c o
+pages_unless_stale c None = refl
+pages_unless_stale c (Some r) = pages_by (r.token == c.next) c r refl
+
+abbrev taken_with : FetchState → KeptValue → Bool → FetchState
+taken_with f r b = record f { client = if b then accepted f.client r else f.client; fruitless = if b then 0 else f.fruitless }
+
+taken_by : (b : Bool) (f : FetchState) (r : KeptValue) → (r.token == f.client.next) ≡ b → taken f (if b then Some r else None) ≡ taken_with f r b
+taken_by true f r is = ap (taken_with f r) is
+taken_by false f r is = refl
+
+pub taken_unless_stale : (f : FetchState) (o : Option KeptValue) → taken f (unless_stale f.client o) ≡ taken f o
+taken_unless_stale f None = refl
+taken_unless_stale f (Some r) = taken_by (r.token == f.client.next) f r refl
 
 -- where all tokens are used, nothing is left
 pub used_up_rest : (f : FetchState) → is_used_up f ≡ true → rest f ≡ []
@@ -71,41 +91,46 @@ pub complete_next : (c : ClientState) (o : Option KeptValue) (r : KeptValue) →
 complete_next c o r is at whole =
     ap (λ u. (client_after c u).is_complete) is ∙ ap (λ k. k.is_complete) (cond-true (r.token == c.next) _ c (eq-eqb _ _ at)) ∙ or_right c.is_complete r.is_complete whole
 
-module _ (old begun after new : FetchState) (due : Bool) (arrived : Option KeptValue) (pages : List TypedPage)
-    (same : KeepsRest old begun) (is : due ≡ is_due old) (h : HasArrived due begun arrived after)
-    (gives : GivesWhatIsLeft begun (fresh_of begun)) (given : pages ≡ pages_given after.client arrived)
-    (left : rest after ≡ pages ++ rest new) (end : new ≡ taken after arrived) where
-  rest_before : rest after ≡ rest old
-  rest_before = ap rest h.after ∙ same.pages
+module _ (old begun new : FetchState) (due : Bool) (pages : List TypedPage) (same : KeepsRest old begun) (is : due ≡ is_due old)
+    (gives : GivesWhatIsLeft begun (fresh_of begun)) (s : HasStepped due begun pages new) where
+  client_before : s.between.client ≡ begun.client
+  client_before = ap (λ f. f.client) s.arrives.after
 
-  pub stepped_rest : rest old ≡ pages ++ rest new
-  stepped_rest = sym rest_before ∙ left
-
-  pub stepped_ended : new.window.is_ended ≡ old.window.is_ended
-  stepped_ended = ap (λ f. f.window.is_ended) end ∙ ap (λ f. f.window.is_ended) h.after ∙ same.ended
-
-  client_before : after.client ≡ begun.client
-  client_before = ap (λ f. f.client) h.after
-
-  has_missed : (due ≡ false) × Rose begun.missed after.missed → HasMissed old new
+  has_missed : (due ≡ false) × Rose begun.missed s.between.missed → HasMissed old new
   has_missed (idle, rose) =
       let few : old.fruitless < most_fruitless = leb-false most_fruitless old.fruitless (sym is ∙ idle) in
-      (few, subst (λ m. Rose m new.missed) same.turns (subst (λ m. Rose begun.missed m) (sym (ap (λ f. f.missed) end)) rose))
+      (few, subst (λ m. Rose m new.missed) same.turns (subst (λ m. Rose begun.missed m) (sym (ap (λ f. f.missed) s.after)) rose))
 
   pub stepped_empty : pages ≡ [] → (rest old ≡ []) ⊎ HasMissed old new
-  stepped_empty none = by (fresh_or_missed due begun arrived after h)
+  stepped_empty none = by (fresh_or_missed due begun s.arrived s.between s.arrives)
     where
-      by : (arrived ≡ Some (fresh_of begun)) ⊎ ((due ≡ false) × Rose begun.missed after.missed) → (rest old ≡ []) ⊎ HasMissed old new
+      by : (s.arrived ≡ Some (fresh_of begun)) ⊎ ((due ≡ false) × Rose begun.missed s.between.missed) → (rest old ≡ []) ⊎ HasMissed old new
       by (inl fresh) =
-          let no_page : (fresh_of begun).pages ≡ [] = sym (given_next begun.client arrived (fresh_of begun) fresh refl) ∙ ap (λ c. pages_given c arrived) (sym client_before) ∙ sym given ∙ none in
+          let no_page : (fresh_of begun).pages ≡ [] = sym (given_next begun.client s.arrived (fresh_of begun) fresh refl) ∙ sym s.given ∙ none in
           inl (sym same.pages ∙ gives.empty no_page)
       by (inr missed) = inr (has_missed missed)
 
   pub stepped_complete : old.window.is_ended ≡ true → rest old ≡ [] → (new.client.is_complete ≡ true) ⊎ HasMissed old new
-  stepped_complete ended none = by (fresh_or_missed due begun arrived after h)
+  stepped_complete ended none = by (fresh_or_missed due begun s.arrived s.between s.arrives)
     where
-      by : (arrived ≡ Some (fresh_of begun)) ⊎ ((due ≡ false) × Rose begun.missed after.missed) → (new.client.is_complete ≡ true) ⊎ HasMissed old new
+      by : (s.arrived ≡ Some (fresh_of begun)) ⊎ ((due ≡ false) × Rose begun.missed s.between.missed) → (new.client.is_complete ≡ true) ⊎ HasMissed old new
       by (inl fresh) =
           let whole : (fresh_of begun).is_complete ≡ true = gives.whole (same.ended ∙ ended) (same.pages ∙ none) in
-          inl (ap (λ f. f.client.is_complete) end ∙ ap (λ c. (client_after c arrived).is_complete) client_before ∙ complete_next begun.client arrived (fresh_of begun) fresh refl whole)
+          inl (ap (λ f. f.client.is_complete) s.after ∙ ap (λ c. (client_after c s.arrived).is_complete) client_before ∙ complete_next begun.client s.arrived (fresh_of begun) fresh refl whole)
       by (inr missed) = inr (has_missed missed)
+
+-- a step is what a delivery lets arrive, and what is given of it
+pub steps_by : {E : Type 0} (due : Bool) (d : Delivery) (f : FetchState) (missed : ℕ) (answer : Result (List TypedPage) E) (new : FetchState) → IsDelivered due d f.missed missed → IfOk answer (λ pages. pages ≡ pages_given f.client (arriving d f.kept (fresh_of f))) → OnOk answer (new ≡ taken (delivered d f missed) (arriving d f.kept (fresh_of f))) → IfOk answer (λ pages. HasStepped due f pages new)
+steps_by due d f missed (Ok pages) new asked given after = record {
+  arrived = arriving d f.kept (fresh_of f);
+  between = delivered d f missed;
+  arrives = record { delivery = d; asked = asked; which = refl; after = refl };
+  given = given;
+  after = after;
+}
+steps_by due d f missed (Err e) new asked given after = tt
+
+-- what follows of each answer that is no fault
+pub on_ok : {A E : Type 0} (P : A → Type 0) (X : Type 0) (answer : Result A E) → ((x : A) → P x → X) → IfOk answer P → OnOk answer X
+on_ok P X (Ok x) follows holds = follows x holds
+on_ok P X (Err e) follows holds = tt

@@ -2,7 +2,7 @@
 use Rattle.std.specs.Prelude.{◌≡◌, ℕ, ◌+◌, ◌-◌, ◌^◌, ◌<◌, ◌≤◌, ◌++◌, ◌&&◌, ◌==◌, List, [], length, take, true, false, Bool, not, All, if◌then◌else◌}
 use Rattle.col_pages.specs.Pages.{TypedPage}
 use Rattle.page_window.specs.Windows.{WindowState, end_of, from_token, acknowledged}
-use Rattle.exchange_client.specs.Clients.{ClientState, KeptValue, next_of}
+use Rattle.exchange_client.specs.Clients.{ClientState, KeptValue}
 
 -- the window and the client; the latest replies, the oldest first; how many turns the courier missed; how many
 -- steps in a row had no reply accepted, counted up to 64; and how many pages a reply has at most
@@ -22,12 +22,13 @@ rest f = from_token f.window f.client.next
 abbrev pub Carries : List TypedPage → List TypedPage → FetchState → Type 0
 Carries put given f = put ≡ given ++ rest f
 
--- a reply that may arrive: it is not ahead of the client; where its token is the client's next, its pages are the
--- first of those still to be given; and a complete one ends where the window ends
+-- a reply that may arrive: it is not ahead of the client; where its token is the client's next, it has its pages, which
+-- are the first of those still to be given; and a complete one ends where the window ends
 pub record MayArrive (w : WindowState) (next : ℕ) (r : KeptValue) : Type 0 where
   pub past : r.token ≤ next
+  pub whole : r.token ≡ next → r.next ≡ r.token + length r.pages
   pub first : r.token ≡ next → (more : List TypedPage) × (from_token w next ≡ r.pages ++ more)
-  pub ended : r.is_complete ≡ true → (w.is_ended ≡ true) × (next_of r ≡ end_of w)
+  pub ended : r.is_complete ≡ true → (w.is_ended ≡ true) × (r.next ≡ end_of w)
 
 -- the client's next token is one that the window has, and what is kept may arrive
 pub record KeepsTokens (w : WindowState) (c : ClientState) (most : ℕ) (kept : List KeptValue) : Type 0 where
@@ -69,6 +70,7 @@ abbrev pub fresh_of : FetchState → KeptValue
 fresh_of f = record {
   token = f.client.next;
   pages = take f.most (rest f);
+  next = f.client.next + length (take f.most (rest f));
   is_complete = f.window.is_ended && f.client.next + length (take f.most (rest f)) == end_of f.window;
 }
 

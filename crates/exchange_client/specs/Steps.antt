@@ -5,7 +5,7 @@ use Rattle.run_ports.specs.Counts.{Rose}
 use Rattle.run_ports.specs.Delivering.{IfMissed}
 use Rattle.run_ports.specs.declared.courier.Delivery.{Delivery}
 use Rattle.run_ports.specs.declared.courier.Delivery.TheVariants.{Fresh, Again, Nothing}
-use Rattle.exchange_client.specs.Clients.{KeptValue, pages_given, client_after, is_next}
+use Rattle.exchange_client.specs.Clients.{KeptValue, given_away, pages_given, client_after, is_next}
 use Rattle.exchange_client.specs.Fetches.{FetchState, prepared, fresh_of}
 
 -- after so many steps in a row without an accepted reply the courier is not asked
@@ -44,9 +44,15 @@ pub record IsDelivered (due : Bool) (delivery : Delivery) (old new : ℕ) : Type
 abbrev pub begun : FetchState → FetchState
 begun f = record (prepared f) { fruitless = min (f.fruitless + 1) most_fruitless }
 
+-- a fresh reply as it is kept: without its pages where it is delivered at once, since the client then takes them
+abbrev pub kept_of : Delivery → KeptValue → KeptValue
+kept_of Fresh fresh = given_away fresh
+kept_of (Again k) fresh = fresh
+kept_of Nothing fresh = fresh
+
 -- a fetch that keeps the fresh reply, once so many turns were missed
-abbrev pub delivered : FetchState → ℕ → FetchState
-delivered f missed = record f { kept = latest (f.kept ++ fresh_of f ∷ []); missed = missed }
+abbrev pub delivered : Delivery → FetchState → ℕ → FetchState
+delivered d f missed = record f { kept = latest (f.kept ++ kept_of d (fresh_of f) ∷ []); missed = missed }
 
 -- a fetch once its client took what arrived
 abbrev pub taken : FetchState → Option KeptValue → FetchState
@@ -60,15 +66,16 @@ pub record HasArrived (due : Bool) (f : FetchState) (arrived : Option KeptValue)
   pub delivery : Delivery
   pub asked : IsDelivered due delivery f.missed new.missed
   pub which : arrived ≡ arriving delivery f.kept (fresh_of f)
-  pub after : new ≡ delivered f new.missed
+  pub after : new ≡ delivered delivery f new.missed
 
--- a step from a fetch that began it: what arrives, the pages that it gives, and the fetch afterwards
+-- a step from a fetch that began it: what arrives, the fetch that keeps the fresh reply, the pages that the step gives,
+-- and the fetch afterwards
 pub record HasStepped (due : Bool) (f : FetchState) (pages : List TypedPage) (new : FetchState) : Type 0 where
   pub arrived : Option KeptValue
-  pub missed : ℕ
-  pub arrives : HasArrived due f arrived (delivered f missed)
+  pub between : FetchState
+  pub arrives : HasArrived due f arrived between
   pub given : pages ≡ pages_given f.client arrived
-  pub after : new ≡ taken (delivered f missed) arrived
+  pub after : new ≡ taken between arrived
 
 -- a turn was missed, and not after too many fruitless steps
 abbrev pub HasMissed : FetchState → FetchState → Type 0

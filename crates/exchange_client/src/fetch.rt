@@ -1,9 +1,10 @@
 ghost use Rattle.std.specs.Prelude.{◌≡◌, ◌⊎◌, ◌↔◌, ◌<◌, ◌≤◌, ◌++◌, ◌∷◌, [], List, false, true, Some, option_map, IsTrue, IfOk, IfErr, OnOk, OnErr, IfSome};
 ghost use Rattle.col_pages.specs.Pages.{TypedPage};
 ghost use Rattle.page_window.specs.Windows.{pushed, acknowledged, end_of};
-ghost use Rattle.exchange_client.specs.Clients.{kept_as, pages_given};
+ghost use Rattle.exchange_client.specs.Clients.{kept_as, pages_given, unless_stale};
 ghost use Rattle.exchange_client.specs.Fetches.{Carries, HasRoom, MayArrive, rest, prepared, begun_anew, is_used_up, last_token, fresh_of, KeepsRest, GivesWhatIsLeft};
-ghost use Rattle.exchange_client.specs.Steps.{IsDelivered, HasArrived, HasStepped, HasMissed, is_due, begun, taken, arriving};
+ghost use Rattle.exchange_client.specs.Steps.{IsDelivered, HasStepped, HasMissed, is_due, begun, taken, arriving, behind_latest, delivered};
+ghost use Rattle.run_ports.specs.declared.courier.Delivery.TheVariants.{Fresh, Nothing};
 
 use crate::client::PageClient;
 use crate::kept_replies::KeptReplies;
@@ -145,8 +146,7 @@ impl<C: Courier> Fetch<C> {
         ensures same_rest { OnErr result (rest self.new ≡ rest self.old) }
     {
         let due = self.begin();
-        let arrived = self.deliver(due)?;
-        Ok(self.take_in(arrived))
+        self.deliver(due)
     }
 
     /// Begins a step, and says whether the fresh reply is due.
@@ -206,49 +206,113 @@ impl<C: Courier> Fetch<C> {
         };
     }
 
-    /// Makes the fresh reply, and lets arrive what the courier says.
-    fn deliver(&mut self, due: bool) -> Result<Option<Reply>, Memory>
-        ensures ok { IfOk result (λ arrived. HasArrived due self.old (option_map kept_as arrived) self.new) }
-        ensures may { IfOk result (λ arrived. IfSome arrived
-            (λ r. MayArrive self.old.window self.old.client.next (kept_as r))) }
+    /// Makes the fresh reply, lets arrive what the courier says, and gives the pages that the client accepts.
+    fn deliver(&mut self, due: bool) -> Result<PageList, Memory>
+        ensures step { IfOk result (λ pages. HasStepped due self.old pages self.new) }
+        ensures rest { IfOk result (λ pages. rest self.old ≡ pages ++ rest self.new) }
         ensures gives { GivesWhatIsLeft self.old (fresh_of self.old) }
+        ensures window { self.new.window ≡ self.old.window }
         ensures later { self.old.missed ≤ self.new.missed }
         ensures unasked { due ≡ true → self.new.missed ≡ self.old.missed }
         ensures err { OnErr result (self.new ≡ record self.old { missed = self.new.missed }) }
     {
         let fresh = self.fresh()?;
         let delivery = turn_of(&mut self.courier, due);
-        let arrived = self.arrival(delivery, &fresh)?;
-        self.kept.keep(fresh)?;
-        Ok(arrived)
+        self.give(delivery, fresh)
     }
 
     /// The reply to the client's next token.
-    fn fresh(&self) -> Result<KeptReply, Memory>
-        ensures fresh { IfOk result (λ fresh. fresh ≡ fresh_of self.now) }
-        ensures may { IfOk result (MayArrive self.now.window self.now.client.next) }
+    fn fresh(&self) -> Result<Reply, Memory>
+        ensures fresh { IfOk result (λ fresh. kept_as fresh ≡ fresh_of self.now) }
         ensures gives { GivesWhatIsLeft self.now (fresh_of self.now) }
     {
-        let next = self.client.next_token();
-        match self.window.fetch(next, self.most) {
-            Ok(reply) => KeptReply::of(self.alloc, reply),
+        match self.window.fetch(self.client.next_token(), self.most) {
+            Ok(reply) => Ok(reply),
             Err(FetchFault::Memory) => Err(Memory),
             Err(_) => unreachable!(),
         }
     }
 
-    /// A copy of what arrives.
-    fn arrival(&self, delivery: Delivery, fresh: &KeptReply) -> Result<Option<Reply>, Memory>
-        requires { MayArrive self.now.window self.now.client.next fresh.now }
-        ensures arriving { IfOk result (λ arrived. option_map kept_as arrived
-            ≡ arriving delivery self.now.kept fresh.now) }
-        ensures may { IfOk result (λ arrived. IfSome arrived
+    /// Keeps the fresh reply, and gives the pages of what arrives, where the client accepts it.
+    fn give(&mut self, delivery: Delivery, fresh: Reply) -> Result<PageList, Memory>
+        requires { kept_as fresh ≡ fresh_of self.old }
+        ensures pages { IfOk result (λ pages. pages
+            ≡ pages_given self.old.client (arriving delivery self.old.kept (fresh_of self.old))) }
+        ensures after { OnOk result (self.new ≡ taken (delivered delivery self.old self.old.missed)
+            (arriving delivery self.old.kept (fresh_of self.old))) }
+        ensures rest { IfOk result (λ pages. rest self.old ≡ pages ++ rest self.new) }
+        ensures err { OnErr result (self.new ≡ self.old) }
+        ensures window { self.new.window ≡ self.old.window }
+    {
+        match delivery {
+            Delivery::Fresh => self.give_fresh(fresh),
+            Delivery::Again(back) => {
+                let again = self.again(back)?;
+                self.give_kept(again, fresh)
+            }
+            Delivery::Nothing => self.give_kept(None, fresh),
+        }
+    }
+
+    /// Gives the pages of the fresh reply, which is kept without them.
+    fn give_fresh(&mut self, fresh: Reply) -> Result<PageList, Memory>
+        requires { kept_as fresh ≡ fresh_of self.old }
+        ensures pages { IfOk result (λ pages. pages ≡ pages_given self.old.client (Some (fresh_of self.old))) }
+        ensures after { OnOk result (self.new ≡ taken (delivered Fresh self.old self.old.missed)
+            (Some (fresh_of self.old))) }
+        ensures rest { IfOk result (λ pages. rest self.old ≡ pages ++ rest self.new) }
+        ensures err { OnErr result (self.new ≡ self.old) }
+        ensures window { self.new.window ≡ self.old.window }
+    {
+        self.kept.keep(KeptReply::given(self.alloc, &fresh))?;
+        let Ok(pages) = self.client.accept(fresh) else {
+            unreachable!()
+        };
+        self.fruitless = 0;
+        Ok(pages)
+    }
+
+    /// A copy of the reply so many places behind the latest, where the client accepts it.
+    fn again(&self, back: u32) -> Result<Option<Reply>, Memory>
+        ensures again { IfOk result (λ again. option_map kept_as again
+            ≡ unless_stale self.now.client (behind_latest back self.now.kept)) }
+        ensures may { IfOk result (λ again. IfSome again
             (λ r. MayArrive self.now.window self.now.client.next (kept_as r))) }
     {
-        match self.kept.arriving(delivery, fresh) {
-            Some(reply) => Ok(Some(reply.copy(self.alloc)?)),
-            None => Ok(None),
+        let Some(reply) = self.kept.behind_latest(back) else {
+            return Ok(None);
+        };
+        if reply.token() != self.client.next_token() {
+            return Ok(None);
         }
+        Ok(Some(reply.copy(self.alloc)?))
+    }
+
+    /// Keeps the fresh reply with its pages, and gives those of what arrives in its place.
+    fn give_kept(&mut self, arrived: Option<Reply>, fresh: Reply) -> Result<PageList, Memory>
+        requires fresh { kept_as fresh ≡ fresh_of self.old }
+        requires may { IfSome arrived (λ r. MayArrive self.old.window self.old.client.next (kept_as r)) }
+        ensures pages { IfOk result (λ pages. pages
+            ≡ pages_given self.old.client (option_map kept_as arrived)) }
+        ensures after { OnOk result (self.new ≡ taken (delivered Nothing self.old self.old.missed)
+            (option_map kept_as arrived)) }
+        ensures rest { IfOk result (λ pages. rest self.old ≡ pages ++ rest self.new) }
+        ensures err { OnErr result (self.new ≡ self.old) }
+        ensures window { self.new.window ≡ self.old.window }
+    {
+        self.keep(fresh)?;
+        Ok(self.take_in(arrived))
+    }
+
+    /// Keeps the fresh reply with its pages.
+    fn keep(&mut self, fresh: Reply) -> Result<(), Memory>
+        requires { kept_as fresh ≡ fresh_of self.old }
+        ensures ok { OnOk result (self.new ≡ delivered Nothing self.old self.old.missed) }
+        ensures err { OnErr result (self.new ≡ self.old) }
+    {
+        let kept = KeptReply::of(self.alloc, fresh)?;
+        self.kept.keep(kept)?;
+        Ok(())
     }
 
     /// Gives the pages of what arrived, where the client accepts it.

@@ -1,8 +1,7 @@
 ghost use Rattle.std.specs.Prelude.{◌≡◌, ◌++◌, ◌∷◌, [], None, Some, MatchOption, OnOk, OnErr};
-ghost use Rattle.exchange_client.specs.Steps.{arriving, behind_latest, latest};
+ghost use Rattle.exchange_client.specs.Steps.{behind_latest, latest};
 
 use crate::kept_reply::KeptReply;
-use run_ports::Delivery;
 use sql_values::Memory;
 use std::alloc::Global;
 use std::collections::VecDeque;
@@ -40,25 +39,8 @@ impl KeptReplies {
         }
     }
 
-    /// What a delivery lets arrive: the fresh reply, one of those kept, or none.
-    pub(crate) fn arriving<'a>(
-        &'a self,
-        delivery: Delivery,
-        fresh: &'a KeptReply,
-    ) -> Option<&'a KeptReply>
-        ensures { MatchOption result
-            (arriving delivery self.now fresh.now ≡ None)
-            (λ r. arriving delivery self.now fresh.now ≡ Some r.now) }
-    {
-        match delivery {
-            Delivery::Fresh => Some(fresh),
-            Delivery::Again(back) => self.behind_latest(back),
-            Delivery::Nothing => None,
-        }
-    }
-
     /// The reply so many places behind the latest, counted round.
-    fn behind_latest(&self, back: u32) -> Option<&KeptReply>
+    pub(crate) fn behind_latest(&self, back: u32) -> Option<&KeptReply>
         ensures { MatchOption result
             (behind_latest back self.now ≡ None)
             (λ r. behind_latest back self.now ≡ Some r.now) }

@@ -1,5 +1,5 @@
-ghost use Rattle.std.specs.Prelude.{◌≡◌, ◌++◌, ◌∷◌, [], IfOk, OnOk};
-ghost use Rattle.exchange_client.specs.Clients.{kept_as};
+ghost use Rattle.std.specs.Prelude.{◌≡◌, ◌+◌, ◌++◌, ◌∷◌, [], length, IfOk, OnOk};
+ghost use Rattle.exchange_client.specs.Clients.{kept_as, given_away};
 
 use col_pages::{Page, PageList};
 use page_window::Reply;
@@ -7,7 +7,7 @@ use sql_values::Memory;
 use std::alloc::Global;
 use std::marker::Model;
 
-/// A reply that may be delivered again.
+/// A reply that may be delivered again, with its pages unless the client took them.
 #[derive(Drop)]
 pub(crate) struct KeptReply {
     token: u64,
@@ -17,14 +17,11 @@ pub(crate) struct KeptReply {
 }
 
 impl Model for KeptReply {
-    ghost use Rattle.std.specs.Prelude.{◌≡◌, ◌+◌, length};
     ghost use Rattle.exchange_client.specs.Clients.{KeptValue};
 
     ghost Value = { KeptValue };
 
-    ghost view = { λ r. record { token = r.token; pages = r.pages.items; is_complete = r.complete } };
-
-    ghost invariant = { λ r. r.next ≡ r.token + length r.pages.items };
+    ghost view = { λ r. record { token = r.token; pages = r.pages.items; next = r.next; is_complete = r.complete } };
 }
 
 impl KeptReply {
@@ -47,8 +44,27 @@ impl KeptReply {
         })
     }
 
-    /// The reply once more.
+    /// Keeps a reply whose pages the client takes. Takes no memory.
+    pub(crate) fn given(alloc: Global, reply: &Reply) -> KeptReply
+        ensures { result ≡ given_away (kept_as reply.now) }
+    {
+        KeptReply {
+            token: reply.token,
+            pages: Vec::new(alloc),
+            next: reply.next,
+            complete: reply.complete,
+        }
+    }
+
+    pub(crate) fn token(&self) -> u64
+        ensures { result ≡ self.now.token }
+    {
+        self.token
+    }
+
+    /// The reply once more, which has its pages.
     pub(crate) fn copy(&self, alloc: Global) -> Result<Reply, Memory>
+        requires { self.now.next ≡ self.now.token + length self.now.pages }
         ensures { IfOk result (λ reply. kept_as reply ≡ self.now) }
     {
         Ok(Reply {

@@ -9,7 +9,8 @@
 //! reply the courier is not asked (`specs/Steps.antt`). All this holds for every courier.
 //!
 //! - `client`: `PageClient` and `Stale`
-//! - `kept_reply`, `kept_replies`: the latest replies, which the courier may deliver again
+//! - `kept_reply`, `kept_replies`: the latest replies, which the courier may deliver again; one whose pages the client
+//!   took is kept without them
 //! - `fetch`: `Fetch`
 #![tactic(auto)]
 

@@ -91,10 +91,10 @@ fn buckets_of(alloc: Global, hashes: &[u64], parts: u32) -> Result<Vec<u32>, Mem
     requires { 1 ≤ parts }
     ensures { IfOk result (λ v. v.items ≡ map (λ hash. hash % parts) hashes.now) }
 {
-    let mut buckets = Vec::with_capacity(alloc, hashes.len())?;
-    for hash in hashes {
-        buckets.push((*hash % u64::from(parts)) as u32)?;
-    }
+    let buckets = hashes
+        .iter()
+        .map(|hash| (*hash % u64::from(parts)) as u32)
+        .collect(alloc)?;
     Ok(buckets)
 }
 

@@ -271,12 +271,7 @@ where
 }
 
 /// Whether a run in this shape answers a case as it tells.
-pub(crate) fn answers<R, C>(
-    rt: &R,
-    courier: &C,
-    shape: &str,
-    case: &str,
-) -> Result<bool, Fail>
+pub(crate) fn answers<R, C>(rt: &R, courier: &C, shape: &str, case: &str) -> Result<bool, Fail>
 where
     R: Threads + Wait + Sync + RandomSource + AllocGlobal,
     C: Courier + Send,

@@ -1,20 +1,10 @@
-use Rattle.std.proofs.Common.{◌≡◌, ◌∙◌, map, sym, ap, subst, ⊎_elim}
+use Rattle.std.proofs.Common.{◌≡◌, ◌∙◌, map, sym, ap, ⊎_elim}
 use Rattle.std.proofs.lemmas.Result.{IfOk-weaker}
 use Rattle.col_pages.specs.Pages.{TypedPage}
-use Rattle.output_buffer.specs.Partitions.{parts_of}
 use Rattle.driver_ends.specs.declared.put_target.PutKind.TheVariants.{One, Each}
-use Rattle.driver_ends.specs.Targets.{FitsKind, sent_to}
-use Rattle.driver_ends.proofs.TargetLemmas.{copies_sent, parts_sent}
+use Rattle.driver_ends.specs.Targets.{sent_to}
+use Rattle.driver_ends.proofs.TargetLemmas.{copies_sent}
 use Rattle.driver_ends.proofs.put_target.pages_for.Goals as goal
-
-pub returns-in-Hash : goal.returns-in-Hash
-returns-in-Hash c =
-    let n = c.args.outlets in
-    let page = c.args.page in
-    let by = c.in-Hash.partitioner in
-    let fits = subst (λ k. FitsKind k n) c.in-Hash.is c.requires in
-    IfOk-weaker c.split.result (λ v. v.items ≡ parts_of by page) (λ v. map (λ (p : TypedPage). p.rows) v.items ≡ sent_to c.args.kind.now n page.rows)
-    (λ v is. parts_sent by n page v.items fits is ∙ sym (ap (λ k. sent_to k n page.rows) c.in-Hash.is)) c.split.ensures.pages
 
 pub returns-in-One : goal.returns-in-One
 returns-in-One c =

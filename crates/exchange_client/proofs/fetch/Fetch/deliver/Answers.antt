@@ -1,11 +1,9 @@
-use Rattle.std.proofs.Common.{◌-◌, ◌++◌, ◌∷◌, [], length, sym, subst}
-use Rattle.exchange_client.specs.Fetches.{MayArrive, KeepsTokens}
-use Rattle.exchange_client.proofs.FetchLemmas.{keeps_latest}
+use Rattle.std.proofs.Common.{IfOk, subst}
+use Rattle.exchange_client.specs.Steps.{HasStepped}
+use Rattle.exchange_client.proofs.StepLemmas.{steps_by}
 use Rattle.exchange_client.proofs.fetch.Fetch.deliver.Goals as goal
 
-pub invariant_of-self-2 : goal.invariant_of-self-2
-invariant_of-self-2 g c =
-    let f = c.self.inside in
-    let r = c.in_ok-fresh.fresh in
-    let may = subst (λ s. MayArrive s.window s.client.next r) (sym c.self.view_is) c.in_ok-fresh.ensures.may in
-    subst (λ kept. KeepsTokens f.window f.client f.most kept) (sym c.in_ok-keep.ensures.ok) (keeps_latest f.window f.client f.most f.kept c.self.invariant r (length (f.kept ++ r ∷ []) - 8) may)
+pub returns-clause-step : goal.returns-clause-step
+returns-clause-step g c =
+    subst (λ s. IfOk c.give.result (λ pages. HasStepped c.args.due s pages c.give.new.self)) c.self.view_is
+    (steps_by _ _ _ _ c.give.result c.give.new.self c.turn_of-delivery.ensures c.give.ensures.pages c.give.ensures.after)

@@ -1,1 +1,0 @@
-use Rattle.exchange_client.proofs.kept_replies.KeptReplies.arriving.Goals as goal

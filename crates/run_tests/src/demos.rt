@@ -9,17 +9,30 @@ use std::thread::Threads;
 /// Words of a demo under several shapes.
 const SHAPES: &str = "\
 --demo 0
---demo=0 --workers 1 --tasks 1
---workers 1 --tasks 3 --demo 0
+--demo 0 --workers 1 --tasks 1
+--demo=0 --workers=1 --tasks=1 --replay 5
+--workers 1 --tasks 1 --page 100 --demo 0
+--tasks=1 --demo 0 --page 100 --replay 5 --workers=1 --
+--demo 0 --workers 1 --tasks 3
+--demo=0 --workers=1 --tasks=3 --replay 5
+--workers 1 --tasks 3 --page 100 --demo 0
+--tasks=3 --demo 0 --page 100 --replay 5 --workers=1 --
 --demo 0 --workers 2 --tasks 1
+--demo=0 --workers=2 --tasks=1 --replay 5
+--workers 2 --tasks 1 --page 100 --demo 0
+--tasks=1 --demo 0 --page 100 --replay 5 --workers=2 --
 --demo 0 --workers 2 --tasks 3
---demo 0 --workers 8 --tasks 1 --replay 5
---demo 0 --workers 8 --tasks 3 --replay 5
---demo 0 --workers 1 --tasks 1 --page 100
---demo 0 --workers 2 --tasks 3 --page 100
---demo 0 --workers 8 --tasks 3 --page 100
---demo 0 --workers 1 --tasks 3 --page 100 --replay 5
---demo 0 --workers=8 --tasks=3 --page=100 --replay=5 --";
+--demo=0 --workers=2 --tasks=3 --replay 5
+--workers 2 --tasks 3 --page 100 --demo 0
+--tasks=3 --demo 0 --page 100 --replay 5 --workers=2 --
+--demo 0 --workers 8 --tasks 1
+--demo=0 --workers=8 --tasks=1 --replay 5
+--workers 8 --tasks 1 --page 100 --demo 0
+--tasks=1 --demo 0 --page 100 --replay 5 --workers=8 --
+--demo 0 --workers 8 --tasks 3
+--demo=0 --workers=8 --tasks=3 --replay 5
+--workers 8 --tasks 3 --page 100 --demo 0
+--tasks=3 --demo 0 --page 100 --replay 5 --workers=8 --";
 
 /// What each of them answers.
 const TOLD: &str = "0|region,orders,amount~\

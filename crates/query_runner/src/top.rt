@@ -46,6 +46,8 @@ where
     M: Meet + Sync,
     ensures bad_words { result ≡ Status.BadWords → job_of words.now ≡ None }
     ensures no_words { job_of words.now ≡ None → (result ≡ Status.BadWords) ⊎ (result ≡ Status.Memory) }
+    ensures no_words_do_nothing { job_of words.now ≡ None
+        → (files.new ≡ files.old) × (out.new ≡ out.old) }
     ensures answer { Answered (job_of words.now) (record {
       held = F.holds files.old;
       read_faults_before = F.faults files.old;

@@ -44,6 +44,7 @@ SCAN | {'id':5,'op':'project','columns':[{'col':1},{'col':2}],'input':{'id':6,'o
 # Joins: inner ones, and only with the column on their left side.\n\
 SCAN | {'id':5,'op':'join','kind':'INNER','on':[[0,0]],'left':SCAN,'right':{'id':6,'op':'scan','table':'t','columns':['a','b']}} | 0\n\
 SCAN | {'id':5,'op':'join','kind':'LEFT','on':[[0,0]],'left':SCAN,'right':{'id':6,'op':'scan','table':'t','columns':['a','b']}} | 9 /fragments/0/root/input/filters/0\n\
+'left':SCAN | 'left':{'id':5,'op':'join','kind':'INNER','on':[[0,0]],'left':{'id':4,'op':'scan','table':'t','columns':['a','b']},'right':{'id':6,'op':'scan','table':'t','columns':['a']}} | 0\n\
 'on':[[1,0]],'left':SCAN | 'on':[[2,0]],'left':{'id':5,'op':'join','kind':'INNER','on':[[0,0]],'left':{'id':6,'op':'scan','table':'t','columns':['a']},'right':SCAN} | 9 /fragments/0/root/input/filters/0\n\
 'on':[[1,0]],'left':SCAN | 'on':[[3,0]],'left':{'id':5,'op':'join','kind':'INNER','on':[[0,0]],'left':{'id':6,'op':'scan','table':'t','columns':['a','b']},'right':SCAN} | 9 /fragments/0/root/input/filters/0\n\
 # Nodes through which no way leads.\n\

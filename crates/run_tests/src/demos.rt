@@ -9,6 +9,7 @@ use std::thread::Threads;
 /// Words of a demo under several shapes.
 const SHAPES: &str = "\
 --demo 0
+--demo 0 --workers 4 --tasks 3 --page 100
 --demo 0 --workers 1 --tasks 1
 --demo=0 --workers=1 --tasks=1 --replay 5
 --workers 1 --tasks 1 --page 100 --demo 0

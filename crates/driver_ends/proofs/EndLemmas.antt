@@ -1,6 +1,6 @@
 -- What targets and sources tell a driver: their Bools, their looks, and the rows that a source handed on.
-use Rattle.std.proofs.Common.{◌≡◌, ℕ, zero, suc, ◌+◌, ◌<◌, List, [], ◌∷◌, Bool, true, false, Option, Some, None, Result, Ok, Err, cond, length, get_or, take, map, refl, sym, ap, ◌∙◌, arith, append-nil, ◌⊎◌, inl, inr}
-use Rattle.std.specs.Prelude.{All, IfOk, IfNone, IfSome, IsSome, MatchOption, not, ◌&&◌, ◌||◌, find, is_none, nat_eq, nat_lt, sum_by}
+use Rattle.std.proofs.Common.{◌≡◌, ℕ, zero, suc, ◌+◌, ◌<◌, List, [], ◌∷◌, Bool, true, false, Option, Some, None, Result, Ok, Err, cond, length, get_or, take, map, refl, sym, ap, ◌∙◌, ◌≤◌, arith, append-nil, subst, ◌⊎◌, inl, inr}
+use Rattle.std.specs.Prelude.{All, IfOk, IfNone, IfSome, IsOk, IsSome, MatchOption, OnOk, not, ◌&&◌, ◌||◌, find, is_none, nat_eq, nat_lt, sum_by}
 use Rattle.std.specs.Bool.{Decides}
 use Rattle.std.specs.List.{list_all}
 use Rattle.std.proofs.lemmas.Bool.{lt-ltb, true≢false}
@@ -17,7 +17,7 @@ use Rattle.stage_moves.specs.Looks.{HasWaited}
 use Rattle.driver_ends.specs.Ends.{count_of, first_waiting, is_clear, is_through, outlet_as_made, space_of, put_as_made, put_finished, put_looks, put_wants}
 use Rattle.driver_ends.specs.Outlets.{IsClear, IsStuck, IsThrough, OutletKept, OutletState, new_outlet, outlet_kept}
 use Rattle.driver_ends.specs.Sources.{HoldsLast}
-use Rattle.driver_ends.specs.Targets.{HasStuckOutlet, IsFinished, TargetState, Wants, dues_of, fulls_of}
+use Rattle.driver_ends.specs.Targets.{AreThrough, HasStuckOutlet, IsFinished, TargetState, Wants, dues_of, fulls_of, may_end}
 use Rattle.driver_ends.proofs.TargetLemmas.{same_by}
 
 -- ---- Bools
@@ -61,25 +61,36 @@ wants_decides t =
 
 pub finished_decides : (t : TargetState) → Decides (put_finished t) (IsFinished t)
 finished_decides t =
-    let d = and_decides t.is_told (list_all (is_through true) t.outlets) (λ e. e, λ e. e) (each_decides (is_through true) (IsThrough true) (through_decides true) t.outlets) in
-    (λ e. let f = d.0 e in record { told = f.0; through = f.1 }, λ f. d.1 (f.told, f.through))
+    let last = and_decides t.is_told (is_none t.waiting) (λ e. e, λ e. e) (none_decides t.waiting) in
+    let d = and_decides (may_end t) (list_all (is_through true) t.outlets) last (each_decides (is_through true) (IsThrough true) (through_decides true) t.outlets) in
+    (λ e. let f = d.0 e in record { told = f.0.0; none = f.0.1; through = f.1 }, λ f. d.1 ((f.told, f.none), f.through))
+
+-- where Ends may be put it is finished once all are put, and else it is not
+pub finished_where : (t : TargetState) (ends : Bool) → may_end t ≡ true → Decides ends (All (IsThrough true) t.outlets) → Decides ends (IsFinished t)
+finished_where t ends may d =
+    let last = (and_decides t.is_told (is_none t.waiting) (λ e. e, λ e. e) (none_decides t.waiting)).0 may in
+    (λ e. record { told = last.0; none = last.1; through = d.0 e }, λ f. d.1 f.through)
+
+pub finished_not : (t : TargetState) → may_end t ≡ false → Decides false (IsFinished t)
+finished_not t may =
+    let last = and_decides t.is_told (is_none t.waiting) (λ e. e, λ e. e) (none_decides t.waiting) in
+    (λ e. absurd (true≢false (sym e)), λ f. absurd (true≢false (sym (last.1 (f.told, f.none)) ∙ may)))
 
 -- ---- what a target tells
 
 -- a target is as it was made where its outlets are
-made_with : (old new : TargetState) → new ≡ record old { outlets = new.outlets } → map outlet_as_made new.outlets ≡ map outlet_as_made old.outlets → put_as_made new ≡ put_as_made old
-made_with old new rest each =
-    ap put_as_made rest ∙ ap (λ (outlets : List OutletState). record { kind = old.kind; outlets = outlets; is_told = false }) each
+made_with : (old new : TargetState) → new.kind ≡ old.kind → map outlet_as_made new.outlets ≡ map outlet_as_made old.outlets → put_as_made new ≡ put_as_made old
+made_with old new kind each = λ i. record { kind = kind i; outlets = each i; waiting = None; is_told = false }
 
-pub kept_made : (told : Bool) (old new : TargetState) → new ≡ record old { outlets = new.outlets } → map (outlet_kept told) new.outlets ≡ map (outlet_kept told) old.outlets →
+pub kept_made : (told : Bool) (old new : TargetState) → new.kind ≡ old.kind → map (outlet_kept told) new.outlets ≡ map (outlet_kept told) old.outlets →
     put_as_made new ≡ put_as_made old
-kept_made told old new rest kept =
-    made_with old new rest (same_by (λ (k : OutletKept). new_outlet (new_gather_put k.edge k.number)) (outlet_kept told) new.outlets old.outlets kept)
+kept_made told old new kind kept =
+    made_with old new kind (same_by (λ (k : OutletKept). new_outlet (new_gather_put k.edge k.number)) (outlet_kept told) new.outlets old.outlets kept)
 
-pub seats_made : (old new : TargetState) → new ≡ record old { outlets = new.outlets } → map (λ (l : OutletState). l.seat) new.outlets ≡ map (λ (l : OutletState). l.seat) old.outlets →
+pub seats_made : (old new : TargetState) → new.kind ≡ old.kind → map (λ (l : OutletState). l.seat) new.outlets ≡ map (λ (l : OutletState). l.seat) old.outlets →
     put_as_made new ≡ put_as_made old
-seats_made old new rest seats =
-    made_with old new rest (same_by (λ (s : GatherPutState). new_outlet (new_gather_put s.edge s.number)) (λ (l : OutletState). l.seat) new.outlets old.outlets seats)
+seats_made old new kind seats =
+    made_with old new kind (same_by (λ (s : GatherPutState). new_outlet (new_gather_put s.edge s.number)) (λ (l : OutletState). l.seat) new.outlets old.outlets seats)
 
 -- what a sum over the seats tells is the same where the seats are
 sum_of_seats : (f : GatherPutState → ℕ) (old new : List OutletState) → map (λ (l : OutletState). l.seat) new ≡ map (λ (l : OutletState). l.seat) old →
@@ -113,10 +124,10 @@ pub stuck_going : (told : Bool) (old new : OutletState) (on : BlockedOn) → IsS
 stuck_going told old new on stuck = going_at told new.held (end_count new.seat.put) stuck.left
 
 -- a target that is stuck looked in vain, with the count that it names
-pub stuck_waited : (old new : TargetState) (shown : ℕ → ℕ → Type 0) (on : BlockedOn) → HasStuckOutlet new.is_told old.outlets new.outlets on → shown on.bell on.seen →
+pub stuck_waited : (old new : TargetState) (shown : ℕ → ℕ → Type 0) (on : BlockedOn) → HasStuckOutlet (may_end new) old.outlets new.outlets on → shown on.bell on.seen →
     HasWaited (put_looks old) (put_looks new) shown on
 stuck_waited old new shown on s seen =
-    let told = new.is_told in
+    let told = may_end new in
     let going : is_through told (get_or new.outlets s.place s.after) ≡ false = ap (is_through told) (sym s.is) ∙ stuck_going told s.before s.after on s.stuck in
     let first : first_waiting new ≡ Some s.after = found_first told new.outlets s.place s.after s.there s.first going ∙ ap Some (sym s.is) in
     record {
@@ -127,7 +138,38 @@ stuck_waited old new shown on s seen =
       unrung = s.stuck.waits;
     }
 
+-- so it did where what it found full before does not count
+pub waited_later : (old mid new : TargetState) (shown : ℕ → ℕ → Type 0) (on : BlockedOn) → fulls_of old.outlets ≤ fulls_of mid.outlets →
+    HasWaited (put_looks mid) (put_looks new) shown on → HasWaited (put_looks old) (put_looks new) shown on
+waited_later old mid new shown on more waited = record {
+  looked = omega (arith, waited.looked, more);
+  bell = waited.bell;
+  seen = waited.seen;
+  handed = waited.handed;
+  unrung = waited.unrung;
+}
+
+-- ---- a target that is through
+
+-- one with no rows to spread is finished where it was told, and takes a page where it was not
+pub through_finished : (t : TargetState) → AreThrough t → t.waiting ≡ None → t.is_told ≡ true → put_finished t ≡ true
+through_finished t through none told =
+    let may : may_end t ≡ true = (λ i. told i && is_none (none i)) in
+    (finished_decides t).1 (record { told = told; none = none; through = subst (λ b. All (IsThrough b) t.outlets) may through })
+
+pub through_wants : (t : TargetState) → AreThrough t → t.is_told ≡ false → put_wants t ≡ true
+through_wants t through untold = (wants_decides t).1 (record { going = untold; clear = λ k d less. (through k d less).clear })
+
+-- what is not to be spread does not wait
+pub none_due : {X : Type 0} (due : Bool) (waiting : Option X) → due ≡ false → (IsSome waiting → due ≡ true) → waiting ≡ None
+none_due due None is last = refl
+none_due due (Some x) is last = absurd (true≢false (sym (last refl) ∙ is))
+
 -- ---- answers of a look
+
+pub where_ok : {X E P : Type 0} (r : Result X E) → OnOk r P → IsOk r → P
+where_ok (Ok x) holds ok = holds
+where_ok (Err e) holds ok = absurd (true≢false (sym ok))
 
 pub some_after : (P : Type 0) (Q W : BlockedOn → Type 0) (r : Result (Option BlockedOn) Memory) → IfOk r (λ o. MatchOption o P Q) → ((on : BlockedOn) → Q on → W on) → IfOk r (λ o. IfSome o W)
 some_after P Q W (Ok None) answer f = tt

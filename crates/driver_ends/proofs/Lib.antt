@@ -1,4 +1,5 @@
 mod EndLemmas
 mod FetchLemmas
+mod JoinLemmas
 mod TargetLemmas
 mod WaitLemmas

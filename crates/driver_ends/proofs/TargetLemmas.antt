@@ -1,10 +1,10 @@
 -- Outlets one by one, and what each has of the rows.
-use Rattle.std.proofs.Common.{◌≡◌, ◌≢◌, ℕ, zero, suc, ◌+◌, ◌-◌, ◌<◌, ◌≤◌, List, [], ◌∷◌, ◌++◌, Bool, true, false, cond, length, get_or, set, map, refl, sym, ap, ◌∙◌, subst, arith}
-use Rattle.std.specs.Prelude.{All, filter, nat_eq, replicate, ◌==◌}
+use Rattle.std.proofs.Common.{◌≡◌, ◌≢◌, ℕ, zero, suc, ◌+◌, ◌-◌, ◌<◌, ◌≤◌, List, [], ◌∷◌, ◌++◌, Bool, true, false, Option, Some, None, cond, length, get_or, set, map, refl, sym, ap, ◌∙◌, subst, arith}
+use Rattle.std.specs.Prelude.{◌&&◌, All, filter, is_none, nat_eq, replicate, ◌==◌}
 use Rattle.std.specs.List.{range_with_len}
 use Rattle.std.proofs.Math.ListN.{get_or-map}
 use Rattle.std.proofs.lemmas.List.{get_or-map as get_or-map-within}
-use Rattle.std.proofs.lemmas.List.{append-nil, get_or-replicate, get_or-set_other, length-map, length-replicate, map-append, map-set, replicate_more}
+use Rattle.std.proofs.lemmas.List.{append-nil, append_assoc, get_or-replicate, get_or-set_other, length-map, length-replicate, map-append, map-set, replicate_more}
 use Rattle.std.proofs.lemmas.List.Elements.{All-map, All-nil, All-tail, filter-append}
 use Rattle.std.proofs.lemmas.List.FromFn.{get_or-map-range_with_len, length-map-range_with_len, length-range_with_len}
 use Rattle.std.proofs.lemmas.Bool.{cond-true, eq-eqb, true≢false}
@@ -19,7 +19,7 @@ use Rattle.output_buffer.specs.Seats.{GatherPutState, rows_of_pieces}
 use Rattle.driver_ends.specs.declared.put_target.PutKind.{PutKind}
 use Rattle.driver_ends.specs.declared.put_target.PutKind.TheVariants.{One, Each, Hash}
 use Rattle.driver_ends.specs.Outlets.{HasRows, IsClear, IsThrough, OutletInOrder, OutletKept, OutletState, outlet_dues, outlet_kept, new_outlet, rows_of_held, rows_sent}
-use Rattle.driver_ends.specs.Targets.{HasPutFirst, HavePutAll, HavePutFirst, add_each, dues_of, fulls_of, sent_to}
+use Rattle.driver_ends.specs.Targets.{HasPutFirst, HasSent, HavePutAll, HavePutFirst, IsFinished, TargetState, add_each, dues_of, fulls_of, sent_to}
 
 -- what a function cannot tell apart in two lists
 pub each_same : {X Y : Type 0} (f : X → Y) (xs ys : List X) → map f xs ≡ map f ys → (k : ℕ) (d : X) → f (get_or xs k d) ≡ f (get_or ys k d)
@@ -283,3 +283,74 @@ puts_first kind outlets seats given is sent place seat within there =
   where
     sent_at : (outlets : List OutletState) (place : ℕ) (d : OutletState) → place < length outlets → get_or (map rows_sent outlets) place [] ≡ rows_sent (get_or outlets place d)
     sent_at outlets place d less = get_or-map-within rows_sent outlets place d [] less
+
+-- ---- with the rows that wait
+
+-- of what was given before more, the rows that wait are still the last
+behind : {X : Type 0} (given spread waits more : List X) → given ≡ spread ++ waits → given ++ more ≡ spread ++ (waits ++ more)
+behind given spread waits more whole = ap (λ l. l ++ more) whole ∙ append_assoc spread waits more
+
+-- rows that wait come to those that were given
+pub waits_more : (old new : TargetState) (given rows : List (List Value)) → map rows_sent new.outlets ≡ map rows_sent old.outlets → length new.outlets ≡ length old.outlets →
+    new.kind ≡ old.kind → rows_of_held new.waiting ≡ rows_of_held old.waiting ++ rows → HasSent old given → HasSent new (given ++ rows)
+waits_more old new given rows sent long kind waits h = record {
+  spread = h.spread;
+  whole = behind given h.spread (rows_of_held old.waiting) rows h.whole ∙ ap (λ l. h.spread ++ l) (sym waits);
+  sent = sent ∙ h.sent ∙ (λ i. sent_to (sym kind i) (sym long i) h.spread);
+}
+
+-- the rows that waited are spread
+pub spreads_all : (old new : TargetState) (given : List (List Value)) → map rows_sent new.outlets ≡ add_each (map rows_sent old.outlets) (sent_to old.kind (length old.outlets) (rows_of_held old.waiting)) →
+    length new.outlets ≡ length old.outlets → new.kind ≡ old.kind → new.waiting ≡ None → HasSent old given → HasSent new given
+spreads_all old new given holds long kind none h =
+    let waits = rows_of_held old.waiting in
+    record {
+      spread = h.spread ++ waits;
+      whole = h.whole ∙ sym (append-nil (h.spread ++ waits)) ∙ ap (λ w. (h.spread ++ waits) ++ rows_of_held w) (sym none);
+      sent = holds ∙ ap (λ l. add_each l (sent_to old.kind (length old.outlets) waits)) h.sent
+          ∙ sym (sent_more old.kind (length old.outlets) h.spread waits) ∙ (λ i. sent_to (sym kind i) (sym long i) (h.spread ++ waits));
+    }
+
+-- while rows wait no End may be put
+pub no_end : (told : Bool) (waiting : Option TypedPage) (page : TypedPage) → waiting ≡ Some page → (told && is_none waiting) ≡ false
+no_end told waiting page is = ap (λ w. told && is_none w) is ∙ never told
+  where
+    never : (told : Bool) → (told && false) ≡ false
+    never true = refl
+    never false = refl
+
+-- where none wait, rows that are spread come to those that were given
+pub holds_more : (old new : TargetState) (given rows : List (List Value)) → map rows_sent new.outlets ≡ add_each (map rows_sent old.outlets) (sent_to old.kind (length old.outlets) rows) →
+    length new.outlets ≡ length old.outlets → new.kind ≡ old.kind → old.waiting ≡ None → new.waiting ≡ None → HasSent old given → HasSent new (given ++ rows)
+holds_more old new given rows holds long kind none still h = record {
+  spread = h.spread ++ rows;
+  whole = ap (λ l. l ++ rows) (h.whole ∙ ap (λ w. h.spread ++ rows_of_held w) none ∙ append-nil h.spread) ∙ sym (append-nil (h.spread ++ rows)) ∙ ap (λ w. (h.spread ++ rows) ++ rows_of_held w) (sym still);
+  sent = holds ∙ ap (λ l. add_each l (sent_to old.kind (length old.outlets) rows)) h.sent
+      ∙ sym (sent_more old.kind (length old.outlets) h.spread rows) ∙ (λ i. sent_to (sym kind i) (sym long i) (h.spread ++ rows));
+}
+
+-- what is kept while outlets put
+pub kept_given : (told : Bool) (old new : TargetState) (given : List (List Value)) → new.kind ≡ old.kind → new.waiting ≡ old.waiting →
+    map (outlet_kept told) new.outlets ≡ map (outlet_kept told) old.outlets → HasSent old given → HasSent new given
+kept_given told old new given kind waits kept h = record {
+  spread = h.spread;
+  whole = h.whole ∙ ap (λ w. h.spread ++ rows_of_held w) (sym waits);
+  sent = kept_sent told old.kind old.outlets new.outlets kept h.spread h.sent ∙ ap (λ k. sent_to k (length new.outlets) h.spread) (sym kind);
+}
+
+-- what the seats put is of the first of the rows that were given
+pub sent_first : (t : TargetState) (seats : List GatherPutState) (given : List (List Value)) → seats ≡ map (λ (l : OutletState). l.seat) t.outlets → HasSent t given → HavePutFirst t.kind given seats
+sent_first t seats given is h place seat within there =
+    let p = puts_first t.kind t.outlets seats h.spread is h.sent place seat within there in
+    record {
+      first = p.first;
+      rest = p.rest ++ rows_of_held t.waiting;
+      whole = h.whole ∙ ap (λ l. l ++ rows_of_held t.waiting) p.whole ∙ append_assoc p.first p.rest (rows_of_held t.waiting);
+      put = p.put;
+    }
+
+-- and of a target that is finished it is all of them
+pub sent_all : (t : TargetState) (seats : List GatherPutState) (given : List (List Value)) → seats ≡ map (λ (l : OutletState). l.seat) t.outlets → IsFinished t → HasSent t given → HavePutAll t.kind given seats
+sent_all t seats given is over h =
+    subst (λ rows. HavePutAll t.kind rows seats) (sym (h.whole ∙ ap (λ w. h.spread ++ rows_of_held w) over.none ∙ append-nil h.spread))
+    (put_all t.kind t.outlets seats h.spread is over.through h.sent)

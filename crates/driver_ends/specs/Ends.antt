@@ -8,7 +8,7 @@ use Rattle.stage_moves.specs.Looks.{Looks}
 use Rattle.driver_ends.specs.Deals.{DealState, new_deal, rows_dealt}
 use Rattle.driver_ends.specs.Outlets.{OutletState, new_outlet}
 use Rattle.driver_ends.specs.Sources.{LocalState, RemoteState, handed_on, new_local, new_remote}
-use Rattle.driver_ends.specs.Targets.{TargetState, fulls_of}
+use Rattle.driver_ends.specs.Targets.{TargetState, fulls_of, may_end}
 
 -- `IsClear` and `IsThrough`
 abbrev pub is_clear : OutletState → Bool
@@ -22,18 +22,18 @@ abbrev pub put_wants : TargetState → Bool
 put_wants t = not t.is_told && list_all is_clear t.outlets
 
 abbrev pub put_finished : TargetState → Bool
-put_finished t = t.is_told && list_all (is_through true) t.outlets
+put_finished t = may_end t && list_all (is_through true) t.outlets
 
 -- an outlet, and a target, as it was made
 abbrev pub outlet_as_made : OutletState → OutletState
 outlet_as_made outlet = new_outlet (new_gather_put outlet.seat.edge outlet.seat.number)
 
 abbrev pub put_as_made : TargetState → TargetState
-put_as_made t = record { kind = t.kind; outlets = map outlet_as_made t.outlets; is_told = false }
+put_as_made t = record { kind = t.kind; outlets = map outlet_as_made t.outlets; waiting = None; is_told = false }
 
 -- the first of its outlets that is not through: that is the one at whose bell it waits
 abbrev pub first_waiting : TargetState → Option OutletState
-first_waiting t = find (λ outlet. not (is_through t.is_told outlet)) t.outlets
+first_waiting t = find (λ outlet. not (is_through (may_end t) outlet)) t.outlets
 
 abbrev pub space_of : Option OutletState → ℕ
 space_of None = 0

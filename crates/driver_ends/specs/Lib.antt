@@ -4,6 +4,7 @@ pub mod Targets
 pub mod InTarget
 pub mod Deals
 pub mod InDeal
+pub mod Joins
 pub mod Sources
 pub mod InSources
 pub mod Ends

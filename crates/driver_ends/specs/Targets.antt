@@ -1,21 +1,27 @@
 -- Targets over edges, as they are seen.
-use Rattle.std.specs.Prelude.{◌≡◌, ℕ, ◌<◌, ◌⊎◌, ◌++◌, List, [], ◌∷◌, Bool, true, false, All, Option, Some, None, get_or, length, map, replicate, slice_index_or, sum_by, take}
+use Rattle.std.specs.Prelude.{◌≡◌, ℕ, ◌<◌, ◌⊎◌, ◌++◌, ◌&&◌, List, [], ◌∷◌, Bool, true, false, All, Option, Some, None, get_or, is_none, length, map, replicate, slice_index_or, sum_by, take}
 use Rattle.std.specs.List.{range_with_len}
 use Rattle.sql_values.specs.declared.value.Value.{Value}
 use Rattle.blocked.specs.Counts.{Rose}
 use Rattle.blocked.specs.declared.blocked_on.BlockedOn.{BlockedOn}
 use Rattle.bag_laws.specs.Buckets.{key_bucket, of_bucket}
+use Rattle.col_pages.specs.Pages.{TypedPage}
 use Rattle.output_buffer.specs.Edges.{end_count}
 use Rattle.output_buffer.specs.Seats.{GatherPutState, rows_of_pieces}
 use Rattle.driver_ends.specs.declared.put_target.PutKind.{PutKind}
 use Rattle.driver_ends.specs.declared.put_target.PutKind.TheVariants.{One, Each, Hash}
-use Rattle.driver_ends.specs.Outlets.{IsClear, IsStuck, IsThrough, OutletInOrder, OutletState, outlet_dues, rows_sent}
+use Rattle.driver_ends.specs.Outlets.{IsClear, IsStuck, IsThrough, OutletInOrder, OutletState, outlet_dues, rows_of_held, rows_sent}
 
--- how it spreads its rows, its outlets, and whether it was told that no page comes any more
+-- how it spreads its rows, its outlets, the rows that wait to be spread, and whether it was told that no page comes any more
 pub record TargetState : Type 0 where
   pub kind : PutKind
   pub outlets : List OutletState
+  pub waiting : Option TypedPage
   pub is_told : Bool
+
+-- no page comes any more and no rows wait, so that Ends may be put
+abbrev pub may_end : TargetState → Bool
+may_end t = t.is_told && is_none t.waiting
 
 -- how many outlets a target of this kind has
 abbrev pub FitsKind : PutKind → ℕ → Type 0
@@ -35,15 +41,17 @@ add_each [] more = []
 add_each (xs ∷ lists) [] = xs ∷ lists
 add_each (xs ∷ lists) (ys ∷ more) = (xs ++ ys) ∷ add_each lists more
 
--- these are the rows that it was given: each outlet sent, or holds, what it has of them
-abbrev pub HasSent : TargetState → List (List Value) → Type 0
-HasSent t given = map rows_sent t.outlets ≡ sent_to t.kind (length t.outlets) given
+-- these are the rows that it was given: of those that do not wait, each outlet sent, or holds, what it has of them
+pub record HasSent (t : TargetState) (given : List (List Value)) : Type 0 where
+  pub spread : List (List Value)
+  pub whole : given ≡ spread ++ rows_of_held t.waiting
+  pub sent : map rows_sent t.outlets ≡ sent_to t.kind (length t.outlets) spread
 
 -- what a target keeps in every state: it has the outlets of its kind, no End is put before it was told to finish, none
--- before a page that is held, and no page without rows
+-- while rows wait, none before a page that is held, and no page without rows
 pub record KeepsTarget (t : TargetState) : Type 0 where
   pub fits : FitsKind t.kind (length t.outlets)
-  pub early : t.is_told ≡ false → All (λ outlet. end_count outlet.seat.put ≡ 0) t.outlets
+  pub early : may_end t ≡ false → All (λ outlet. end_count outlet.seat.put ≡ 0) t.outlets
   pub order : All OutletInOrder t.outlets
 
 pub record Wants (t : TargetState) : Type 0 where
@@ -52,11 +60,12 @@ pub record Wants (t : TargetState) : Type 0 where
 
 -- every outlet put all that it may
 abbrev pub AreThrough : TargetState → Type 0
-AreThrough t = All (IsThrough t.is_told) t.outlets
+AreThrough t = All (IsThrough (may_end t)) t.outlets
 
--- it was told that no page comes any more, holds none, and put every End
+-- it was told that no page comes any more, no rows wait, it holds no page, and put every End
 pub record IsFinished (t : TargetState) : Type 0 where
   pub told : t.is_told ≡ true
+  pub none : t.waiting ≡ None
   pub through : All (IsThrough true) t.outlets
 
 abbrev pub dues_of : List OutletState → ℕ → ℕ

@@ -6,8 +6,9 @@
 //! `stage_moves`: `specs/Ends.antt` says what they tell it. What is promised:
 //!
 //! - What each edge of a target was given is what it has of the rows that came, in their order: all of them, or those
-//!   of its bucket (`HasSent`). No End goes before the last page of its edge, none before the target was told, and no
-//!   page without rows goes to an edge (`KeepsTarget`, `KeepsDeal`)
+//!   of its bucket; of rows that are spread by buckets the last may still wait for more (`HasSent`). No End goes before
+//!   the last page of its edge, none before the target was told, and no page without rows goes to an edge
+//!   (`KeepsTarget`, `KeepsDeal`)
 //! - Where `advance` names a bell, it is that of an edge at which this call found no room, or no piece, and the count is
 //!   the one that the look at the edge was handed, so it was read before. Nothing is lost then: the edge's page, or its
 //!   End, is still to be put. Of a target the edge is the first that has not all that it may have
@@ -22,6 +23,7 @@
 //!
 //! - `at_edges`: what reads bells and rings them
 //! - `outlet`: one edge of a target (`specs/Outlets.antt`)
+//! - `page_joins`: pages behind each other as one page
 //! - `put_target`: `PutTarget`, over one edge or several of many putters (`specs/Targets.antt`)
 //! - `deal_target`: `DealTarget`, over an edge of many takers, with an End for each of them (`specs/Deals.antt`)
 //! - `fetch_source`: `FetchSource`, a `LocalSource` with a courier behind it (`specs/Fetching.antt`)
@@ -36,6 +38,7 @@ mod deal_target;
 mod fetch_source;
 mod local_source;
 mod outlet;
+mod page_joins;
 mod put_target;
 mod remote_source;
 

@@ -1,5 +1,5 @@
 //! What a driver puts its pages into where that is one edge or several.
-ghost use Rattle.std.specs.Prelude.{◌≡◌, ℕ, ◌+◌, ◌<◌, ◌≤◌, ◌++◌, ◌↔◌, [], true, false, All, IsTrue, IfOk, OnOk, OnErr, MatchOption, length, map, replicate};
+ghost use Rattle.std.specs.Prelude.{◌≡◌, ℕ, ◌+◌, ◌<◌, ◌≤◌, ◌++◌, ◌↔◌, ◌&&◌, [], true, false, All, IsSome, IsTrue, IfOk, OnOk, OnErr, MatchOption, None, is_none, length, map, replicate};
 ghost use Rattle.sql_values.specs.declared.value.Value.{Value};
 ghost use Rattle.std.specs.Prelude.{List};
 ghost use Rattle.std.specs.Vec.{vec_capacity};
@@ -7,10 +7,11 @@ ghost use Rattle.output_buffer.specs.Edges.{end_count};
 ghost use Rattle.driver_ends.specs.declared.put_target.PutKind.TheVariants.{Hash};
 ghost use Rattle.driver_ends.specs.Ends.{put_finished, put_wants};
 ghost use Rattle.driver_ends.specs.Outlets.{IsClear, IsThrough, OutletInOrder, outlet_kept, new_outlet, rows_sent};
-ghost use Rattle.driver_ends.specs.Targets.{AreThrough, FitsKind, HasSent, HasStuckOutlet, HavePutAll, HavePutFirst, HaveTried, IsFinished, KeepsTarget, Wants, add_each, dues, dues_of, earlier, fulls_of, sent_to};
+ghost use Rattle.driver_ends.specs.Targets.{AreThrough, FitsKind, HasSent, HasStuckOutlet, HavePutAll, HavePutFirst, HaveTried, IsFinished, KeepsTarget, Wants, add_each, dues, dues_of, earlier, fulls_of, may_end, sent_to};
 
 use crate::at_edges::EdgeEnd;
 use crate::outlet::{AdvanceAsTold, Outlet};
+use crate::page_joins::join_behind;
 use blocked::{Bells, BlockedOn};
 use col_pages::Page;
 use output_buffer::{GatherPut, Partitioner};
@@ -33,12 +34,17 @@ pub enum PutKind {
 }
 
 /// Puts pages to one or several edges, and then one End to each. A page that an edge has no room for stays here,
-/// and no other page is taken before every edge took its own.
+/// and no other page is taken before every edge took its own. Rows that are spread over several edges wait until the
+/// edges' pages are about as large as those that come, since a page costs the same on its way whatever its size.
 #[derive(Drop)]
 pub struct PutTarget<'w> {
     alloc: Global,
     kind: PutKind,
     outlets: Vec<Outlet<'w>>,
+    /// The rows that wait.
+    waiting: Option<Page>,
+    /// So many of them wait for no more.
+    enough: usize,
     is_told: bool,
     /// Room for the seats, so that a stop takes no memory.
     seats: Vec<GatherPut<'w>>,
@@ -68,6 +74,7 @@ impl<'w> PutTarget<'w> {
         ensures new { IfOk result (λ t. t ≡ record {
           kind = kind;
           outlets = map new_outlet seats.entry.items;
+          waiting = None;
           is_told = false;
         }) }
         ensures sent { IfOk result (λ t. HasSent t []) }
@@ -78,13 +85,15 @@ impl<'w> PutTarget<'w> {
             alloc,
             kind,
             outlets,
+            waiting: None,
+            enough: 0,
             is_told: false,
             seats: room,
         })
     }
 
-    /// It has the outlets of its kind. No End is put before it was told to finish, none before a page that is held
-    /// for its edge, and no page without rows.
+    /// It has the outlets of its kind. No End is put before it was told to finish, none while rows wait, none before a
+    /// page that is held for its edge, and no page without rows.
     pub fn keeps(&self)
         ensures { KeepsTarget self.now }
     {
@@ -99,18 +108,69 @@ impl<'w> PutTarget<'w> {
         !self.is_told && are_clear(&self.outlets)
     }
 
-    /// Takes a page in, for `ready` to put. What each outlet was given is then what it has of all rows that came,
-    /// in their order.
+    /// Takes a page in, for `ready` to put. What each outlet was given is then what it has of all rows that came, in
+    /// their order, but for those that wait.
     pub fn put(&mut self, page: Page) -> Result<(), Memory>
         requires { Wants self.old }
         ensures sent { OnOk result ((given : List (List Value)) → HasSent self.old given
             → HasSent self.new (given ++ page.rows)) }
-        ensures rest { self.new ≡ record self.old { outlets = self.new.outlets } }
+        ensures rest { self.new ≡ record self.old { outlets = self.new.outlets; waiting = self.new.waiting } }
         ensures seats { map (λ l. l.seat) self.new.outlets ≡ map (λ l. l.seat) self.old.outlets }
         ensures lost { OnErr result (self.new ≡ self.old) }
     {
+        if self.waiting.is_some() || gathers(&self.kind, self.outlets.len()) {
+            return self.gather(page);
+        }
         let pages = pages_for(self.alloc, &self.kind, self.outlets.len(), page)?;
         hold_all(&mut self.outlets, pages);
+        Ok(())
+    }
+
+    /// Lets a page wait behind the rows that do. Where they cannot be one page, those are spread first.
+    fn gather(&mut self, page: Page) -> Result<(), Memory>
+        requires { Wants self.old }
+        ensures sent { OnOk result ((given : List (List Value)) → HasSent self.old given
+            → HasSent self.new (given ++ page.rows)) }
+        ensures rest { self.new ≡ record self.old { outlets = self.new.outlets; waiting = self.new.waiting } }
+        ensures seats { map (λ l. l.seat) self.new.outlets ≡ map (λ l. l.seat) self.old.outlets }
+        ensures lost { OnErr result (self.new ≡ self.old) }
+    {
+        let wanted = (page.len() as usize).saturating_mul(self.outlets.len());
+        self.enough = self.enough.max(wanted);
+        if let Some(page) = join_behind(self.alloc, &mut self.waiting, page)? {
+            self.spread()?;
+            self.waiting = Some(page);
+        }
+        Ok(())
+    }
+
+    /// Whether so many rows wait, or no more come, that they are to be spread.
+    fn is_due(&self) -> bool
+        ensures waits { IsTrue result → IsSome self.now.waiting }
+        ensures last { self.now.is_told ≡ true → IsSome self.now.waiting → IsTrue result }
+    {
+        match &self.waiting {
+            Some(page) => self.is_told || page.len() as usize >= self.enough,
+            None => false,
+        }
+    }
+
+    /// Spreads the rows that wait over the outlets.
+    fn spread(&mut self) -> Result<(), Memory>
+        requires clear { All IsClear self.old.outlets }
+        requires waits { IsSome self.old.waiting }
+        ensures sent { OnOk result ((given : List (List Value)) → HasSent self.old given
+            → HasSent self.new given) }
+        ensures rest { self.new ≡ record self.old { outlets = self.new.outlets; waiting = self.new.waiting } }
+        ensures seats { map (λ l. l.seat) self.new.outlets ≡ map (λ l. l.seat) self.old.outlets }
+        ensures none { OnOk result (self.new.waiting ≡ None) }
+        ensures lost { OnErr result (self.new ≡ self.old) }
+    {
+        if let Some(page) = &self.waiting {
+            let pages = shares_of(self.alloc, &self.kind, self.outlets.len(), page)?;
+            self.waiting = None;
+            hold_all(&mut self.outlets, pages);
+        }
         Ok(())
     }
 
@@ -127,12 +187,12 @@ impl<'w> PutTarget<'w> {
         self.is_told
     }
 
-    /// Whether it was told to finish, and every edge has its pages and its End.
+    /// Whether it was told to finish, no rows wait, and every edge has its pages and its End.
     pub fn is_finished(&self) -> bool
         ensures finished { IsTrue result ↔ IsFinished self.now }
         ensures is { result ≡ put_finished self.now }
     {
-        self.is_told && have_put_ends(&self.outlets)
+        may_end(self.is_told, &self.waiting) && have_put_ends(&self.outlets)
     }
 
     /// Hands back its seats, wherever it stands, without taking memory.
@@ -154,8 +214,8 @@ impl<'w> PutTarget<'w> {
 }
 
 impl<'w> EdgeEnd for PutTarget<'w> {
-    /// Puts what it holds and, once told to finish, an End to each edge behind its pages, as far as each edge has room.
-    /// The answer names the bell of the free places of the first edge that had none, with the count that was read
+    /// Puts what it holds and, once told to finish and no rows wait, an End to each edge behind its pages, as far as each
+    /// edge has room. The answer names the bell of the free places of the first edge that had none, with the count that was read
     /// before the put. Each piece rings the bell of its edge's pieces.
     fn advance<R: Threads + Wait + Sync, B: Bells>(
         &mut self,
@@ -164,20 +224,21 @@ impl<'w> EdgeEnd for PutTarget<'w> {
     ) -> Result<Option<BlockedOn>, Memory>
         ensures sent { (given : List (List Value)) → HasSent self.old given → HasSent self.new given }
         ensures rest { self.new ≡ record self.old { outlets = self.new.outlets } }
-        ensures kept { map (outlet_kept self.old.is_told) self.new.outlets
-            ≡ map (outlet_kept self.old.is_told) self.old.outlets }
+        ensures kept { map (outlet_kept (may_end self.old)) self.new.outlets
+            ≡ map (outlet_kept (may_end self.old)) self.old.outlets }
         ensures fulls { fulls_of self.old.outlets ≤ fulls_of self.new.outlets }
         ensures answer { IfOk result (λ on. MatchOption on (AreThrough self.new)
-            (λ on. HasStuckOutlet self.new.is_told self.old.outlets self.new.outlets on
+            (λ on. HasStuckOutlet (may_end self.new) self.old.outlets self.new.outlets on
             × B.shown bells.new on.bell on.seen)) }
-        ensures tried { IfOk result (λ _. HaveTried self.new.is_told self.old.outlets self.new.outlets) }
+        ensures tried { IfOk result (λ _. HaveTried (may_end self.new) self.old.outlets self.new.outlets) }
         ensures bells { (bell count : ℕ) → B.shown bells.old bell count
             → B.shown bells.new bell count }
         ensures rang { OnOk result ((bell times : ℕ)
             → B.rang bells.old bell (times + dues self.old bell)
             → B.rang bells.new bell (times + dues self.new bell)) }
     {
-        Self::advance_all(rt, bells, &mut self.outlets, self.is_told)
+        let ends = may_end(self.is_told, &self.waiting);
+        Self::advance_all(rt, bells, &mut self.outlets, ends)
     }
 }
 
@@ -224,6 +285,11 @@ impl<'w> PageTarget for PutTarget<'w> {
         rt: &R,
         bells: &mut B,
     ) -> Result<Option<BlockedOn>, Memory> {
+        match self.advance(rt, bells)? {
+            Some(on) => return Ok(Some(on)),
+            None if !self.is_due() => return Ok(None),
+            None => self.spread()?,
+        }
         self.advance(rt, bells)
     }
 }
@@ -261,6 +327,18 @@ fn have_put_ends(outlets: &[Outlet<'_>]) -> bool
     outlets.iter().all(|outlet| outlet.has_put_end())
 }
 
+/// Whether rows of this kind wait to be spread over so many edges.
+fn gathers(kind: &PutKind, outlets: usize) -> bool {
+    outlets > 1 && matches!(kind, PutKind::Hash(_))
+}
+
+/// Whether no page comes any more and no rows wait.
+fn may_end(is_told: bool, waiting: &Option<Page>) -> bool
+    ensures { result ≡ (is_told && is_none waiting.now) }
+{
+    is_told && waiting.is_none()
+}
+
 /// What each of so many edges gets of a page.
 fn pages_for(alloc: Global, kind: &PutKind, outlets: usize, page: Page) -> Result<Vec<Page>, Memory>
     requires { FitsKind kind.now outlets }
@@ -286,6 +364,17 @@ fn parts_of(
         return copies_of(alloc, page, outlets);
     }
     partitioner.split(alloc, &page)
+}
+
+/// What each of so many edges gets of the rows that waited.
+fn shares_of(alloc: Global, kind: &PutKind, outlets: usize, page: &Page) -> Result<Vec<Page>, Memory>
+    requires { FitsKind kind.now outlets }
+    ensures { IfOk result (λ pages. map (λ p. p.rows) pages.items ≡ sent_to kind.now outlets page.now.rows) }
+{
+    match kind {
+        PutKind::One | PutKind::Each => copies_of(alloc, page.copy(alloc)?, outlets),
+        PutKind::Hash(partitioner) => partitioner.split(alloc, page),
+    }
 }
 
 /// The page so many times; the last is the page itself.

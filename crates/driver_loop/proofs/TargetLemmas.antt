@@ -25,7 +25,7 @@ made_twice (outlet ∷ outlets) = λ i. outlet_as_made outlet ∷ made_twice out
 made_kept : (t : Target) → target_made (target_made_or_lost t) ≡ target_made t
 made_kept (Result result) = refl
 made_kept (Build build) = refl
-made_kept (Put put) = ap (λ (outlets : List OutletState). Put (record { kind = put.kind; outlets = outlets; is_told = false })) (made_twice put.outlets)
+made_kept (Put put) = ap (λ (outlets : List OutletState). Put (record { kind = put.kind; outlets = outlets; waiting = None; is_told = false })) (made_twice put.outlets)
 made_kept (Deal deal) = refl
 
 pub kept_made : (t u : Target) → target_made_or_lost u ≡ target_made_or_lost t → target_made u ≡ target_made t
@@ -48,8 +48,11 @@ made_sent (outlet ∷ outlets) = λ i. [] ∷ made_sent outlets i
 none_put : (put : TargetState) → Put (put_as_made put) ≡ Put put → HasSent put []
 none_put put e =
     let same : put_as_made put ≡ put = cc in
-    subst (λ (put : TargetState). HasSent put []) same
-    (made_sent put.outlets ∙ ap (λ n. replicate n []) (sym (length-map put.outlets outlet_as_made)) ∙ sym (none_sent put.kind (length (map outlet_as_made put.outlets))))
+    subst (λ (put : TargetState). HasSent put []) same (record {
+      spread = [];
+      whole = refl;
+      sent = made_sent put.outlets ∙ ap (λ n. replicate n []) (sym (length-map put.outlets outlet_as_made)) ∙ sym (none_sent put.kind (length (map outlet_as_made put.outlets)));
+    })
 
 -- one that is as it was made was given no rows, and was not told
 pub made_given : (t : Target) → target_made t ≡ t → was_given t []

@@ -3,9 +3,10 @@ ghost use Rattle.std.specs.Prelude.{◌≡◌, ◌<◌, [], All, IfOk, false, le
 
 use crate::counted::{CountingBells, page_of, write_piece, write_rings, write_wait};
 use blocked::{Bells, ReadBell, Seen};
-use driver_ends::{EdgeEnd, PutKind, PutTarget};
+use driver_ends::{PutKind, PutTarget};
 use output_buffer::{Gather, GatherPut, GatherTake, Partitioner, Took};
 use sql_values::Memory;
+use stage_moves::PageTarget;
 use std::alloc::Global;
 use std::sync::Wait;
 use std::thread::Threads;
@@ -22,8 +23,11 @@ one 1 4|put: ready wants put: ready take:0 finish ready take:0|ready y ready - r
 each 3 2|put:1,2 ready put:3 ready take:0 take:1 take:2 take:2 rings|ready ready 1,2, 1,2, 1,2, 3, 2 1 2 1 2 2
 each 3 1|put:1 ready put:2 ready take:0 ready take:1 ready take:2 ready wants|ready bell1at0 1, bell3at0 1, bell5at0 1, ready y
 each 3 1|finish ready take:0 take:1 take:2 done rings|ready end0 end0 end0 y 1 1 1 1 1 1
-hash 3 4|put:1,2,1,12345,2,-1 ready put:2 ready take:0 take:1 take:2 take:0 take:1 rings|ready ready 2,2, 12345,-1, 1,1, 2, - 2 2 1 1 1 1
-hash 3 1|put:1,2 ready put:2,12345 ready take:0 ready take:1 finish ready take:2 ready take:0|ready bell1at0 2, ready 12345, bell1at1 1, bell1at1 2,
+hash 3 4|put:1,2 ready wants put:1,12345 ready take:0 put:2,-1 ready take:0 take:1 take:2 take:0 rings|ready y ready - ready 2,2, 12345,-1, 1,1, - 1 1 1 1 1 1
+hash 3 4|put:1,2,1,12345,2,-1 ready put:2 ready finish told done ready done take:0 take:1 take:2 take:0 rings|ready ready y n ready y 2,2,2, 12345,-1, 1,1, end0 2 2 2 1 2 1
+hash 3 4|put:1,2 put:1,2,2,12345 ready put:2 put:2 put:2 put:2 put:2 put:2 ready take:0 take:1 take:2|ready ready 2,2,2,2,2,2,2,2,2, 12345, 1,1,
+hash 3 1|put:1,2 put:2,12345 put:2,-1 ready put:1,2 wants put:1,2 put:1,2 ready wants take:0 ready take:2 finish ready take:0 ready|ready y bell1at0 n 2,2,2, bell5at0 1, bell1at1 2,2,2, bell3at0
+hash 1 4|put:1,2 ready take:0|ready 1,2,
 ";
 
 /// A target, and what takes from its edges.
@@ -50,7 +54,7 @@ impl<'e> Ends<'e> {
     }
 
     fn ready<R: Threads + Wait + Sync>(&mut self, rt: &R) -> Result<(), Memory> {
-        let on = self.target.advance(rt, &mut self.bells)?;
+        let on = PageTarget::ready(&mut self.target, rt, &mut self.bells)?;
         write_wait(&mut self.text, on)
     }
 

@@ -1,5 +1,5 @@
 -- Targets that put to the edges of all tasks.
-use Rattle.std.proofs.Common.{◌≡◌, ℕ, List, [], ◌∷◌, All, map, false, refl, ap, sym, ◌∙◌}
+use Rattle.std.proofs.Common.{◌≡◌, ℕ, List, [], ◌∷◌, All, None, map, false, refl, ap, sym, ◌∙◌}
 use Rattle.std.proofs.lemmas.List.Elements.{All-head, All-tail}
 use Rattle.output_buffer.specs.Seats.{EdgeId, GatherPutState}
 use Rattle.driver_ends.specs.declared.put_target.PutKind.{PutKind}
@@ -10,7 +10,7 @@ use Rattle.driver_loop.specs.declared.target.Target.TheVariants.{Put}
 use Rattle.net_making.proofs.SeatLemmas.{IsNewPut, edge_of}
 
 abbrev pub new_target : PutKind → List GatherPutState → TargetState
-new_target kind seats = record { kind = kind; outlets = map new_outlet seats; is_told = false }
+new_target kind seats = record { kind = kind; outlets = map new_outlet seats; waiting = None; is_told = false }
 
 outlets_new : (seats : List GatherPutState) → All IsNewPut seats → map outlet_as_made (map new_outlet seats) ≡ map new_outlet seats
 outlets_new [] fresh = refl
@@ -22,7 +22,7 @@ outlets_new (seat ∷ seats) fresh =
 pub put_new : (t : TargetState) (kind : PutKind) (seats : List GatherPutState) → t ≡ new_target kind seats → All IsNewPut seats → Put (put_as_made t) ≡ Put t
 put_new t kind seats is fresh =
     ap (λ (s : TargetState). Put (put_as_made s)) is
-    ∙ ap (λ (outlets : List OutletState). Put (record { kind = kind; outlets = outlets; is_told = false })) (outlets_new seats fresh)
+    ∙ ap (λ (outlets : List OutletState). Put (record { kind = kind; outlets = outlets; waiting = None; is_told = false })) (outlets_new seats fresh)
     ∙ sym (ap Put is)
 
 outlet_edges : (seats : List GatherPutState) → map (λ (outlet : OutletState). outlet.seat.edge) (map new_outlet seats) ≡ map edge_of seats

@@ -2,7 +2,7 @@
 -- edges have them.
 use Rattle.std.proofs.Common.{◌≡◌, ℕ, ◌<◌, List, [], ◌∷◌, ◌++◌, Bool, true, Option, Some, None, length, map, refl, subst, sym, ap, ◌∙◌, arith}
 use Rattle.std.specs.Prelude.{All, option_map, slice_get}
-use Rattle.std.proofs.lemmas.List.{append-nil, length-map}
+use Rattle.std.proofs.lemmas.List.{length-map}
 use Rattle.std.proofs.lemmas.List.Concat.{flat_map-append}
 use Rattle.std.proofs.lemmas.List.Elements.{All-append, All-head}
 use Rattle.std.proofs.lemmas.Option.{slice_get-map}
@@ -11,7 +11,7 @@ use Rattle.bag_laws.proofs.GatherLemmas.{gather-agree, gather-flat_map}
 use Rattle.operator_core.specs.Rows.{Row}
 use Rattle.output_buffer.specs.Seats.{EdgeId}
 use Rattle.driver_ends.specs.Outlets.{OutletState, rows_sent}
-use Rattle.driver_ends.specs.Targets.{HasSent, KeepsTarget}
+use Rattle.driver_ends.specs.Targets.{HasSent, KeepsTarget, TargetState}
 use Rattle.driver_loop.specs.Drivers.{DriverState}
 use Rattle.driver_loop.specs.Ends.{is_told, was_given}
 use Rattle.driver_loop.specs.Seats.{KeepsEnds, puts_of}
@@ -19,7 +19,7 @@ use Rattle.driver_loop.specs.declared.target.Target.{Target}
 use Rattle.driver_loop.specs.declared.target.Target.TheVariants.{Result, Build, Put, Deal}
 use Rattle.plan_runs.specs.RunPlans.{Output}
 use Rattle.plan_runs.specs.Runs.{sent}
-use Rattle.source_laws.specs.Edges.{AreTold, KeepsPutter, Putter, putting_seats, rows_for}
+use Rattle.source_laws.specs.Edges.{AreTold, KeepsPutter, Putter, putter_of, putting_seats, rows_for}
 use Rattle.source_laws.proofs.SentLemmas.{keeps_putter, outlet_sent}
 use Rattle.plan_layout.specs.Pipes.{PipeForm, driver_number}
 use Rattle.driver_nets.specs.Nets.{IsPutFor, NetForm}
@@ -28,28 +28,25 @@ use Rattle.driver_nets.specs.States.{pipe_of}
 use Rattle.net_sources.proofs.ListLemmas.{Found, found, All-gather, All-gathered, All-left, All-one, All-right}
 use Rattle.net_sources.proofs.DriverLemmas.{Known, done_is, lane_is, map_in_pipe, map_in_task}
 
-abbrev putter_at : Bool → OutletState → Putter
-putter_at told outlet = record { outlet = outlet; is_told = told }
-
 -- the outlet of a target to the edge of a task
 abbrev putters_of : ℕ → Target → List Putter
 putters_of to (Result own) = []
 putters_of to (Build build) = []
-putters_of to (Put put) = listed (option_map (putter_at put.is_told) (slice_get put.outlets to))
+putters_of to (Put put) = listed (option_map (putter_of put to) (slice_get put.outlets to))
 putters_of to (Deal deal) = []
 
 abbrev pub putters_in : ℕ → DriverState → List Putter
 putters_in to d = putters_of to d.target
 
-seat_found : (told : Bool) (o : Option OutletState)
-    → map (λ (p : Putter). p.outlet.seat) (listed (option_map (putter_at told) o)) ≡ listed (option_map (λ (outlet : OutletState). outlet.seat) o)
-seat_found told None = refl
-seat_found told (Some outlet) = refl
+seat_found : (put : TargetState) (to : ℕ) (o : Option OutletState)
+    → map (λ (p : Putter). p.outlet.seat) (listed (option_map (putter_of put to) o)) ≡ listed (option_map (λ (outlet : OutletState). outlet.seat) o)
+seat_found put to None = refl
+seat_found put to (Some outlet) = refl
 
 puts_seen : (to : ℕ) (t : Target) → map (λ (p : Putter). p.outlet.seat) (putters_of to t) ≡ listed (slice_get (puts_of t) to)
 puts_seen to (Result own) = refl
 puts_seen to (Build build) = refl
-puts_seen to (Put put) = seat_found put.is_told (slice_get put.outlets to) ∙ ap listed (sym (slice_get-map (λ (outlet : OutletState). outlet.seat) put.outlets to))
+puts_seen to (Put put) = seat_found put to (slice_get put.outlets to) ∙ ap listed (sym (slice_get-map (λ (outlet : OutletState). outlet.seat) put.outlets to))
 puts_seen to (Deal deal) = refl
 
 pub seats_in_task : (to : ℕ) (drivers : List DriverState) (pipe : PipeForm) (task : ℕ)
@@ -71,7 +68,7 @@ pub gather_puts : (n : ℕ) (lists : ℕ → List Putter) (rows : ℕ → List R
     → Putting (gather n lists) (gather n rows) ((k : ℕ) → k < n → IsDone k)
 gather_puts n lists rows IsDone each = record {
   keeps = All-gather KeepsPutter n lists (λ k below. (each k below).keeps);
-  given = gather-flat_map n (λ (p : Putter). rows_sent p.outlet) lists ∙ gather-agree n (λ k. rows_for (lists k)) rows (λ k below. (each k below).given);
+  given = gather-flat_map n (λ (p : Putter). rows_sent p.outlet ++ p.waits) lists ∙ gather-agree n (λ k. rows_for (lists k)) rows (λ k below. (each k below).given);
   done = λ told k below. (each k below).done (All-gathered (λ (p : Putter). p.is_told ≡ true) n lists told k below);
 }
 
@@ -79,7 +76,7 @@ pub both_put : (putters others : List Putter) (rows more : List Row) (IsDone Are
     → Putting (putters ++ others) (rows ++ more) (IsDone × AreDone)
 both_put putters others rows more IsDone AreDone first second = record {
   keeps = All-append KeepsPutter putters others first.keeps second.keeps;
-  given = flat_map-append (λ (p : Putter). rows_sent p.outlet) putters others ∙ (λ i. first.given i ++ second.given i);
+  given = flat_map-append (λ (p : Putter). rows_sent p.outlet ++ p.waits) putters others ∙ (λ i. first.given i ++ second.given i);
   done = λ told. (first.done (All-left (λ (p : Putter). p.is_told ≡ true) putters others told), second.done (All-right (λ (p : Putter). p.is_told ≡ true) putters others told));
 }
 
@@ -97,19 +94,19 @@ module _ (net : NetForm) (drivers : List DriverState) (gave : ℕ → List Row) 
   has_sent : HasSent puts.put (gave (driver_number pipe task lane))
   has_sent = subst (λ (t : Target). was_given t (gave (driver_number pipe task lane))) puts.is k.given
 
-  lane_putter : of_lane (putters_in to) drivers pipe task lane ≡ putter_at puts.put.is_told here.item ∷ []
+  lane_putter : of_lane (putters_in to) drivers pipe task lane ≡ putter_of puts.put to here.item ∷ []
   lane_putter =
       lane_is (putters_in to) drivers pipe task lane k.driver k.there ∙ ap (putters_of to) puts.is
-      ∙ ap (λ (o : Option OutletState). listed (option_map (putter_at puts.put.is_told) o)) here.there
+      ∙ ap (λ (o : Option OutletState). listed (option_map (putter_of puts.put to) o)) here.there
 
-  keeps_it : KeepsPutter (putter_at puts.put.is_told here.item)
+  keeps_it : KeepsPutter (putter_of puts.put to here.item)
   keeps_it =
-      subst (λ (outlet : OutletState). KeepsPutter (putter_at puts.put.is_told outlet)) here.is
+      subst (λ (outlet : OutletState). KeepsPutter (putter_of puts.put to outlet)) here.is
       (keeps_putter puts.put to here.item keeps (omega (arith, long, within)))
 
-  rows_it : rows_sent here.item ≡ sent output (length edges) to (gave (driver_number pipe task lane))
+  rows_it : rows_for (putter_of puts.put to here.item ∷ []) ≡ sent output (length edges) to (gave (driver_number pipe task lane))
   rows_it =
-      ap rows_sent (sym here.is) ∙ outlet_sent puts.put (gave (driver_number pipe task lane)) (length edges) to here.item keeps has_sent long within
+      ap (λ (outlet : OutletState). rows_for (putter_of puts.put to outlet ∷ [])) (sym here.is) ∙ outlet_sent puts.put (gave (driver_number pipe task lane)) (length edges) to here.item keeps has_sent long within
       ∙ ap (λ (o : Output). sent o (length edges) to (gave (driver_number pipe task lane))) puts.sends
 
   done_it : puts.put.is_told ≡ true → (pipe_of drivers gave pipe).done task lane ≡ true
@@ -121,7 +118,7 @@ module _ (net : NetForm) (drivers : List DriverState) (gave : ℕ → List Row) 
   lane_puts =
       subst (λ list. Putting list (sent output (length edges) to (gave (driver_number pipe task lane))) ((pipe_of drivers gave pipe).done task lane ≡ true)) (sym lane_putter)
       (record {
-        keeps = All-one KeepsPutter (putter_at puts.put.is_told here.item) keeps_it;
-        given = append-nil (rows_sent here.item) ∙ rows_it;
-        done = λ told. done_it (All-head (λ (p : Putter). p.is_told ≡ true) (putter_at puts.put.is_told here.item) [] told);
+        keeps = All-one KeepsPutter (putter_of puts.put to here.item) keeps_it;
+        given = rows_it;
+        done = λ told. done_it (All-head (λ (p : Putter). p.is_told ≡ true) (putter_of puts.put to here.item) [] told);
       })

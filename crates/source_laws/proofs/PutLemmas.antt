@@ -1,7 +1,7 @@
 -- From the rows that putters were given to those that their edge's taker took.
 use Rattle.std.proofs.Common.{◌≡◌, ℕ, ◌<◌, List, [], ◌∷◌, ◌++◌, Bool, true, false, refl, ap, sym, arith}
 use Rattle.std.specs.Prelude.{All, IfSome, Option, Some, None, flat_map}
-use Rattle.std.proofs.lemmas.List.{append-nil}
+use Rattle.std.proofs.lemmas.List.{append-nil, append_assoc}
 use Rattle.std.proofs.lemmas.List.Concat.{flat_map-append}
 use Rattle.std.proofs.lemmas.List.Elements.{All-cons, All-nil, All-tail}
 use Rattle.sql_values.specs.declared.value.Value.{Value}
@@ -31,8 +31,12 @@ pub none_over : {X : Type 0} (A rest B : List X) → SameWeights (A ++ rest) B �
 none_over A rest B part whole =
     same-nil (same-cancel_left A (same-trans part (same-trans (same-sym whole) (same-from_equal (sym (append-nil A))))))
 
+-- what they hold, and what waits for them
+abbrev left_of : Putter → List (List Value)
+left_of p = rows_of_held p.outlet.held ++ p.waits
+
 abbrev held_by : List Putter → List (List Value)
-held_by putters = flat_map (λ (p : Putter). rows_of_held p.outlet.held) putters
+held_by putters = flat_map left_of putters
 
 put_and_held : (putters : List Putter) → SameWeights (rows_of_pieces (put_by (putting_seats putters)) ++ held_by putters) (rows_for putters)
 put_and_held [] = same-refl []
@@ -40,14 +44,17 @@ put_and_held (p ∷ putters) =
     let put = p.outlet.seat.put in
     let more = put_by (putting_seats putters) in
     let apart : rows_of_pieces (put ++ more) ≡ rows_of_pieces put ++ rows_of_pieces more = flat_map-append rows_of_piece put more in
-    same-trans (same-from_equal (ap (λ rows. rows ++ (rows_of_held p.outlet.held ++ held_by putters)) apart))
-    (same-trans (same-exchange (rows_of_pieces put) (rows_of_pieces more) (rows_of_held p.outlet.held) (held_by putters))
-    (same-append (same-refl (rows_sent p.outlet)) (put_and_held putters)))
+    let mine : rows_of_pieces put ++ left_of p ≡ rows_sent p.outlet ++ p.waits = sym (append_assoc (rows_of_pieces put) (rows_of_held p.outlet.held) p.waits) in
+    same-trans (same-from_equal (ap (λ rows. rows ++ (left_of p ++ held_by putters)) apart))
+    (same-trans (same-exchange (rows_of_pieces put) (rows_of_pieces more) (left_of p) (held_by putters))
+    (same-append (same-from_equal mine) (put_and_held putters)))
 
 none_held : (putters : List Putter) → All KeepsPutter putters → HavePutEnds (putting_seats putters) → held_by putters ≡ []
 none_held [] kept ends = refl
 none_held (p ∷ putters) kept ends =
-    let here : rows_of_held p.outlet.held ≡ [] = none_held_behind p.outlet.held (end_count p.outlet.seat.put) ((kept 0 p (omega arith)).order.first) (ends 0 p.outlet.seat (omega arith)) in
+    let some : 0 < end_count p.outlet.seat.put = ends 0 p.outlet.seat (omega arith) in
+    let held : rows_of_held p.outlet.held ≡ [] = none_held_behind p.outlet.held (end_count p.outlet.seat.put) ((kept 0 p (omega arith)).order.first) some in
+    let here : left_of p ≡ [] = λ i. held i ++ (kept 0 p (omega arith)).last some i in
     let rest : held_by putters ≡ [] =
     none_held putters (All-tail KeepsPutter p putters kept) (All-tail (λ (seat : GatherPutState). 0 < end_count seat.put) p.outlet.seat (putting_seats putters) ends) in
     λ i. here i ++ rest i

@@ -1,24 +1,30 @@
 -- Who puts to an edge and who takes from it, as they stand once all seats of the edge came back.
-use Rattle.std.specs.Prelude.{◌≡◌, ◌<◌, List, Bool, true, false, All, flat_map, length, map}
+use Rattle.std.specs.Prelude.{◌≡◌, ℕ, ◌<◌, ◌++◌, List, [], Bool, true, false, All, flat_map, length, map}
 use Rattle.sql_values.specs.declared.value.Value.{Value}
 use Rattle.bag_laws.specs.Weights.{SameWeights, Within}
 use Rattle.output_buffer.specs.Edges.{end_count}
 use Rattle.output_buffer.specs.Seats.{GatherPutState, GatherTakeState, HasEnded, HaveEnded, SpreadPutState, SpreadTakeState, put_by, taken_by}
 use Rattle.driver_ends.specs.declared.put_target.PutKind.{PutKind}
 use Rattle.driver_ends.specs.declared.put_target.PutKind.TheVariants.{One, Each, Hash}
-use Rattle.driver_ends.specs.Outlets.{OutletInOrder, OutletState, rows_sent}
+use Rattle.driver_ends.specs.Outlets.{OutletInOrder, OutletState, rows_of_held, rows_sent}
 use Rattle.driver_ends.specs.Ends.{remote_taken}
 use Rattle.driver_ends.specs.Sources.{RemoteState}
+use Rattle.driver_ends.specs.Targets.{TargetState}
 use Rattle.plan_runs.specs.RunPlans.{Output, broadcast, hashed, single}
+use Rattle.plan_runs.specs.Runs.{sent}
 
--- an outlet of a target, and whether that was told that no page comes any more
+-- an outlet of a target, what it is to get of the rows that wait there, and whether the target was told that no page
+-- comes any more
 pub record Putter : Type 0 where
   pub outlet : OutletState
+  pub waits : List (List Value)
   pub is_told : Bool
 
--- what a target keeps of each of its outlets: no End before it was told, nor before a page that is held
+-- what a target keeps of each of its outlets: no End before it was told, nor while rows wait, nor before a page that is
+-- held
 pub record KeepsPutter (p : Putter) : Type 0 where
   pub early : p.is_told ≡ false → end_count p.outlet.seat.put ≡ 0
+  pub last : 0 < end_count p.outlet.seat.put → p.waits ≡ []
   pub order : OutletInOrder p.outlet
 
 abbrev pub AreTold : List Putter → Type 0
@@ -29,7 +35,7 @@ putting_seats putters = map (λ p. p.outlet.seat) putters
 
 -- the rows that they were given for this edge
 abbrev pub rows_for : List Putter → List (List Value)
-rows_for putters = flat_map (λ p. rows_sent p.outlet) putters
+rows_for putters = flat_map (λ p. rows_sent p.outlet ++ p.waits) putters
 
 abbrev pub HavePutEnds : List GatherPutState → Type 0
 HavePutEnds seats = All (λ seat. 0 < end_count seat.put) seats
@@ -60,3 +66,11 @@ abbrev pub output_of : PutKind → Output
 output_of One = single
 output_of Each = broadcast
 output_of (Hash by) = hashed by.columns
+
+-- an outlet of a target, to the edge of a task
+abbrev pub putter_of : TargetState → ℕ → OutletState → Putter
+putter_of target task outlet = record {
+  outlet = outlet;
+  waits = sent (output_of target.kind) (length target.outlets) task (rows_of_held target.waiting);
+  is_told = target.is_told;
+}

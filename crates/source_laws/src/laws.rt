@@ -1,9 +1,9 @@
 //! What follows from the definitions.
-ghost use Rattle.std.specs.Prelude.{◌≡◌, ℕ, ◌<◌, List, All, Bool, get_or, length, map, true};
+ghost use Rattle.std.specs.Prelude.{◌≡◌, ℕ, ◌<◌, ◌∷◌, [], List, All, Bool, get_or, length, map, true};
 ghost use Rattle.sql_values.specs.declared.value.Value.{Value};
 ghost use Rattle.driver_ends.specs.Deals.{DealState, KeepsDeal, rows_dealt};
 ghost use Rattle.driver_ends.specs.Ends.{local_taken, remote_taken};
-ghost use Rattle.driver_ends.specs.Outlets.{OutletState, rows_sent};
+ghost use Rattle.driver_ends.specs.Outlets.{OutletState};
 ghost use Rattle.driver_ends.specs.Sources.{HasLocalTaken, HasRemoteTaken, IsLocalEnded, IsRemoteEnded, LocalState, RemoteState};
 ghost use Rattle.driver_ends.specs.Targets.{HasSent, KeepsTarget, TargetState};
 ghost use Rattle.driver_ends.specs.Fetching.{FetchingState, HasFetchTaken, IsFetchEnded, fetch_taken};
@@ -16,7 +16,7 @@ ghost use Rattle.split_source.specs.Gathered.{AreDistinct, AreWhole};
 ghost use Rattle.split_source.specs.Scans.{ScanState};
 ghost use Rattle.sql_values.specs.Cells.{cut};
 ghost use Rattle.source_laws.specs.Scans.{AreDrained, AreEnded, AreScansOf, rows_scanned, seats_of};
-ghost use Rattle.source_laws.specs.Edges.{AreTold, GatherCameBack, KeepsPutter, Putter, SpreadCameBack, output_of, putting_seats, rows_for, rows_from, taking_seats};
+ghost use Rattle.source_laws.specs.Edges.{AreTold, GatherCameBack, KeepsPutter, Putter, SpreadCameBack, output_of, putter_of, putting_seats, rows_for, rows_from, taking_seats};
 
 /// The law that what scans of one table gave, by all seats of its claims, is part of its rows, cut to the columns, and all
 /// of them where each scan has ended.
@@ -68,10 +68,11 @@ pub fn outlets_send()
     ensures sent { (target : TargetState) (given : List (List Value)) (n k : ℕ)
         (outlet : OutletState) → KeepsTarget target → HasSent target given
         → length target.outlets ≡ n → k < n
-        → rows_sent (get_or target.outlets k outlet) ≡ sent (output_of target.kind) n k given }
+        → rows_for (putter_of target k (get_or target.outlets k outlet) ∷ [])
+        ≡ sent (output_of target.kind) n k given }
     ensures putter { (target : TargetState) (k : ℕ) (outlet : OutletState) → KeepsTarget target
         → k < length target.outlets
-        → KeepsPutter (record { outlet = get_or target.outlets k outlet; is_told = target.is_told }) }
+        → KeepsPutter (putter_of target k (get_or target.outlets k outlet)) }
     ensures tasks { (output : Output) (n k tasks : ℕ) (rows : ℕ → List (List Value))
         → sent output n k (gather tasks rows) ≡ gather tasks (λ j. sent output n k (rows j)) }
 {}

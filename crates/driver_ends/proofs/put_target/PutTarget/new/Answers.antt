@@ -1,4 +1,4 @@
-use Rattle.std.proofs.Common.{◌≡◌, length, rules, arith, sym, ap, subst, ◌∙◌}
+use Rattle.std.proofs.Common.{◌≡◌, [], length, refl, rules, arith, sym, ap, subst, ◌∙◌}
 use Rattle.std.proofs.lemmas.List.{length-map}
 use Rattle.driver_ends.specs.Outlets.{new_outlet}
 use Rattle.driver_ends.specs.Targets.{FitsKind}
@@ -17,4 +17,8 @@ invariant_of-result c =
     }
 
 pub returns-clause-sent : goal.returns-clause-sent
-returns-clause-sent c = new_sent c.args.kind c.args.seats.items c.in_ok-outlets.outlets.items c.in_ok-outlets.ensures c.requires.fresh
+returns-clause-sent c = record {
+  spread = [];
+  whole = refl;
+  sent = new_sent c.args.kind c.args.seats.items c.in_ok-outlets.outlets.items c.in_ok-outlets.ensures c.requires.fresh;
+}

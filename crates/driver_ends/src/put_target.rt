@@ -367,7 +367,12 @@ fn parts_of(
 }
 
 /// What each of so many edges gets of the rows that waited.
-fn shares_of(alloc: Global, kind: &PutKind, outlets: usize, page: &Page) -> Result<Vec<Page>, Memory>
+fn shares_of(
+    alloc: Global,
+    kind: &PutKind,
+    outlets: usize,
+    page: &Page,
+) -> Result<Vec<Page>, Memory>
     requires { FitsKind kind.now outlets }
     ensures { IfOk result (λ pages. map (λ p. p.rows) pages.items ≡ sent_to kind.now outlets page.now.rows) }
 {

@@ -10,8 +10,7 @@ same a b = search rules
 
 pub returns-then-has_room : goal.returns-then-has_room
 returns-then-has_room c =
-    let d = slice_eq-Decides same _ _ _ c.eq.ensures in
-    (
+    let d = slice_eq-Decides same _ _ _ c.eq.ensures in (
       λ e. record {
         types = sym c.types.ensures.types ∙ d.0 e ∙ c.types-then-has_room.ensures.types;
         few = c.has_room.ensures.0 (search rules);

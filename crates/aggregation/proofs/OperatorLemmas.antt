@@ -23,7 +23,7 @@ given-left old new (Some page) g = sym g.rows
 
 -- groups whose output has begun, where `said` is what is said of them with rows still to come
 module _ (said : TableState → List (List Value) → List Verdict) (old mid new : GroupsState) (told : old.is_told ≡ true)
-    (middle : mid ≡ record old { begun = true; left = record old.left { rows = mid.left.rows } })
+    (middle : mid ≡ record old { table = mid.table; begun = true; left = record old.left { rows = mid.left.rows } })
     (begun : IsBegun old.begun (said old.table []) old.left.rows mid.left.rows)
     (later : new ≡ record mid { left = record mid.left { rows = new.left.rows } }) where
   has-begun : new.begun ≡ true

@@ -116,13 +116,18 @@ impl GroupRows {
         self.table.has_group()
     }
 
-    /// Makes the rows of the results, unless rows were made before.
+    /// Makes the rows of the results, unless rows were made before, and then forgets the groups.
     pub fn begin_results(&mut self) -> Result<(), EvalFault>
         requires { self.old.is_told ≡ true }
         ensures same { OnOk result (self.new ≡ record self.old {
+          table = self.new.table;
           begun = true;
           left = record self.old.left { rows = self.new.left.rows };
         }) }
+        ensures table { OnOk result (record self.new.table {
+          keys = self.old.table.keys;
+          partials = self.old.table.partials;
+        } ≡ self.old.table) }
         ensures begun { OnOk result
             (IsBegun self.old.begun (verdicts_with self.old.table []) self.old.left.rows self.new.left.rows) }
         ensures err { OnErr result (self.new ≡ self.old) }
@@ -135,6 +140,7 @@ impl GroupRows {
         self.table.groups_are_told();
         match self.table.results(self.left.types()) {
             Ok(rows) => {
+                self.table.forget()?;
                 self.left.fill(rows);
                 self.has_begun = true;
                 Ok(())
@@ -143,13 +149,18 @@ impl GroupRows {
         }
     }
 
-    /// Makes the rows of the keys and partial rows, unless rows were made before.
+    /// Makes the rows of the keys and partial rows, unless rows were made before, and then forgets the groups.
     pub fn begin_parts(&mut self) -> Result<(), Memory>
         requires { self.old.is_told ≡ true }
         ensures same { OnOk result (self.new ≡ record self.old {
+          table = self.new.table;
           begun = true;
           left = record self.old.left { rows = self.new.left.rows };
         }) }
+        ensures table { OnOk result (record self.new.table {
+          keys = self.old.table.keys;
+          partials = self.old.table.partials;
+        } ≡ self.old.table) }
         ensures begun { OnOk result
             (IsBegun self.old.begun (parts_with self.old.table []) self.old.left.rows self.new.left.rows) }
         ensures err { OnErr result (self.new ≡ self.old) }
@@ -158,6 +169,7 @@ impl GroupRows {
             return Ok(());
         }
         let rows = self.table.parts(self.left.types())?;
+        self.table.forget()?;
         self.left.fill(rows);
         self.has_begun = true;
         Ok(())

@@ -1,4 +1,4 @@
-ghost use Rattle.std.specs.Prelude.{◌≡◌, ◌<◌, ◌≤◌, ◌^◌, [], ◌∷◌, ◌++◌, drop, length, map, IfOk, IsTrue, MatchResult, OnOk, None, slice_index_or, slice_set};
+ghost use Rattle.std.specs.Prelude.{◌≡◌, ◌<◌, ◌≤◌, ◌^◌, [], ◌∷◌, ◌++◌, drop, length, map, IfOk, IsTrue, MatchResult, OnErr, OnOk, None, slice_index_or, slice_set};
 ghost use Rattle.sql_values.specs.Cells.{cut};
 ghost use Rattle.relations.specs.Partials.{merged, partial_of};
 ghost use Rattle.group_index.specs.Keys.{place_of};
@@ -104,6 +104,20 @@ impl GroupTable {
             index,
             groups,
         })
+    }
+
+    /// Forgets the groups of its columns, and gives their memory back. After `Memory` they are still there.
+    pub fn forget(&mut self) -> Result<(), Memory>
+        ensures same { record self.new { keys = self.old.keys; partials = self.old.partials } ≡ self.old }
+        ensures none { OnOk result (self.new.keys ≡ first_keys (length self.old.columns)) }
+        ensures err { OnErr result (self.new ≡ self.old) }
+    {
+        if self.columns.is_empty() {
+            return Ok(());
+        }
+        self.index = GroupIndex::new(self.alloc)?;
+        self.groups = Vec::new(self.alloc);
+        Ok(())
     }
 
     /// The types of the rows that it takes.

@@ -1,0 +1,4 @@
+pub mod StandLemmas
+pub mod OverLemmas
+mod LaneFailLemmas
+pub mod FailLemmas

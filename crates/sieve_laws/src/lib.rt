@@ -1,0 +1,14 @@
+//! The pipes of a plan that runs with dynamic filters, as laws of lists: no code and no thread.
+//!
+//! As `pipe_laws` has them, but that a driver of a scan may have lost rows: what its filters let through is what its other
+//! operators took, and what they lost is held back by a sieve of a join above (`StandsLosing` in
+//! `specs/LosingPipes.antt`). A join is sure of its sieves: where one holds anything back, its right side is whole in all
+//! tasks, and that has no partner there. What follows is what follows of pipes that lost nothing: where all are over, the
+//! rows of the root are a list that the plan's tree allows, and where an operator failed, its node may fail so.
+//!
+//! - `laws`: what follows
+#![tactic(auto)]
+
+mod laws;
+
+pub use laws::{pipes_that_lost_rows_fail, pipes_that_lost_rows_give};

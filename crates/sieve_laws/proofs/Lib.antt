@@ -2,3 +2,8 @@ pub mod StandLemmas
 pub mod OverLemmas
 mod LaneFailLemmas
 pub mod FailLemmas
+pub mod DropLemmas
+pub mod SplitLemmas
+mod FilterOpLemmas
+pub mod SureLemmas
+pub mod ComingLemmas

@@ -1,0 +1,60 @@
+-- Where domains are known, the sieves of their join are sure.
+use Rattle.std.proofs.Common.{◌≡◌, ℕ, ◌<◌, zero, suc, List, [], ◌∷◌, ◌++◌, Bool, true, false, Option, Some, None, length, map, refl, ap, sym, subst, ◌∙◌, append-nil, append_assoc, get_or, arith, add-one}
+use Rattle.std.specs.Prelude.{◌||◌, filter}
+use Rattle.std.specs.List.{range_with_len}
+use Rattle.std.proofs.lemmas.List.FromFn.{map-range_with_len_more}
+use Rattle.sql_values.specs.declared.value.Value.{Value}
+use Rattle.sql_values.specs.Cells.{cell}
+use Rattle.operator_core.specs.Rows.{Row}
+use Rattle.relations.specs.Joins.{are_partners}
+use Rattle.bag_laws.specs.Gather.{gather}
+use Rattle.bag_laws.proofs.GatherLemmas.{gather-map}
+use Rattle.plan_runs.specs.Nets.{of_tasks}
+use Rattle.plan_runs.specs.Stops.{AllSet, StoppedPipe}
+use Rattle.dyn_filter.specs.declared.domain.Domain.{Domain}
+use Rattle.dyn_filter.specs.Cells.{AreDomainsOf, IsUnion, all_of}
+use Rattle.dyn_filter.specs.Domains.{IsDomainOf}
+use Rattle.lost_rows.specs.Sieves.{is_held}
+use Rattle.lost_rows.specs.Stops.{AreSure}
+use Rattle.lost_rows.proofs.DomainLemmas.{alone_by}
+use Rattle.lost_rows.proofs.SieveLemmas.{held_by_either}
+use Rattle.sieve_laws.specs.KnownDomains.{AreKnownOf, IsKnownOf, JoinFilter, sieve_known, sieves_of}
+
+module _ (on : List (ℕ × ℕ)) (n : ℕ) (right : StoppedPipe) where
+  one_sure : (f : JoinFilter) (known : Option Domain) → ((domain : Domain) → known ≡ Some domain → IsKnownOf on n right f domain) → AreSure on n right (sieve_known (get_or on f.pair (0, 0)).0 known)
+  one_sure f None of a held = absurd cc
+  one_sure f (Some domain) of a held =
+      let k = of domain refl in
+      (k.done, alone_by domain on f.pair (gather n (of_tasks right.drivers right.gave)) k.pair k.of a held)
+
+  pub sure : (filters : List JoinFilter) → AreKnownOf on n right filters → AreSure on n right (sieves_of on filters)
+  sure [] known a held = absurd cc
+  sure (f ∷ filters) known a held =
+      let first = sieve_known (get_or on f.pair (0, 0)).0 f.known in
+      of (is_held first a) refl (sym (held_by_either first (sieves_of on filters) a) ∙ held)
+    where
+      of : (b : Bool) → is_held (sieve_known (get_or on f.pair (0, 0)).0 f.known) a ≡ b → is_held (sieve_known (get_or on f.pair (0, 0)).0 f.known) a || is_held (sieves_of on filters) a ≡ true
+          → AllSet n right.drivers right.done × (filter (are_partners on a) (gather n (of_tasks right.drivers right.gave)) ≡ [])
+      of true is h = one_sure f f.known known.0 a is
+      of false is h = sure filters known.1 a (sym (ap (λ (b : Bool). b || is_held (sieves_of on filters) a) is) ∙ h)
+
+-- the values of all parts
+all_of-push : (lists : List (List Value)) (values : List Value) → all_of (lists ++ values ∷ []) ≡ all_of lists ++ values
+all_of-push [] values = append-nil values
+all_of-push (first ∷ lists) values = ap (λ (rest : List Value). first ++ rest) (all_of-push lists values) ∙ sym (append_assoc first (all_of lists) values)
+
+all_parts : (n : ℕ) (lists : ℕ → List Value) → all_of (map lists (range_with_len 0 n)) ≡ gather n lists
+all_parts zero lists = refl
+all_parts (suc n) lists =
+    ap (λ (m : ℕ). all_of (map lists (range_with_len 0 m))) (sym (add-one n))
+    ∙ ap all_of (map-range_with_len_more lists 0 n n (omega arith))
+    ∙ all_of-push (map lists (range_with_len 0 n)) (lists n)
+    ∙ ap (λ (values : List Value). values ++ lists n) (all_parts n lists)
+
+pub domain_of_parts : (n : ℕ) (column : ℕ) (rows : ℕ → List Row) (domains : List Domain) (domain : Domain)
+    → AreDomainsOf (map (λ (k : ℕ). map (λ (row : Row). cell row column) (rows k)) (range_with_len 0 n)) domains → IsUnion domains domain
+    → IsDomainOf (map (λ (row : Row). cell row column) (gather n rows)) domain
+domain_of_parts n column rows domains domain are union =
+    let values : ℕ → List Value = λ k. map (λ (row : Row). cell row column) (rows k) in
+    subst (λ (all : List Value). IsDomainOf all domain) (all_parts n values ∙ sym (gather-map n (λ (row : Row). cell row column) rows))
+    (union (map values (range_with_len 0 n)) are)

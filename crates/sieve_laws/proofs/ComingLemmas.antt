@@ -1,6 +1,6 @@
 -- What arrives at a scan is what comes down to it, and the sieves of a join arrive at the scans of their columns.
-use Rattle.std.proofs.Common.{◌≡◌, ◌⊎◌, inl, inr, ℕ, ◌<◌, List, [], ◌∷◌, ◌++◌, Bool, true, false, Option, Some, None, Contains, refl, ap, sym, subst, ◌∙◌, arith}
-use Rattle.std.specs.Prelude.{◌==◌, if◌then◌else◌, nat_lt}
+use Rattle.std.proofs.Common.{◌≡◌, ◌⊎◌, inl, inr, ℕ, ◌<◌, List, [], ◌∷◌, ◌++◌, Bool, true, false, Some, None, Contains, refl, ap, sym, subst, arith}
+use Rattle.std.specs.Prelude.{◌==◌, if◌then◌else◌}
 use Rattle.std.proofs.lemmas.Bool.{lt-ltb}
 use Rattle.std.proofs.lemmas.List.Elements.{Contains-append_cases, Contains-append_left, Contains-append_right, Contains-push}
 use Rattle.sql_values.specs.declared.relational.JoinKind.{JoinKind}
@@ -86,7 +86,7 @@ module _ (own due : ℕ → List Sieve) where
       of (inr there) = there
 
   come_due : (p : RunPlan) (sieves : List Sieve) → ScansApart p → AllArrive sieves p → ComeDown own due sieves p
-  come_due (plan.scan id table columns types) sieves apart all s h = subst (λ (b : Bool). Contains (if b then sieves else []) s) (same_number id) (all id (only id) s h)
+  come_due (plan.scan id table columns types) sieves apart all = λ s h. subst (λ (b : Bool). Contains (if b then sieves else []) s) (same_number id) (all id (only id) s h)
   come_due (plan.values id types rows) sieves apart all = tt
   come_due (plan.remote id output m input) sieves apart all = come_due input sieves apart all
   come_due (plan.filter id predicate input) sieves apart all = come_due input (if_calm (is_calm (types_of (tree_of_run input)) predicate) sieves) apart all

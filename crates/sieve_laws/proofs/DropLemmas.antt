@@ -1,6 +1,6 @@
 -- What filters in front of a driver's stages lose is held back, and the rest goes on to these stages.
-use Rattle.std.proofs.Common.{◌≡◌, ℕ, ◌<◌, zero, suc, ◌+◌, List, [], ◌∷◌, ◌++◌, Bool, true, false, Option, Some, None, Contains, length, get_or, refl, ap, sym, subst, ◌∙◌, append-nil, append_assoc, arith, ◌⊎◌, inl, inr}
-use Rattle.std.specs.Prelude.{sum_by, IsTrue, if◌then◌else◌}
+use Rattle.std.proofs.Common.{◌≡◌, ℕ, ◌<◌, zero, suc, List, [], ◌∷◌, ◌++◌, Bool, true, Option, Some, None, Contains, length, get_or, take, refl, ap, sym, subst, ◌∙◌, append-nil, append_assoc, arith, ◌⊎◌, inl, inr}
+use Rattle.std.specs.Prelude.{IsTrue, if◌then◌else◌}
 use Rattle.std.proofs.lemmas.List.Elements.{All-cons, All-nil, Contains-push_cases}
 use Rattle.std.proofs.lemmas.List.Sums.{sum_by-append}
 use Rattle.sql_values.specs.declared.fail.Fail.{Fail}
@@ -11,27 +11,26 @@ use Rattle.page_judges.specs.Typed.{AllFit}
 use Rattle.operator_core.specs.declared.operator.Operator.{Ghosts}
 use Rattle.operator_core.specs.Rows.{Row}
 use Rattle.operator_core.specs.Calls.{FailsNow, IsLawful}
-use Rattle.operator_core.specs.Stages.{Linked, Steps, ToldInTurn, last_finished}
+use Rattle.operator_core.specs.Stages.{FailsAfter, Linked, Steps, ToldInTurn, last_finished}
 use Rattle.operator_core.proofs.StageLemmas.{Coming-none, Steps-fails, finished-gives, finished-told}
 use Rattle.bag_laws.specs.Buckets.{Sits}
 use Rattle.bag_laws.specs.Gather.{gather}
 use Rattle.bag_laws.specs.Weights.{SameWeights}
-use Rattle.bag_laws.proofs.BagLemmas.{same-append, same-from_equal, same-from_permutation, same-refl, same-sym, same-trans}
+use Rattle.bag_laws.proofs.BagLemmas.{same-append, same-from_equal, same-refl, same-sym, same-trans}
 use Rattle.bag_laws.proofs.BucketLemmas.{sits-append, sits-head, sits-nil, sits-same, sits-tail}
 use Rattle.bag_laws.proofs.GatherLemmas.{gather-none, same-gather, same-gather_append}
 use Rattle.plan_trees.specs.Allowed.{strict}
 use Rattle.plan_runs.specs.Nets.{Lanes, of_tasks}
-use Rattle.plan_runs.specs.Stops.{AllSet, Flags, Hop, MayCome}
+use Rattle.plan_runs.specs.Stops.{AllSet, Flags, Hop}
 use Rattle.plan_runs.specs.Wholes.{longer}
 use Rattle.plan_runs.proofs.LaneLemmas.{chosen_lanes}
 use Rattle.dyn_filter.specs.declared.domain.Domain.{Domain}
-use Rattle.dyn_filter.specs.Rows.{row_passes}
-use Rattle.dyn_filter.proofs.LostLemmas.{lost_rows}
-use Rattle.lost_rows.specs.Domains.{Filtering, Losses, KeptByAll, sieve_of}
+use Rattle.lost_rows.specs.Domains.{Filtering, sieve_of}
 use Rattle.lost_rows.specs.Sieves.{Sieve, is_lost}
 use Rattle.lost_rows.proofs.DomainLemmas.{lost_by_all}
 use Rattle.sieve_laws.specs.FilterLanes.{AllDrop, AreAmong, AreFiltered, Drops, FilterNoted, IsAmong, IsFiltered}
 use Rattle.sieve_laws.proofs.OverLemmas.{fitting}
+use Rattle.sieve_laws.proofs.SplitLemmas.{fails_after}
 
 -- rows one by one, where all of them sit
 pub all_fitting : (types : List SqlType) (rows : List Row) → Sits (fits_row types) rows → AllFit types rows
@@ -116,7 +115,7 @@ module _ {S : Type 0} (g : Ghosts S) (laws : IsLawful g) (sieves : List Sieve) (
         sum_by-append h (Y ++ (b.lost ++ a.lost)) (b.held ++ a.held),
         sum_by-append h Y (b.lost ++ a.lost),
         sum_by-append h b.lost a.lost,
-        sum_by-append h b.held a.held
+        sum_by-append h b.held a.held,
       );
     };
     back = sits-append (is_lost strict sieves types) b.lost a.lost b.back a.back;
@@ -157,9 +156,12 @@ module _ {S : Type 0} (g : Ghosts S) (laws : IsLawful g) (sieves : List Sieve) (
   calm_front (f ∷ filters) (t ∷ stages) rest d X Y (M, steps, linked) node kind (suc place) s lt is fails =
       calm_front filters stages rest d.1 M Y linked node kind place s (omega (arith, lt)) is fails
 
-  pub fails_behind : (stages rest : List S) (came took : List Row) (over ended : Bool) → IsFiltered g sieves types stages came took over ended → (node : ℕ) (kind : Fail)
-      → (place : ℕ) (s : S) → place < length (stages ++ rest) → s ≡ get_or (stages ++ rest) place s → FailsNow g s node kind → (i : ℕ) × (i < length rest) × (s ≡ get_or rest i s)
-  fails_behind stages rest came took over ended f node kind place s lt is fails = calm_front f.filters stages rest f.drop came took f.linked node kind place s lt is fails
+  pub fails_behind : (stages rest : List S) (came took gave : List Row) (over ended : Bool) → IsFiltered g sieves types stages came took over ended → Linked g rest took gave → ToldInTurn g ended rest
+      → (node : ℕ) (kind : Fail) (place : ℕ) (s : S) → place < length (stages ++ rest) → s ≡ get_or (stages ++ rest) place s → FailsNow g s node kind
+      → (i : ℕ) × (i < length rest) × (s ≡ get_or rest i s) × FailsAfter g (take i rest) (g.as_made s) ended took node kind
+  fails_behind stages rest came took gave over ended f linked turns node kind place s lt is fails =
+      let at = calm_front f.filters stages rest f.drop came took f.linked node kind place s lt is fails in
+      (at.0, at.1, at.2, fails_after g rest ended took gave node kind at.0 s at.1 at.2 fails linked turns)
 
   -- the drivers of a scan's pipe
   module _ (n w : ℕ) (stages : ℕ → ℕ → List S) (came took : Lanes) (over ended : Flags) (f : AreFiltered g sieves types n w stages came took over ended) (table : List Row)

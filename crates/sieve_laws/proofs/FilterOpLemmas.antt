@@ -1,5 +1,5 @@
 -- `FilterOp` drops rows by what its note knows.
-use Rattle.std.proofs.Common.{◌≡◌, List, [], ◌++◌, Bool, true, false, Option, Some, None, refl, ap, sym, subst, ◌∙◌, append-nil}
+use Rattle.std.proofs.Common.{◌≡◌, List, [], Bool, true, false, Option, Some, None, refl, sym, subst, ◌∙◌}
 use Rattle.std.specs.Prelude.{is_some, not, ◌&&◌}
 use Rattle.operator_core.specs.Rows.{Row}
 use Rattle.operator_core.specs.Samples.{has_row}
@@ -8,7 +8,7 @@ use Rattle.dyn_filter.specs.declared.domain.Domain.{Domain}
 use Rattle.dyn_filter.specs.contracts.filter.FilterOpOperator.TheImpl.{ghosts}
 use Rattle.dyn_filter.specs.Filters.{AreKept, FilterGives, FilterState, IsKnown}
 use Rattle.dyn_filter.specs.Rows.{row_passes}
-use Rattle.sieve_laws.specs.FilterLanes.{Drops, FilterNoted}
+use Rattle.sieve_laws.specs.FilterLanes.{Drops}
 
 none_known : (known : Option Domain) → known ≡ None → is_some known ≡ false
 none_known None is = refl

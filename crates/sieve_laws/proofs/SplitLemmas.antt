@@ -1,8 +1,13 @@
 -- The operators of a driver, cut in two.
-use Rattle.std.proofs.Common.{◌≡◌, ℕ, List, [], ◌∷◌, ◌++◌, Bool, refl}
+use Rattle.std.proofs.Common.{◌≡◌, ℕ, ◌<◌, List, [], ◌∷◌, ◌++◌, Bool, length, get_or, take, refl, sym, ◌∙◌}
+use Rattle.sql_values.specs.declared.fail.Fail.{Fail}
 use Rattle.operator_core.specs.declared.operator.Operator.{Ghosts}
 use Rattle.operator_core.specs.Rows.{Row}
-use Rattle.operator_core.specs.Stages.{Linked, ToldInTurn, last_finished}
+use Rattle.operator_core.specs.Calls.{FailsNow}
+use Rattle.operator_core.specs.Stages.{FailsAfter, Linked, ToldInTurn, last_finished}
+use Rattle.operator_core.proofs.LinkLemmas.{Linked-at}
+use Rattle.operator_core.proofs.StageLemmas.{Coming-weaker, Steps-fails}
+use Rattle.operator_core.proofs.TurnLemmas.{Turns-take, giver-last, giver-told}
 
 module _ {S : Type 0} (g : Ghosts S) where
   pub linked_both : (first rest : List S) (came gave : List Row) → Linked g (first ++ rest) came gave → (took : List Row) × Linked g first came took × Linked g rest took gave
@@ -18,3 +23,16 @@ module _ {S : Type 0} (g : Ghosts S) where
   pub finished_both : (first rest : List S) (over : Bool) → last_finished g over (first ++ rest) ≡ last_finished g (last_finished g over first) rest
   finished_both [] rest over = refl
   finished_both (s ∷ first) rest over = finished_both first rest (g.is_finished s)
+
+  -- an operator that fails, whatever rows still come to it, fails after those before it
+  pub fails_after : (ss : List S) (ended : Bool) (X Y : List Row) (node : ℕ) (kind : Fail) (i : ℕ) (s : S) → i < length ss → s ≡ get_or ss i s → FailsNow g s node kind
+      → Linked g ss X Y → ToldInTurn g ended ss → FailsAfter g (take i ss) (g.as_made s) ended X node kind
+  fails_after ss ended X Y node kind i s lt is fails linked turns =
+      let a = Linked-at g ss i s X Y lt is linked in
+      record {
+        came = a.0;
+        linked = a.2;
+        told = Turns-take g ended ss i turns;
+        fails = λ Z coming. Steps-fails g s a.0 a.1 node kind a.3 fails Z
+            (Coming-weaker (last_finished g ended (take i ss)) (g.is_told s) Z (λ e. sym (giver-last g ended ss i) ∙ giver-told g ended ss i s lt is turns e) coming);
+      }

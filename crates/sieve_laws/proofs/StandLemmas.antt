@@ -1,6 +1,5 @@
 -- Pipes that stand so are a run that something stopped, whose scans lost rows.
-use Rattle.std.proofs.Common.{ℕ, List, [], ◌∷◌, ◌++◌, refl, ◌≡◌, true}
-use Rattle.std.specs.Prelude.{◌&&◌}
+use Rattle.std.proofs.Common.{ℕ, List, [], ◌++◌, refl}
 use Rattle.sql_values.specs.declared.types.SqlType.{SqlType}
 use Rattle.sql_exprs.specs.Calm.{is_calm}
 use Rattle.operator_core.specs.declared.operator.Operator.{Ghosts}
@@ -40,9 +39,15 @@ module _ {S : Type 0} (g : Ghosts S) (laws : IsLawful g) where
         (stopped input (pipes j), refl, stops_losing sieves j m input (pipes j).notes below, pipe_open g laws m input (pipes j) is, passed)
     stops_losing sieves at n (filter id predicate input) notes stands = stops_losing (if_calm (is_calm (types_of (tree_of_run input)) predicate) sieves) at n input notes stands
     stops_losing sieves at n (project id columns input) notes stands = stops_losing (over_input (passed_column (types_of (tree_of_run input)) columns) sieves) at n input notes stands
-    stops_losing sieves at n (join id kind on left right) notes (j, is, below, known, sure, fit, rest) =
-        (own id, stopped right (pipes j), stops_losing [] j n right (pipes j).notes below, pipe_open g laws n right (pipes j) is, known, sure,
-        stops_losing (over_input (left_column kind (width_of (tree_of_run left))) (own id ++ sieves)) at n left (λ k d. other_notes (notes k d)) rest)
+    stops_losing sieves at n (join id kind on left right) notes (j, is, below, known, sure, fit, rest) = (
+      own id,
+      stopped right (pipes j),
+      stops_losing [] j n right (pipes j).notes below,
+      pipe_open g laws n right (pipes j) is,
+      known,
+      sure,
+      stops_losing (over_input (left_column kind (width_of (tree_of_run left))) (own id ++ sieves)) at n left (λ k d. other_notes (notes k d)) rest,
+    )
     stops_losing sieves at n (aggregate id keys calls input) notes stands = (stands.0, stops_losing [] at n input notes stands.1)
     stops_losing sieves at n (aggregate_parts id source output m keys calls input) notes (j, half, alone, is, below, passed) =
         (stopped input (pipes j), refl, alone, stops_losing [] j m input (pipes j).notes below, half_pipe_open g laws m input (at_node half (stage.partial keys calls)) (pipes j) is, passed)

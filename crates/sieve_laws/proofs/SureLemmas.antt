@@ -1,5 +1,5 @@
 -- Where domains are known, the sieves of their join are sure.
-use Rattle.std.proofs.Common.{◌≡◌, ℕ, ◌<◌, zero, suc, List, [], ◌∷◌, ◌++◌, Bool, true, false, Option, Some, None, length, map, refl, ap, sym, subst, ◌∙◌, append-nil, append_assoc, get_or, arith, add-one}
+use Rattle.std.proofs.Common.{◌≡◌, ℕ, zero, suc, List, [], ◌∷◌, ◌++◌, Bool, true, false, Option, Some, None, map, refl, ap, sym, subst, ◌∙◌, append-nil, append_assoc, get_or, arith, add-one}
 use Rattle.std.specs.Prelude.{◌||◌, filter}
 use Rattle.std.specs.List.{range_with_len}
 use Rattle.std.proofs.lemmas.List.FromFn.{map-range_with_len_more}
@@ -14,7 +14,7 @@ use Rattle.plan_runs.specs.Stops.{AllSet, StoppedPipe}
 use Rattle.dyn_filter.specs.declared.domain.Domain.{Domain}
 use Rattle.dyn_filter.specs.Cells.{AreDomainsOf, IsUnion, all_of}
 use Rattle.dyn_filter.specs.Domains.{IsDomainOf}
-use Rattle.lost_rows.specs.Sieves.{is_held}
+use Rattle.lost_rows.specs.Sieves.{Sieve, is_held}
 use Rattle.lost_rows.specs.Stops.{AreSure}
 use Rattle.lost_rows.proofs.DomainLemmas.{alone_by}
 use Rattle.lost_rows.proofs.SieveLemmas.{held_by_either}
@@ -27,16 +27,17 @@ module _ (on : List (ℕ × ℕ)) (n : ℕ) (right : StoppedPipe) where
       let k = of domain refl in
       (k.done, alone_by domain on f.pair (gather n (of_tasks right.drivers right.gave)) k.pair k.of a held)
 
-  pub sure : (filters : List JoinFilter) → AreKnownOf on n right filters → AreSure on n right (sieves_of on filters)
-  sure [] known a held = absurd cc
-  sure (f ∷ filters) known a held =
-      let first = sieve_known (get_or on f.pair (0, 0)).0 f.known in
-      of (is_held first a) refl (sym (held_by_either first (sieves_of on filters) a) ∙ held)
+  -- what is held back by one of two lists of sieves, each of which is sure
+  both_sure : (first rest : List Sieve) → AreSure on n right first → AreSure on n right rest → AreSure on n right (first ++ rest)
+  both_sure first rest one other a held = of (is_held first a) refl (sym (held_by_either first rest a) ∙ held)
     where
-      of : (b : Bool) → is_held (sieve_known (get_or on f.pair (0, 0)).0 f.known) a ≡ b → is_held (sieve_known (get_or on f.pair (0, 0)).0 f.known) a || is_held (sieves_of on filters) a ≡ true
-          → AllSet n right.drivers right.done × (filter (are_partners on a) (gather n (of_tasks right.drivers right.gave)) ≡ [])
-      of true is h = one_sure f f.known known.0 a is
-      of false is h = sure filters known.1 a (sym (ap (λ (b : Bool). b || is_held (sieves_of on filters) a) is) ∙ h)
+      of : (b : Bool) → is_held first a ≡ b → is_held first a || is_held rest a ≡ true → AllSet n right.drivers right.done × (filter (are_partners on a) (gather n (of_tasks right.drivers right.gave)) ≡ [])
+      of true is h = one a is
+      of false is h = other a (sym (ap (λ (b : Bool). b || is_held rest a) is) ∙ h)
+
+  pub sure : (filters : List JoinFilter) → AreKnownOf on n right filters → AreSure on n right (sieves_of on filters)
+  sure [] known = λ a held. absurd cc
+  sure (f ∷ filters) known = both_sure (sieve_known (get_or on f.pair (0, 0)).0 f.known) (sieves_of on filters) (one_sure f f.known known.0) (sure filters known.1)
 
 -- the values of all parts
 all_of-push : (lists : List (List Value)) (values : List Value) → all_of (lists ++ values ∷ []) ≡ all_of lists ++ values

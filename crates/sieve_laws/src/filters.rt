@@ -1,11 +1,11 @@
 //! What filters in front of a driver's stages do.
-ghost use Rattle.std.specs.Prelude.{◌≡◌, ◌<◌, ℕ, List, ◌++◌, Bool, get_or, length};
+ghost use Rattle.std.specs.Prelude.{◌≡◌, ◌<◌, ℕ, List, ◌++◌, Bool, get_or, length, take};
 ghost use Rattle.sql_values.specs.declared.fail.Fail.{Fail};
 ghost use Rattle.sql_values.specs.declared.types.SqlType.{SqlType as Kind};
 ghost use Rattle.page_judges.specs.Typed.{AllFit};
 ghost use Rattle.operator_core.specs.Calls.{FailsNow};
 ghost use Rattle.operator_core.specs.Rows.{Row};
-ghost use Rattle.operator_core.specs.Stages.{Linked, ToldInTurn, last_finished};
+ghost use Rattle.operator_core.specs.Stages.{FailsAfter, Linked, ToldInTurn, last_finished};
 ghost use Rattle.bag_laws.specs.Buckets.{Sits};
 ghost use Rattle.bag_laws.specs.Gather.{gather};
 ghost use Rattle.plan_trees.specs.Allowed.{strict};
@@ -44,14 +44,17 @@ pub fn filtered_scans_stand<O: Operator>(table: &RowList, _of: PhantomData<O>)
     operator_core::laws::laws::<O>(PhantomData);
 }
 
-/// The law that an operator which fails is none of the filters in front.
+/// The law that an operator which fails is none of the filters in front, and fails on what came to it from those behind
+/// them.
 pub fn filters_never_fail<O: Operator>(_of: PhantomData<O>)
     ensures { (sieves : List Sieve) (types : List Kind) (stages rest : List O)
-        (came took : List Row) (over ended : Bool)
+        (came took gave : List Row) (over ended : Bool)
         → IsFiltered O.Operator sieves types stages came took over ended
+        → Linked O.Operator rest took gave → ToldInTurn O.Operator ended rest
         → (node : ℕ) (kind : Fail) (place : ℕ) (s : O) → place < length (stages ++ rest)
         → s ≡ get_or (stages ++ rest) place s → FailsNow O.Operator s node kind
-        → (i : ℕ) × (i < length rest) × (s ≡ get_or rest i s) }
+        → (i : ℕ) × (i < length rest) × (s ≡ get_or rest i s)
+        × FailsAfter O.Operator (take i rest) (O.Operator.as_made s) ended took node kind }
 {
     operator_core::laws::laws::<O>(PhantomData);
 }

@@ -13,6 +13,11 @@ mod filters;
 mod joins;
 mod laws;
 
-pub use filters::{filter_ops_drop, filtered_scans_stand, filters_let_rows_through, filters_never_fail, operators_are_cut_in_two};
-pub use joins::{arriving_sieves_come_down, known_domains_are_sure, own_sieves_arrive, parts_make_the_domain};
+pub use filters::{
+    filter_ops_drop, filtered_scans_stand, filters_let_rows_through, filters_never_fail,
+    operators_are_cut_in_two,
+};
+pub use joins::{
+    arriving_sieves_come_down, known_domains_are_sure, own_sieves_arrive, parts_make_the_domain,
+};
 pub use laws::{pipes_that_lost_rows_fail, pipes_that_lost_rows_give};

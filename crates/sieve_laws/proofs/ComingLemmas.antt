@@ -15,7 +15,9 @@ use Rattle.plan_runs.specs.RunPlans as plan
 use Rattle.lost_rows.specs.Arrivals.{arriving}
 use Rattle.lost_rows.specs.Sieves.{Sieve, if_calm, over_input}
 use Rattle.lost_rows.proofs.ArrivalLemmas.{comes_down, moved_down, nothing}
+use Rattle.lost_rows.specs.Runs.{AreTyped}
 use Rattle.sieve_laws.specs.ComingDown.{ComeDown, HasJoin, HaveApart, ScansApart, scans_of}
+use Rattle.sieve_laws.proofs.WithinLemmas.{StandBelow, calm_below, left_below, none_below, over_below, passed_below}
 
 same_number : (n : ℕ) → n == n ≡ true
 same_number n = grind arith
@@ -85,27 +87,37 @@ module _ (own due : ℕ → List Sieve) where
       of (inl there) = absurd (apart id (arrives own s id left first there) here)
       of (inr there) = there
 
-  come_due : (p : RunPlan) (sieves : List Sieve) → ScansApart p → AllArrive sieves p → ComeDown own due sieves p
-  come_due (plan.scan id table columns types) sieves apart all = λ s h. subst (λ (b : Bool). Contains (if b then sieves else []) s) (same_number id) (all id (only id) s h)
-  come_due (plan.values id types rows) sieves apart all = tt
-  come_due (plan.remote id output m input) sieves apart all = come_due input sieves apart all
-  come_due (plan.filter id predicate input) sieves apart all = come_due input (if_calm (is_calm (types_of (tree_of_run input)) predicate) sieves) apart all
-  come_due (plan.project id columns input) sieves apart all = come_due input (over_input (passed_column (types_of (tree_of_run input)) columns) sieves) apart all
-  come_due (plan.join id kind on left right) sieves apart all =
-      let down = over_input (left_column kind (width_of (tree_of_run left))) (own id ++ sieves) in
-      (come_due left down apart.0 (at_left left right down [] apart.2 all), come_due right [] apart.1 (at_right left right down [] apart.2 all))
-  come_due (plan.aggregate id keys calls input) sieves apart all = come_due input [] apart all
-  come_due (plan.aggregate_parts id source output m keys calls input) sieves apart all = come_due input [] apart all
-  come_due (plan.sort id keys input) sieves apart all = come_due input [] apart all
-  come_due (plan.topn id count keys input) sieves apart all = come_due input [] apart all
-  come_due (plan.topn_parts id source output m count keys input) sieves apart all = come_due input [] apart all
-  come_due (plan.limit id count input) sieves apart all = come_due input [] apart all
-  come_due (plan.limit_parts id source output m count input) sieves apart all = come_due input [] apart all
-  come_due (plan.union id left right) sieves apart all =
-      (come_due left [] apart.0 (at_left left right [] [] apart.2 all), come_due right [] apart.1 (at_right left right [] [] apart.2 all))
+  come_due : (p : RunPlan) (sieves : List Sieve) → AreTyped p → ScansApart p → StandBelow (width_of (tree_of_run p)) sieves → AllArrive sieves p → ComeDown own due sieves p
+  come_due (plan.scan id table columns types) sieves typed apart below all = λ s h.
+      let there = subst (λ (b : Bool). Contains (if b then sieves else []) s) (same_number id) (all id (only id) s h) in (there, below s there)
+  come_due (plan.values id types rows) sieves typed apart below all = tt
+  come_due (plan.remote id output m input) sieves typed apart below all = come_due input sieves typed apart below all
+  come_due (plan.filter id predicate input) sieves typed apart below all =
+      let calm = is_calm (types_of (tree_of_run input)) predicate in
+      come_due input (if_calm calm sieves) typed.1 apart (calm_below (width_of (tree_of_run input)) calm sieves below) all
+  come_due (plan.project id columns input) sieves typed apart below all =
+      let comes = passed_column (types_of (tree_of_run input)) columns in
+      come_due input (over_input comes sieves) typed.1 apart (over_below comes (width_of (tree_of_run input)) (passed_below (types_of (tree_of_run input)) columns typed.0) sieves) all
+  come_due (plan.join id kind on left right) sieves typed apart below all =
+      let width = width_of (tree_of_run left) in
+      let down = over_input (left_column kind width) (own id ++ sieves) in (
+        come_due left down typed.0 apart.0 (over_below (left_column kind width) width (left_below kind width) (own id ++ sieves)) (at_left left right down [] apart.2 all),
+        come_due right [] typed.1 apart.1 (none_below (width_of (tree_of_run right))) (at_right left right down [] apart.2 all),
+      )
+  come_due (plan.aggregate id keys calls input) sieves typed apart below all = come_due input [] typed apart (none_below (width_of (tree_of_run input))) all
+  come_due (plan.aggregate_parts id source output m keys calls input) sieves typed apart below all = come_due input [] typed apart (none_below (width_of (tree_of_run input))) all
+  come_due (plan.sort id keys input) sieves typed apart below all = come_due input [] typed apart (none_below (width_of (tree_of_run input))) all
+  come_due (plan.topn id count keys input) sieves typed apart below all = come_due input [] typed apart (none_below (width_of (tree_of_run input))) all
+  come_due (plan.topn_parts id source output m count keys input) sieves typed apart below all = come_due input [] typed apart (none_below (width_of (tree_of_run input))) all
+  come_due (plan.limit id count input) sieves typed apart below all = come_due input [] typed apart (none_below (width_of (tree_of_run input))) all
+  come_due (plan.limit_parts id source output m count input) sieves typed apart below all = come_due input [] typed apart (none_below (width_of (tree_of_run input))) all
+  come_due (plan.union id left right) sieves typed apart below all = (
+    come_due left [] typed.0 apart.0 (none_below (width_of (tree_of_run left))) (at_left left right [] [] apart.2 all),
+    come_due right [] typed.1 apart.1 (none_below (width_of (tree_of_run right))) (at_right left right [] [] apart.2 all),
+  )
 
-pub arriving_comes_down : (own : ℕ → List Sieve) (p : RunPlan) (sieves : List Sieve) → ScansApart p → ComeDown own (arriving own sieves p) sieves p
-arriving_comes_down own p sieves apart = come_due own (arriving own sieves p) p sieves apart (λ id here s h. h)
+pub arriving_comes_down : (own : ℕ → List Sieve) (p : RunPlan) → AreTyped p → ScansApart p → ComeDown own (arriving own [] p) [] p
+arriving_comes_down own p typed apart = come_due own (arriving own [] p) p [] typed apart (none_below (width_of (tree_of_run p))) (λ id here s h. h)
 
 inner_column : (width place : ℕ) → place < width → left_column Inner width place ≡ Some place
 inner_column width place lt = ap (λ (b : Bool). if b then Some place else None) (lt-ltb place width lt)

@@ -6,4 +6,5 @@ pub mod DropLemmas
 pub mod SplitLemmas
 mod FilterOpLemmas
 pub mod SureLemmas
+mod WithinLemmas
 pub mod ComingLemmas

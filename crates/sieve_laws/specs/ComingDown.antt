@@ -1,5 +1,5 @@
 -- Which sieves come down to each scan of a run.
-use Rattle.std.specs.Prelude.{◌≡◌, ◌⊎◌, ℕ, List, [], ◌∷◌, ◌++◌, Contains}
+use Rattle.std.specs.Prelude.{◌≡◌, ◌⊎◌, ℕ, ◌<◌, List, [], ◌∷◌, ◌++◌, Contains, length}
 use Rattle.sql_values.specs.declared.relational.JoinKind.{JoinKind}
 use Rattle.sql_exprs.specs.Calm.{is_calm}
 use Rattle.plan_trees.specs.Allowed.{width_of}
@@ -47,10 +47,11 @@ ScansApart (plan.limit id count input) = ScansApart input
 ScansApart (plan.limit_parts id source output m count input) = ScansApart input
 ScansApart (plan.union id left right) = ScansApart left × ScansApart right × HaveApart left right
 
--- the sieves that are due at each scan, by its id, are among those that come down to it as `StandsLosing` hands them down:
--- `own` has those of each join, and `sieves` come from above
+-- the sieves that are due at each scan, by its id, are among those that come down to it as `StandsLosing` hands them down,
+-- and stand at columns of it: `own` has those of each join, and `sieves` come from above
 abbrev pub ComeDown : (ℕ → List Sieve) → (ℕ → List Sieve) → List Sieve → RunPlan → Type 0
-ComeDown own due sieves (plan.scan id table columns types) = (s : Sieve) → Contains (due id) s → Contains sieves s
+ComeDown own due sieves (plan.scan id table columns types) =
+    (s : Sieve) → Contains (due id) s → Contains sieves s × (s.column < length types)
 ComeDown own due sieves (plan.values id types rows) = Unit {0}
 ComeDown own due sieves (plan.remote id output m input) = ComeDown own due sieves input
 ComeDown own due sieves (plan.filter id predicate input) =

@@ -1,5 +1,5 @@
 //! What the sieves of joins rest on, and how they come down to scans.
-ghost use Rattle.std.specs.Prelude.{◌≡◌, ◌<◌, ℕ, List, Contains, Some, map};
+ghost use Rattle.std.specs.Prelude.{◌≡◌, ◌<◌, ℕ, List, [], Contains, Some, map};
 ghost use Rattle.std.specs.List.{range_with_len};
 ghost use Rattle.sql_values.specs.declared.relational.JoinKind.TheVariants.{Inner};
 ghost use Rattle.sql_values.specs.Cells.{cell};
@@ -14,6 +14,7 @@ ghost use Rattle.dyn_filter.specs.declared.domain.Domain.{Domain};
 ghost use Rattle.dyn_filter.specs.Cells.{AreDomainsOf, IsUnion};
 ghost use Rattle.dyn_filter.specs.Domains.{IsDomainOf};
 ghost use Rattle.lost_rows.specs.Arrivals.{arriving};
+ghost use Rattle.lost_rows.specs.Runs.{AreTyped};
 ghost use Rattle.lost_rows.specs.Sieves.{Sieve};
 ghost use Rattle.lost_rows.specs.Stops.{AreSure};
 ghost use Rattle.sieve_laws.specs.ComingDown.{ComeDown, HasJoin, ScansApart};
@@ -45,8 +46,9 @@ pub fn own_sieves_arrive()
         (record { column = o.column; pass = s.pass }) }
 {}
 
-/// The law that where no two scans have one id, what arrives at a scan by its id is what comes down to it.
+/// The law that where no two scans have one id, what arrives at a scan by its id is what comes down to it, and stands at
+/// columns of it.
 pub fn arriving_sieves_come_down()
-    ensures { (own : ℕ → List Sieve) (run : RunPlan) (sieves : List Sieve) → ScansApart run
-        → ComeDown own (arriving own sieves run) sieves run }
+    ensures { (own : ℕ → List Sieve) (run : RunPlan) → AreTyped run → ScansApart run
+        → ComeDown own (arriving own [] run) [] run }
 {}

@@ -8,3 +8,4 @@ mod FilterOpLemmas
 pub mod SureLemmas
 mod WithinLemmas
 pub mod ComingLemmas
+mod PlainLemmas

@@ -6,7 +6,13 @@
 //! tasks, and that has no partner there. What follows is what follows of pipes that lost nothing: where all are over, the
 //! rows of the root are a list that the plan's tree allows, and where an operator failed, its node may fail so.
 //!
-//! - `laws`: what follows
+//! From the bottom:
+//!
+//! - `filters`: the first operators of a driver may be filters (`specs/FilterLanes.antt`). What they let through is what the
+//!   others took, and what they lost is held back by the sieves of the domains that they know
+//! - `joins`: a join is sure of the sieves of the domains that are known of its right side (`specs/KnownDomains.antt`), and
+//!   they come down to the scans from which their columns come (`specs/ComingDown.antt`)
+//! - `laws`: what follows for all pipes of a run
 #![tactic(auto)]
 
 mod filters;
@@ -20,4 +26,6 @@ pub use filters::{
 pub use joins::{
     arriving_sieves_come_down, known_domains_are_sure, own_sieves_arrive, parts_make_the_domain,
 };
-pub use laws::{pipes_that_lost_rows_fail, pipes_that_lost_rows_give};
+pub use laws::{
+    pipes_that_lost_nothing_stand, pipes_that_lost_rows_fail, pipes_that_lost_rows_give,
+};

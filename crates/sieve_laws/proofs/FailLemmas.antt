@@ -20,27 +20,27 @@ use Rattle.sieve_laws.specs.LosingPipes.{IsBelowLosing, StandsLosing}
 use Rattle.sieve_laws.proofs.LaneFailLemmas.{losing_halves_failed, losing_lanes_failed}
 use Rattle.sieve_laws.proofs.StandLemmas.{stops_losing}
 
-module _ {S : Type 0} (g : Ghosts S) (laws : IsLawful g) (pipes : ℕ → PipeState S) (lost : ℕ → Lanes) (own : ℕ → List Sieve) (tables : Tables) (node : ℕ) (kind : Fail) where
+module _ {S : Type 0} (g : Ghosts S) (laws : IsLawful g) (pipes : ℕ → PipeState S) (own : ℕ → List Sieve) (tables : Tables) (node : ℕ) (kind : Fail) where
   -- the pipe at a place failed, below which the others stand
   abbrev FailedAt : ℕ → ℕ → RunPlan → Type 0
   FailedAt at n run = FailedLosing tables n (pipes at).drivers run (notes_of_lanes run (pipes at).notes) (pipes at).took (pipes at).ended node kind
 
-  pub pipe_failed : (sieves : List Sieve) (at n : ℕ) (run : RunPlan) → IsPipeOf g n run (pipes at) → StandsLosing g pipes lost own tables sieves at n run (pipes at).notes → HasFailing g (pipes at) node kind → FailedAt at n run
+  pub pipe_failed : (sieves : List Sieve) (at n : ℕ) (run : RunPlan) → IsPipeOf g n run (pipes at) → StandsLosing g pipes own tables sieves at n run (pipes at).notes → HasFailing g (pipes at) node kind → FailedAt at n run
   pipe_failed sieves at n run is stands f =
       losing_lanes_failed g laws tables n (pipes at).drivers (pipes at).took (pipes at).ended node kind f.task f.driver (subst (λ (m : ℕ). f.task < m) is.tasks f.in_tasks) f.in_drivers f.place f.operator
-      sieves run (pipes at).notes (pipes at).stages (pipes at).gave (pipes at).done is.lanes (stops_losing g laws pipes lost own tables sieves at n run (pipes at).notes stands) f.there f.is f.fails
+      sieves run (pipes at).notes (pipes at).stages (pipes at).gave (pipes at).done is.lanes (stops_losing g laws pipes own tables sieves at n run (pipes at).notes stands) f.there f.is f.fails
 
-  half_pipe_failed : (sieves : List Sieve) (at n : ℕ) (run : RunPlan) (half : NodeStage) → NeverFails half.stage → IsHalfPipeOf g n run half (pipes at) → StandsLosing g pipes lost own tables sieves at n run (pipes at).notes
+  half_pipe_failed : (sieves : List Sieve) (at n : ℕ) (run : RunPlan) (half : NodeStage) → NeverFails half.stage → IsHalfPipeOf g n run half (pipes at) → StandsLosing g pipes own tables sieves at n run (pipes at).notes
       → HasFailing g (pipes at) node kind → FailedAt at n run
   half_pipe_failed sieves at n run half never is stands f =
       losing_halves_failed g laws tables n (pipes at).drivers (pipes at).took (pipes at).ended node kind f.task f.driver (subst (λ (m : ℕ). f.task < m) is.tasks f.in_tasks) f.in_drivers f.place f.operator
-      sieves run (pipes at).notes half (pipes at).stages (pipes at).gave (pipes at).done never is.halves (stops_losing g laws pipes lost own tables sieves at n run (pipes at).notes stands) f.there f.is f.fails
+      sieves run (pipes at).notes half (pipes at).stages (pipes at).gave (pipes at).done never is.halves (stops_losing g laws pipes own tables sieves at n run (pipes at).notes stands) f.there f.is f.fails
 
   module _ (place : ℕ) (f : HasFailing g (pipes place) node kind) where
     here : (j : ℕ) → place ≡ j → HasFailing g (pipes j) node kind
     here j same = subst (λ (i : ℕ). HasFailing g (pipes i) node kind) same f
 
-    pub below_failed : (sieves : List Sieve) (at n : ℕ) (run : RunPlan) (notes : ℕ → ℕ → Noted) (stands : StandsLosing g pipes lost own tables sieves at n run notes) → IsBelowLosing g pipes lost own tables sieves place at n run notes stands
+    pub below_failed : (sieves : List Sieve) (at n : ℕ) (run : RunPlan) (notes : ℕ → ℕ → Noted) (stands : StandsLosing g pipes own tables sieves at n run notes) → IsBelowLosing g pipes own tables sieves place at n run notes stands
         → FailedLosing tables n (pipes at).drivers run (notes_of_lanes run notes) (pipes at).took (pipes at).ended node kind
     below_failed sieves at n (scan id table columns types) notes stands is = absurd is
     below_failed sieves at n (values id types rows) notes stands is = absurd is
@@ -76,7 +76,7 @@ module _ {S : Type 0} (g : Ghosts S) (laws : IsLawful g) (pipes : ℕ → PipeSt
     below_failed sieves at n (union id left right) notes (i, j, first, left_below, second, right_below, passed) (inr (inr is)) =
         (stopped right (pipes j), inr (below_failed [] j n right (pipes j).notes right_below is))
 
-    pub failed_in : (sieves : List Sieve) (root n : ℕ) (run : RunPlan) → IsPipeOf g n run (pipes root) → (stands : StandsLosing g pipes lost own tables sieves root n run (pipes root).notes)
-        → (place ≡ root) ⊎ IsBelowLosing g pipes lost own tables sieves place root n run (pipes root).notes stands → FailedAt root n run
+    pub failed_in : (sieves : List Sieve) (root n : ℕ) (run : RunPlan) → IsPipeOf g n run (pipes root) → (stands : StandsLosing g pipes own tables sieves root n run (pipes root).notes)
+        → (place ≡ root) ⊎ IsBelowLosing g pipes own tables sieves place root n run (pipes root).notes stands → FailedAt root n run
     failed_in sieves root n run is stands (inl same) = pipe_failed sieves root n run is stands (here root same)
     failed_in sieves root n run is stands (inr below) = below_failed sieves root n run (pipes root).notes stands below

@@ -57,7 +57,7 @@ sits-gather : (test : Row → Bool) (n : ℕ) (lists : ℕ → List Row) → ((k
 sits-gather test zero lists each = sits-nil test
 sits-gather test (suc n) lists each = sits-append test (gather n lists) (lists n) (sits-gather test n lists (λ k lt. each k (omega (arith, lt)))) (each n (omega arith))
 
-module _ {S : Type 0} (g : Ghosts S) (laws : IsLawful g) (pipes : ℕ → PipeState S) (lost : ℕ → Lanes) (own : ℕ → List Sieve) (tables : Tables) (over : AreOver pipes) where
+module _ {S : Type 0} (g : Ghosts S) (laws : IsLawful g) (pipes : ℕ → PipeState S) (own : ℕ → List Sieve) (tables : Tables) (over : AreOver pipes) where
   -- what the joins along the left sides built, and that all pipes below took and gave all
   record IsWhole (sieves : List Sieve) (at n : ℕ) (run : RunPlan) (notes : ℕ → ℕ → Noted) : Type 0 where
     builds : List TaskRows
@@ -89,10 +89,10 @@ module _ {S : Type 0} (g : Ghosts S) (laws : IsLawful g) (pipes : ℕ → PipeSt
       → IsWhole sieves at n run notes
   leaf sieves at n run notes none below = record { builds = []; below = below; agree = λ k d lt less has. none_agree (notes k d) [] (none (notes k d) has) }
 
-  whole : (sieves : List Sieve) (at n : ℕ) → (pipes at).tasks ≡ n → (run : RunPlan) (notes : ℕ → ℕ → Noted) → StandsLosing g pipes lost own tables sieves at n run notes
+  whole : (sieves : List Sieve) (at n : ℕ) → (pipes at).tasks ≡ n → (run : RunPlan) (notes : ℕ → ℕ → Noted) → StandsLosing g pipes own tables sieves at n run notes
       → IsWhole sieves at n run notes
   whole sieves at n is (scan id table columns types) notes stands =
-      leaf sieves at n (scan id table columns types) notes (λ ns none. none) (lost at, same-sym (hop_over stands.0 (all_ended at n is)), stands.1)
+      leaf sieves at n (scan id table columns types) notes (λ ns none. none) (stands.0, same-sym (hop_over stands.1 (all_ended at n is)), stands.2)
   whole sieves at n is (values id types rows) notes stands =
       leaf sieves at n (values id types rows) notes (λ ns none. none) (λ k lt. same-sym (hop_over (stands k lt) (λ d less. all_ended at n is k d lt less)))
   whole sieves at n is (remote id output m input) notes (j, pipe, below, passed) =
@@ -178,7 +178,7 @@ module _ {S : Type 0} (g : Ghosts S) (laws : IsLawful g) (pipes : ℕ → PipeSt
     pub below : BelowLosing strict tables [] 1 (pipes root).drivers run builds (pipes root).took
     pub went : Went strict 1 (pipes root).drivers run builds (pipes root).took (pipes root).gave
 
-  pub gave_root : (root : ℕ) (run : RunPlan) → IsPipeOf g 1 run (pipes root) → StandsLosing g pipes lost own tables [] root 1 run (pipes root).notes → GaveRoot root run
+  pub gave_root : (root : ℕ) (run : RunPlan) → IsPipeOf g 1 run (pipes root) → StandsLosing g pipes own tables [] root 1 run (pipes root).notes → GaveRoot root run
   gave_root root run is stands =
       let w = whole [] root 1 is.tasks run (pipes root).notes stands in
       record { builds = w.builds; below = w.below; went = pipe_went [] root 1 run is w }

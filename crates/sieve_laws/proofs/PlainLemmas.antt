@@ -1,5 +1,5 @@
 -- Pipes that lost nothing stand as those do that may have lost rows.
-use Rattle.std.proofs.Common.{◌≡◌, ℕ, ◌<◌, List, [], ◌++◌, sym, subst, ◌∙◌, ap, append-nil}
+use Rattle.std.proofs.Common.{◌≡◌, ℕ, List, [], sym, subst, append-nil}
 use Rattle.sql_exprs.specs.Calm.{is_calm}
 use Rattle.operator_core.specs.declared.operator.Operator.{Ghosts}
 use Rattle.operator_core.specs.Rows.{Row}
@@ -27,8 +27,9 @@ with_none n w took =
 module _ {S : Type 0} (g : Ghosts S) (pipes : ℕ → PipeState S) (tables : Tables)
     (typed : (n : ℕ) (run : RunPlan) (j : ℕ) → IsPipeOf g n run (pipes j) → GaveTyped (types_of (tree_of_run run)) n (pipes j)) where
   pub lost_nothing : (sieves : List Sieve) (at n : ℕ) (run : RunPlan) (notes : ℕ → ℕ → Noted) → Stands g pipes tables at n run notes
-      → StandsLosing g pipes (λ at k d. []) (λ id. []) tables sieves at n run notes
+      → StandsLosing g pipes (λ id. []) tables sieves at n run notes
   lost_nothing sieves at n (scan id table columns types) notes stands = (
+    λ k d. [],
     subst (λ (rows : List Row). Hop (scanned tables table columns) rows (AllSet n (pipes at).drivers (pipes at).ended) (Unit {0})) (with_none n (pipes at).drivers (pipes at).took) stands,
     λ k d lt less. sits-nil (is_lost strict sieves types),
   )

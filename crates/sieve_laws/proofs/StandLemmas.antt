@@ -29,11 +29,11 @@ held_anyway sieves types rows held =
     sits-weaker (is_lost strict sieves types) (is_lost skipping sieves types) (λ row may. and_second (fits_in strict types row) (is_held sieves row) may) rows held
 
 module _ {S : Type 0} (g : Ghosts S) (laws : IsLawful g) where
-  module _ (pipes : ℕ → PipeState S) (lost : ℕ → Lanes) (own : ℕ → List Sieve) (tables : Tables) where
-    pub stops_losing : (sieves : List Sieve) (at n : ℕ) (run : RunPlan) (notes : ℕ → ℕ → Noted) → StandsLosing g pipes lost own tables sieves at n run notes
+  module _ (pipes : ℕ → PipeState S) (own : ℕ → List Sieve) (tables : Tables) where
+    pub stops_losing : (sieves : List Sieve) (at n : ℕ) (run : RunPlan) (notes : ℕ → ℕ → Noted) → StandsLosing g pipes own tables sieves at n run notes
         → StopsLosing tables sieves n (pipes at).drivers run (notes_of_lanes run notes) (pipes at).took (pipes at).ended
     stops_losing sieves at n (scan id table columns types) notes stands =
-        (refl, lost at, stands.0, λ k d lt less. held_anyway sieves types (lost at k d) (stands.1 k d lt less))
+        (refl, stands.0, stands.1, λ k d lt less. held_anyway sieves types (stands.0 k d) (stands.2 k d lt less))
     stops_losing sieves at n (values id types rows) notes stands = (refl, stands)
     stops_losing sieves at n (remote id output m input) notes (j, is, below, passed) =
         (stopped input (pipes j), refl, stops_losing sieves j m input (pipes j).notes below, pipe_open g laws m input (pipes j) is, passed)

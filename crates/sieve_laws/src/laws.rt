@@ -5,7 +5,6 @@ ghost use Rattle.plan_trees.specs.Allowed.{Gives, strict};
 ghost use Rattle.plan_trees.specs.Stopped.{MayFail};
 ghost use Rattle.plan_trees.specs.TreeTypes.{types_of};
 ghost use Rattle.plan_trees.specs.Widths.{FitsWidths};
-ghost use Rattle.plan_runs.specs.Nets.{Lanes};
 ghost use Rattle.plan_runs.specs.Placements.{Placed};
 ghost use Rattle.plan_runs.specs.RunPlans.{RunPlan, tree_of_run};
 ghost use Rattle.plan_runs.specs.Spreads.{whole};
@@ -23,9 +22,9 @@ use std::marker::PhantomData;
 /// where scans lost rows that sieves of joins above hold back.
 pub fn pipes_that_lost_rows_give<O: Operator>(tables: &[RowList], _of: PhantomData<O>)
     ensures { (run : RunPlan) → AreTyped run → FitsWidths (tree_of_run run) → Placed 1 run whole
-        → (pipes : ℕ → PipeState O) (lost : ℕ → Lanes) (own : ℕ → List Sieve) (root : ℕ)
+        → (pipes : ℕ → PipeState O) (own : ℕ → List Sieve) (root : ℕ)
         → IsPipeOf O.Operator 1 run (pipes root) → (pipes root).drivers ≡ 1
-        → StandsLosing O.Operator pipes lost own tables.now [] root 1 run (pipes root).notes
+        → StandsLosing O.Operator pipes own tables.now [] root 1 run (pipes root).notes
         → AreOver pipes → Gives strict (tree_of_run run) tables.now ((pipes root).gave 0 0) }
 {
     operator_core::laws::laws::<O>(PhantomData);
@@ -35,11 +34,11 @@ pub fn pipes_that_lost_rows_give<O: Operator>(tables: &[RowList], _of: PhantomDa
 /// scans lost such rows.
 pub fn pipes_that_lost_rows_fail<O: Operator>(tables: &[RowList], _of: PhantomData<O>)
     ensures { (run : RunPlan) → AreTyped run → FitsWidths (tree_of_run run) → Placed 1 run whole
-        → (pipes : ℕ → PipeState O) (lost : ℕ → Lanes) (own : ℕ → List Sieve) (root : ℕ)
+        → (pipes : ℕ → PipeState O) (own : ℕ → List Sieve) (root : ℕ)
         → IsPipeOf O.Operator 1 run (pipes root) → (pipes root).drivers ≡ 1
-        → (stands : StandsLosing O.Operator pipes lost own tables.now [] root 1 run (pipes root).notes)
+        → (stands : StandsLosing O.Operator pipes own tables.now [] root 1 run (pipes root).notes)
         → (node : ℕ) (kind : Fail) (place : ℕ) → HasFailing O.Operator (pipes place) node kind
-        → (place ≡ root) ⊎ IsBelowLosing O.Operator pipes lost own tables.now [] place root 1 run
+        → (place ≡ root) ⊎ IsBelowLosing O.Operator pipes own tables.now [] place root 1 run
         (pipes root).notes stands
         → MayFail (tree_of_run run) tables.now node kind }
 {
@@ -52,5 +51,5 @@ pub fn pipes_that_lost_nothing_stand<O: Operator>(tables: &[RowList], _of: Phant
         → IsPipeOf O.Operator n run (pipes j) → GaveTyped (types_of (tree_of_run run)) n (pipes j))
         → (at n : ℕ) (run : RunPlan) (notes : ℕ → ℕ → Noted)
         → Stands O.Operator pipes tables.now at n run notes
-        → StandsLosing O.Operator pipes (λ _ _ _. []) (λ _. []) tables.now [] at n run notes }
+        → StandsLosing O.Operator pipes (λ _. []) tables.now [] at n run notes }
 {}

@@ -9,9 +9,9 @@ use Rattle.sieve_laws.proofs.OverLemmas.{gave_root}
 use Rattle.sieve_laws.proofs.laws.pipes_that_lost_rows_give.Goals as goal
 
 pub returns : goal.returns
-returns g c = λ run typed fits placed pipes lost own root is one stands over.
+returns g c = λ run typed fits placed pipes own root is one stands over.
     let tables = c.args.tables.now in
-    let gave = gave_root g.O.Operator c.laws.ensures pipes lost own tables over root run is stands in
+    let gave = gave_root g.O.Operator c.laws.ensures pipes own tables over root run is stands in
     let took = (pipes root).took in
     let below = subst (λ (w : ℕ). BelowLosing strict tables [] 1 w run gave.builds took) one gave.below in
     let went = subst (λ (w : ℕ). Went strict 1 w run gave.builds took (pipes root).gave) one gave.went in

@@ -9,3 +9,4 @@ pub mod SureLemmas
 mod WithinLemmas
 pub mod ComingLemmas
 mod PlainLemmas
+mod WorkedPipes

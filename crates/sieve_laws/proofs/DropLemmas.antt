@@ -59,7 +59,7 @@ module _ {S : Type 0} (g : Ghosts S) (laws : IsLawful g) (sieves : List Sieve) (
       let some = laws.some_rows s [] (Coming-none (g.is_told s)) in
       let gives = subst (λ (x : List Row). g.may_give (g.as_made s) x (Y ++ some.0)) (append-nil X) (steps.gives [] some.0 (Coming-none (g.is_told s)) some.1) in
       let one : Filtering = record { column = f.column; domain = domain } in
-      let l = lost_by_all strict sieves types (one ∷ []) (λ h is. subst (λ (o : Filtering). Contains sieves (sieve_of o) × (o.column < length types)) (only_one one h is) (among.sieve domain known, among.within))
+      let l = lost_by_all strict sieves types (one ∷ []) (λ h is. subst (λ (o : Filtering). Contains sieves (sieve_of o) × (o.column < length types)) (only_one one h is) (among domain known))
       (Y ++ some.0) X fit (Y ++ some.0, d.drops domain known X (Y ++ some.0) gives, refl) in
       record {
         lost = l.lost;

@@ -1,7 +1,8 @@
 -- Where domains are known, the sieves of their join are sure.
-use Rattle.std.proofs.Common.{◌≡◌, ℕ, zero, suc, List, [], ◌∷◌, ◌++◌, Bool, true, false, Option, Some, None, map, refl, ap, sym, subst, ◌∙◌, append-nil, append_assoc, get_or, arith, add-one}
+use Rattle.std.proofs.Common.{◌≡◌, ℕ, zero, suc, List, [], ◌∷◌, ◌++◌, Bool, true, false, Option, Some, None, map, refl, ap, sym, subst, ◌∙◌, append-nil, append_assoc, get_or, arith, add-one, Contains, ◌⊎◌, inl, inr}
 use Rattle.std.specs.Prelude.{◌||◌, filter}
 use Rattle.std.specs.List.{range_with_len}
+use Rattle.std.proofs.lemmas.List.Elements.{Contains-append_cases, Contains-append_left, Contains-append_right, Contains-push, Contains-push_cases}
 use Rattle.std.proofs.lemmas.List.FromFn.{map-range_with_len_more}
 use Rattle.sql_values.specs.declared.value.Value.{Value}
 use Rattle.sql_values.specs.Cells.{cell}
@@ -14,6 +15,7 @@ use Rattle.plan_runs.specs.Stops.{AllSet, StoppedPipe}
 use Rattle.dyn_filter.specs.declared.domain.Domain.{Domain}
 use Rattle.dyn_filter.specs.Cells.{AreDomainsOf, IsUnion, all_of}
 use Rattle.dyn_filter.specs.Domains.{IsDomainOf}
+use Rattle.lost_rows.specs.Domains.{sieve_of}
 use Rattle.lost_rows.specs.Sieves.{Sieve, is_held}
 use Rattle.lost_rows.specs.Stops.{AreSure}
 use Rattle.lost_rows.proofs.DomainLemmas.{alone_by}
@@ -59,3 +61,25 @@ domain_of_parts n column rows domains domain are union =
     let values : ℕ → List Value = λ k. map (λ (row : Row). cell row column) (rows k) in
     subst (λ (all : List Value). IsDomainOf all domain) (all_parts n values ∙ sym (gather-map n (λ (row : Row). cell row column) rows))
     (union (map values (range_with_len 0 n)) are)
+
+-- a domain that is known has its sieve
+abbrev Known : JoinFilter → Domain → List (ℕ × ℕ) → Sieve
+Known f domain on = sieve_of (record { column = (get_or on f.pair (0, 0)).0; domain = domain })
+
+first_known : (on : List (ℕ × ℕ)) (f : JoinFilter) (domain : Domain) → f.known ≡ Some domain → Contains (sieve_known (get_or on f.pair (0, 0)).0 f.known) (Known f domain on)
+first_known on f domain is = subst (λ (known : Option Domain). Contains (sieve_known (get_or on f.pair (0, 0)).0 known) (Known f domain on)) (sym is) (Contains-push [] (Known f domain on))
+
+pub has_sieve : (on : List (ℕ × ℕ)) (filters : List JoinFilter) (f : JoinFilter) → Contains filters f → (domain : Domain) → f.known ≡ Some domain
+    → Contains (sieves_of on filters) (sieve_of (record { column = (get_or on f.pair (0, 0)).0; domain = domain }))
+has_sieve on [] f (i, lt, there) domain is = absurd (omega (arith, lt))
+has_sieve on (g ∷ filters) f h domain is = of (Contains-append_cases (g ∷ []) filters f h) (λ later. has_sieve on filters f later domain is)
+  where
+    alone : Contains [] f ⊎ (g ≡ f) → g ≡ f
+    alone (inl (i, lt, there)) = absurd (omega (arith, lt))
+    alone (inr same) = same
+
+    of : Contains (g ∷ []) f ⊎ Contains filters f → (Contains filters f → Contains (sieves_of on filters) (Known f domain on)) → Contains (sieves_of on (g ∷ filters)) (Known f domain on)
+    of (inl one) down =
+        Contains-append_left (sieve_known (get_or on g.pair (0, 0)).0 g.known) (sieves_of on filters) (Known f domain on)
+        (subst (λ (u : JoinFilter). Contains (sieve_known (get_or on u.pair (0, 0)).0 u.known) (Known f domain on)) (sym (alone (Contains-push_cases [] g f one))) (first_known on f domain is))
+    of (inr later) down = Contains-append_right (sieve_known (get_or on g.pair (0, 0)).0 g.known) (sieves_of on filters) (Known f domain on) (down later)

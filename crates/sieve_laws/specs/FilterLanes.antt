@@ -34,10 +34,10 @@ AllDrop g [] [] = Unit {0}
 AllDrop g (f ∷ filters) (s ∷ stages) = Drops g f s × AllDrop g filters stages
 AllDrop g filters stages = ⊥
 
--- the sieves have one for each domain that is known, and the filters' columns are among those of the rows
-pub record IsAmong (sieves : List Sieve) (types : List SqlType) (f : FilterNoted) : Type 0 where
-  pub sieve : (domain : Domain) → f.known ≡ Some domain → Contains sieves (sieve_of (record { column = f.column; domain = domain }))
-  pub within : f.column < length types
+-- where the filter knows a domain, its sieve is one of these, and stands at a column of the rows
+abbrev pub IsAmong : List Sieve → List SqlType → FilterNoted → Type 0
+IsAmong sieves types f =
+    (domain : Domain) → f.known ≡ Some domain → Contains sieves (sieve_of (record { column = f.column; domain = domain })) × (f.column < length types)
 
 abbrev pub AreAmong : List Sieve → List SqlType → List FilterNoted → Type 0
 AreAmong sieves types [] = Unit {0}

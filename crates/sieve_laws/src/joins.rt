@@ -1,5 +1,5 @@
 //! What the sieves of joins rest on, and how they come down to scans.
-ghost use Rattle.std.specs.Prelude.{◌≡◌, ◌<◌, ℕ, List, [], Contains, Some, map};
+ghost use Rattle.std.specs.Prelude.{◌≡◌, ◌<◌, ℕ, List, [], Contains, Some, get_or, map};
 ghost use Rattle.std.specs.List.{range_with_len};
 ghost use Rattle.sql_values.specs.declared.relational.JoinKind.TheVariants.{Inner};
 ghost use Rattle.sql_values.specs.Cells.{cell};
@@ -14,6 +14,7 @@ ghost use Rattle.dyn_filter.specs.declared.domain.Domain.{Domain};
 ghost use Rattle.dyn_filter.specs.Cells.{AreDomainsOf, IsUnion};
 ghost use Rattle.dyn_filter.specs.Domains.{IsDomainOf};
 ghost use Rattle.lost_rows.specs.Arrivals.{arriving};
+ghost use Rattle.lost_rows.specs.Domains.{sieve_of};
 ghost use Rattle.lost_rows.specs.Runs.{AreTyped};
 ghost use Rattle.lost_rows.specs.Sieves.{Sieve};
 ghost use Rattle.lost_rows.specs.Stops.{AreSure};
@@ -44,6 +45,18 @@ pub fn own_sieves_arrive()
         → (run : RunPlan) (sieves : List Sieve) → HasJoin run at Inner side
         → Contains (arriving own sieves run o.scan)
         (record { column = o.column; pass = s.pass }) }
+{}
+
+/// The law that so does the sieve of each domain that is known of a filter of the join.
+pub fn known_domains_arrive()
+    ensures { (own : ℕ → List Sieve) (at : ℕ) (on : List (ℕ × ℕ)) (filters : List JoinFilter)
+        → own at ≡ sieves_of on filters → (f : JoinFilter) → Contains filters f
+        → (domain : Domain) → f.known ≡ Some domain
+        → (side : RunPlan) → (get_or on f.pair (0, 0)).0 < width_of (tree_of_run side)
+        → (o : Origin) → origin_of (tree_of_run side) (get_or on f.pair (0, 0)).0 ≡ Some o
+        → (run : RunPlan) (sieves : List Sieve) → HasJoin run at Inner side
+        → Contains (arriving own sieves run o.scan)
+        (sieve_of (record { column = o.column; domain = domain })) }
 {}
 
 /// The law that where no two scans have one id, what arrives at a scan by its id is what comes down to it, and stands at

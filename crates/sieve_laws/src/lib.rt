@@ -24,7 +24,8 @@ pub use filters::{
     operators_are_cut_in_two,
 };
 pub use joins::{
-    arriving_sieves_come_down, known_domains_are_sure, own_sieves_arrive, parts_make_the_domain,
+    arriving_sieves_come_down, known_domains_are_sure, known_domains_arrive, own_sieves_arrive,
+    parts_make_the_domain,
 };
 pub use laws::{
     pipes_that_lost_nothing_stand, pipes_that_lost_rows_fail, pipes_that_lost_rows_give,

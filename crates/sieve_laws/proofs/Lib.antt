@@ -10,3 +10,4 @@ mod WithinLemmas
 pub mod ComingLemmas
 mod PlainLemmas
 mod WorkedPipes
+mod TypedLemmas

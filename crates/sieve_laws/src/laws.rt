@@ -8,6 +8,7 @@ ghost use Rattle.plan_trees.specs.Widths.{FitsWidths};
 ghost use Rattle.plan_runs.specs.Placements.{Placed};
 ghost use Rattle.plan_runs.specs.RunPlans.{RunPlan, tree_of_run};
 ghost use Rattle.plan_runs.specs.Spreads.{whole};
+ghost use Rattle.tree_evaluator.specs.Fits.{FitsTables};
 ghost use Rattle.lane_laws.specs.Lanes.{Noted};
 ghost use Rattle.pipe_laws.specs.Pipes.{AreOver, HasFailing, IsPipeOf, PipeState, Stands};
 ghost use Rattle.lost_rows.specs.Runs.{AreTyped};
@@ -52,4 +53,9 @@ pub fn pipes_that_lost_nothing_stand<O: Operator>(tables: &[RowList], _of: Phant
         → (at n : ℕ) (run : RunPlan) (notes : ℕ → ℕ → Noted)
         → Stands O.Operator pipes tables.now at n run notes
         → StandsLosing O.Operator pipes (λ _. []) tables.now [] at n run notes }
+{}
+
+/// The law that a run whose tree fits tables has typed expressions, as the laws here ask.
+pub fn fitting_runs_are_typed(tables: &[RowList])
+    ensures { (run : RunPlan) → FitsTables (tree_of_run run) tables.now → AreTyped run }
 {}

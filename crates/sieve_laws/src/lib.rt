@@ -28,5 +28,6 @@ pub use joins::{
     parts_make_the_domain,
 };
 pub use laws::{
-    pipes_that_lost_nothing_stand, pipes_that_lost_rows_fail, pipes_that_lost_rows_give,
+    fitting_runs_are_typed, pipes_that_lost_nothing_stand, pipes_that_lost_rows_fail,
+    pipes_that_lost_rows_give,
 };

@@ -1,0 +1,56 @@
+-- A sieve that came down stands at a column of the rows there.
+use Rattle.std.proofs.Common.{◌≡◌, ◌⊎◌, inl, inr, ℕ, ◌<◌, zero, suc, List, [], ◌∷◌, Bool, true, false, Option, Some, None, Contains, length, refl, subst}
+use Rattle.std.specs.Prelude.{Ok, slice_get}
+use Rattle.std.specs.Option.{ok_or}
+use Rattle.std.proofs.lemmas.Option.{slice_get_within}
+use Rattle.sql_values.specs.declared.types.SqlType.{SqlType}
+use Rattle.sql_values.specs.declared.relational.JoinKind.{JoinKind}
+use Rattle.sql_exprs.specs.Forms.{Form, column}
+use Rattle.sql_exprs.specs.Typing.{Path}
+use Rattle.page_judges.specs.Typed.{AllTyped, IsTyped}
+use Rattle.column_origins.specs.Origins.{left_column, passed_column}
+use Rattle.lost_rows.specs.Sieves.{Sieve, if_calm, over_input, sieve_at}
+use Rattle.lost_rows.proofs.ArrivalLemmas.{first_or_later, nothing}
+use Rattle.lost_rows.proofs.SieveLemmas.{left_place, passed}
+
+-- they stand at columns below a number
+abbrev pub StandBelow : ℕ → List Sieve → Type 0
+StandBelow width sieves = (s : Sieve) → Contains sieves s → s.column < width
+
+pub none_below : (width : ℕ) → StandBelow width []
+none_below width s h = absurd (nothing s h)
+
+pub calm_below : (width : ℕ) (calm : Bool) (sieves : List Sieve) → StandBelow width sieves → StandBelow width (if_calm calm sieves)
+calm_below width true sieves below = below
+calm_below width false sieves below = none_below width
+
+module _ (comes : ℕ → Option ℕ) (width : ℕ) (within : (place c : ℕ) → comes place ≡ Some c → c < width) where
+  one_below : (t : Sieve) (rest : List Sieve) (place : Option ℕ) → comes t.column ≡ place → StandBelow width rest → StandBelow width (sieve_at place t rest)
+  one_below t rest None is below = below
+  one_below t rest (Some c) is below = λ s h. of s below (first_or_later (record { column = c; pass = t.pass }) s rest h)
+    where
+      of : (s : Sieve) → StandBelow width rest → (record { column = c; pass = t.pass } ≡ s) ⊎ Contains rest s → s.column < width
+      of s below (inl same) = subst (λ (u : Sieve). u.column < width) same (within t.column c is)
+      of s below (inr later) = below s later
+
+  pub over_below : (sieves : List Sieve) → StandBelow width (over_input comes sieves)
+  over_below [] = none_below width
+  over_below (t ∷ sieves) = one_below t (over_input comes sieves) (comes t.column) refl (over_below sieves)
+
+-- a column that has a type is there
+typed_there : (types : List SqlType) (c : ℕ) (path : Path) (kind : SqlType) (o : Option SqlType) → slice_get types c ≡ o → ok_or o path ≡ Ok kind → c < length types
+typed_there types c path kind None is typed = absurd cc
+typed_there types c path kind (Some own) is typed = slice_get_within types c own is
+
+typed_at : (types : List SqlType) (columns : List Form) (place : ℕ) (form : Form) → AllTyped types columns → slice_get columns place ≡ Some form → IsTyped types form
+typed_at types [] place form typed is = absurd cc
+typed_at types (first ∷ columns) zero form typed is = let same : first ≡ form = cc is in subst (IsTyped types) same typed.0
+typed_at types (first ∷ columns) (suc place) form typed is = typed_at types columns place form typed.1 is
+
+pub passed_below : (types : List SqlType) (columns : List Form) → AllTyped types columns → (place c : ℕ) → passed_column types columns place ≡ Some c → c < length types
+passed_below types columns typed place c is =
+    let t = typed_at types columns place (column c) typed (passed types columns place c is).1 in
+    typed_there types c t.path t.kind (slice_get types c) refl t.is
+
+pub left_below : (kind : JoinKind) (width place c : ℕ) → left_column kind width place ≡ Some c → c < width
+left_below kind width place c is = let p = left_place kind width place c is in subst (λ (n : ℕ). n < width) p.2 p.1

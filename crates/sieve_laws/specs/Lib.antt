@@ -1,0 +1,4 @@
+pub mod LosingPipes
+pub mod FilterLanes
+pub mod KnownDomains
+pub mod ComingDown

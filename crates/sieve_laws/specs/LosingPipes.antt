@@ -1,0 +1,111 @@
+-- The pipes of a run as they stand, whose scans lost rows that have no partner in a join above.
+use Rattle.std.specs.Prelude.{◌≡◌, ◌⊎◌, ℕ, ◌<◌, List, [], ◌++◌, true, Some}
+use Rattle.sql_values.specs.declared.types.SqlType.{SqlType}
+use Rattle.sql_exprs.specs.Calm.{is_calm}
+use Rattle.page_judges.specs.Typed.{AllFit}
+use Rattle.operator_core.specs.declared.operator.Operator.{Ghosts}
+use Rattle.operator_core.specs.Rows.{Row}
+use Rattle.bag_laws.specs.Buckets.{Sits}
+use Rattle.bag_laws.specs.Gather.{gather}
+use Rattle.bag_laws.specs.Weights.{SameWeights}
+use Rattle.plan_trees.specs.Allowed.{scanned, strict, width_of}
+use Rattle.plan_trees.specs.TreeTypes.{types_of}
+use Rattle.column_origins.specs.Origins.{left_column, passed_column}
+use Rattle.plan_runs.specs.Nets.{IsAlone, Lanes, of_tasks}
+use Rattle.plan_runs.specs.Nets as stage
+use Rattle.plan_runs.specs.RunPlans.{RunPlan, tree_of_run, scan, values, remote, filter, project, join, aggregate, aggregate_parts, sort, topn, topn_parts, limit, limit_parts, union}
+use Rattle.plan_runs.specs.Spreads.{Tables}
+use Rattle.plan_runs.specs.Stops.{AllSet, Hop, PassedSoFar, TookOf}
+use Rattle.plan_runs.specs.Wholes.{longer}
+use Rattle.stage_meanings.specs.Pipelines.{at_node}
+use Rattle.lane_laws.specs.Lanes.{Noted, first_note, other_notes}
+use Rattle.pipe_laws.specs.Pipes.{IsHalfPipeOf, IsPipeOf, PipeState, stopped}
+use Rattle.lost_rows.specs.Sieves.{Sieve, if_calm, is_lost, over_input}
+use Rattle.lost_rows.specs.Stops.{AreSure}
+
+-- what the drivers of a pipe gave has these types
+abbrev pub GaveTyped : {S : Type 0} → List SqlType → ℕ → PipeState S → Type 0
+GaveTyped types n p = (k d : ℕ) → k < n → d < p.drivers → AllFit types (p.gave k d)
+
+-- What the drivers of the pipe at a place took of the sources of a node, and how the pipes below stand, as `Stands` says it
+-- but for scans and the sieves of joins. Of a scan a driver took what its filters let through: what they lost fits its
+-- types, and a sieve holds it back. `own` has the sieves of each join, by its id; those come down with the ones from above
+abbrev pub StandsLosing : {S : Type 0} → Ghosts S → (ℕ → PipeState S) → (ℕ → List Sieve) → Tables → List Sieve → ℕ → ℕ → RunPlan → (ℕ → ℕ → Noted) → Type 0
+StandsLosing g pipes own tables sieves at n (scan id table columns types) notes =
+    (lost : Lanes)
+    × Hop (scanned tables table columns) (gather n (of_tasks (pipes at).drivers (longer (pipes at).took lost))) (AllSet n (pipes at).drivers (pipes at).ended) (Unit {0})
+    × ((k d : ℕ) → k < n → d < (pipes at).drivers → Sits (is_lost strict sieves types) (lost k d))
+StandsLosing g pipes own tables sieves at n (values id types rows) notes =
+    (k : ℕ) → k < n → TookOf (pipes at).drivers ((pipes at).took k) ((pipes at).ended k) rows (Unit {0})
+StandsLosing g pipes own tables sieves at n (remote id output m input) notes =
+    (j : ℕ) × IsPipeOf g m input (pipes j) × StandsLosing g pipes own tables sieves j m input (pipes j).notes
+    × PassedSoFar output m n (stopped input (pipes j)) (pipes at).drivers (pipes at).took (pipes at).ended
+StandsLosing g pipes own tables sieves at n (filter id predicate input) notes =
+    StandsLosing g pipes own tables (if_calm (is_calm (types_of (tree_of_run input)) predicate) sieves) at n input notes
+StandsLosing g pipes own tables sieves at n (project id columns input) notes =
+    StandsLosing g pipes own tables (over_input (passed_column (types_of (tree_of_run input)) columns) sieves) at n input notes
+StandsLosing g pipes own tables sieves at n (join id kind on left right) notes =
+    (j : ℕ) × IsPipeOf g n right (pipes j) × StandsLosing g pipes own tables [] j n right (pipes j).notes
+    × ((k d : ℕ) → k < n → d < (pipes at).drivers → (built : List Row) → first_note (notes k d) ≡ Some built
+    → ((e : ℕ) → e < (pipes j).drivers → (pipes j).done k e ≡ true) × SameWeights (of_tasks (pipes j).drivers (pipes j).gave k) built)
+    × AreSure on n (stopped right (pipes j)) (own id) × GaveTyped (types_of (tree_of_run right)) n (pipes j)
+    × StandsLosing g pipes own tables (over_input (left_column kind (width_of (tree_of_run left))) (own id ++ sieves)) at n left (λ k d. other_notes (notes k d))
+StandsLosing g pipes own tables sieves at n (aggregate id keys calls input) notes =
+    IsAlone (pipes at).drivers × StandsLosing g pipes own tables [] at n input notes
+StandsLosing g pipes own tables sieves at n (aggregate_parts id source output m keys calls input) notes =
+    (j : ℕ) × (half : ℕ) × IsAlone (pipes at).drivers × IsHalfPipeOf g m input (at_node half (stage.partial keys calls)) (pipes j)
+    × StandsLosing g pipes own tables [] j m input (pipes j).notes
+    × PassedSoFar output m n (stopped input (pipes j)) (pipes at).drivers (pipes at).took (pipes at).ended
+StandsLosing g pipes own tables sieves at n (sort id keys input) notes =
+    IsAlone (pipes at).drivers × StandsLosing g pipes own tables [] at n input notes
+StandsLosing g pipes own tables sieves at n (topn id count keys input) notes =
+    IsAlone (pipes at).drivers × StandsLosing g pipes own tables [] at n input notes
+StandsLosing g pipes own tables sieves at n (topn_parts id source output m count keys input) notes =
+    (j : ℕ) × (half : ℕ) × IsAlone (pipes at).drivers × IsHalfPipeOf g m input (at_node half (stage.topn count keys)) (pipes j)
+    × StandsLosing g pipes own tables [] j m input (pipes j).notes
+    × PassedSoFar output m n (stopped input (pipes j)) (pipes at).drivers (pipes at).took (pipes at).ended
+StandsLosing g pipes own tables sieves at n (limit id count input) notes =
+    IsAlone (pipes at).drivers × StandsLosing g pipes own tables [] at n input notes
+StandsLosing g pipes own tables sieves at n (limit_parts id source output m count input) notes =
+    (j : ℕ) × (half : ℕ) × IsAlone (pipes at).drivers × IsHalfPipeOf g m input (at_node half (stage.limit count)) (pipes j)
+    × StandsLosing g pipes own tables [] j m input (pipes j).notes
+    × PassedSoFar output m n (stopped input (pipes j)) (pipes at).drivers (pipes at).took (pipes at).ended
+StandsLosing g pipes own tables sieves at n (union id left right) notes =
+    (i : ℕ) × (j : ℕ) × IsPipeOf g n left (pipes i) × StandsLosing g pipes own tables [] i n left (pipes i).notes
+    × IsPipeOf g n right (pipes j) × StandsLosing g pipes own tables [] j n right (pipes j).notes
+    × ((k : ℕ) → k < n
+    → TookOf (pipes at).drivers ((pipes at).took k) ((pipes at).ended k)
+    (of_tasks (pipes i).drivers (pipes i).gave k ++ of_tasks (pipes j).drivers (pipes j).gave k)
+    (((e : ℕ) → e < (pipes i).drivers → (pipes i).done k e ≡ true) × ((e : ℕ) → e < (pipes j).drivers → (pipes j).done k e ≡ true)))
+
+-- the pipe at a place is one of those below the node
+abbrev pub IsBelowLosing : {S : Type 0} (g : Ghosts S) (pipes : ℕ → PipeState S) (own : ℕ → List Sieve) (tables : Tables) (sieves : List Sieve)
+    (place at n : ℕ) (run : RunPlan) (notes : ℕ → ℕ → Noted) → StandsLosing g pipes own tables sieves at n run notes → Type 0
+IsBelowLosing g pipes own tables sieves place at n (scan id table columns types) notes stands = ⊥
+IsBelowLosing g pipes own tables sieves place at n (values id types rows) notes stands = ⊥
+IsBelowLosing g pipes own tables sieves place at n (remote id output m input) notes (j, is, below, passed) =
+    (place ≡ j) ⊎ IsBelowLosing g pipes own tables sieves place j m input (pipes j).notes below
+IsBelowLosing g pipes own tables sieves place at n (filter id predicate input) notes stands =
+    IsBelowLosing g pipes own tables (if_calm (is_calm (types_of (tree_of_run input)) predicate) sieves) place at n input notes stands
+IsBelowLosing g pipes own tables sieves place at n (project id columns input) notes stands =
+    IsBelowLosing g pipes own tables (over_input (passed_column (types_of (tree_of_run input)) columns) sieves) place at n input notes stands
+IsBelowLosing g pipes own tables sieves place at n (join id kind on left right) notes (j, is, below, known, sure, fit, rest) =
+    ((place ≡ j) ⊎ IsBelowLosing g pipes own tables [] place j n right (pipes j).notes below)
+    ⊎ IsBelowLosing g pipes own tables (over_input (left_column kind (width_of (tree_of_run left))) (own id ++ sieves)) place at n left (λ k d. other_notes (notes k d)) rest
+IsBelowLosing g pipes own tables sieves place at n (aggregate id keys calls input) notes stands =
+    IsBelowLosing g pipes own tables [] place at n input notes stands.1
+IsBelowLosing g pipes own tables sieves place at n (aggregate_parts id source output m keys calls input) notes (j, half, alone, is, below, passed) =
+    (place ≡ j) ⊎ IsBelowLosing g pipes own tables [] place j m input (pipes j).notes below
+IsBelowLosing g pipes own tables sieves place at n (sort id keys input) notes stands =
+    IsBelowLosing g pipes own tables [] place at n input notes stands.1
+IsBelowLosing g pipes own tables sieves place at n (topn id count keys input) notes stands =
+    IsBelowLosing g pipes own tables [] place at n input notes stands.1
+IsBelowLosing g pipes own tables sieves place at n (topn_parts id source output m count keys input) notes (j, half, alone, is, below, passed) =
+    (place ≡ j) ⊎ IsBelowLosing g pipes own tables [] place j m input (pipes j).notes below
+IsBelowLosing g pipes own tables sieves place at n (limit id count input) notes stands =
+    IsBelowLosing g pipes own tables [] place at n input notes stands.1
+IsBelowLosing g pipes own tables sieves place at n (limit_parts id source output m count input) notes (j, half, alone, is, below, passed) =
+    (place ≡ j) ⊎ IsBelowLosing g pipes own tables [] place j m input (pipes j).notes below
+IsBelowLosing g pipes own tables sieves place at n (union id left right) notes (i, j, first, left_below, second, right_below, passed) =
+    ((place ≡ i) ⊎ IsBelowLosing g pipes own tables [] place i n left (pipes i).notes left_below)
+    ⊎ ((place ≡ j) ⊎ IsBelowLosing g pipes own tables [] place j n right (pipes j).notes right_below)

@@ -37,6 +37,7 @@ SHIM = r"""
 #include <stdio.h>
 #include <stdlib.h>
 #include <string.h>
+#include <sys/resource.h>
 #include <unistd.h>
 
 static const char *const KINDS[] = {"grow", "read", "write", "tell", "open", "thread", "short_read", "short_write"};
@@ -69,7 +70,9 @@ static void tell_counts(void) {
     const char *path = getenv("REFUSE_TO");
     if (!path || told++) return;
     char text[400];
-    int at = snprintf(text, sizeof text, "live %ld\n", atomic_load(&live));
+    struct rusage used;
+    getrusage(RUSAGE_SELF, &used);
+    int at = snprintf(text, sizeof text, "live %ld\nmost %ld\n", atomic_load(&live), used.ru_maxrss);
     for (int kind = 0; kind < COUNT; kind++)
         at += snprintf(text + at, sizeof text - at, "%s %ld\n", KINDS[kind], atomic_load(&calls[kind]));
     int file = syscall(2 /* open */, path, O_WRONLY | O_CREAT | O_TRUNC, 0644);
@@ -155,7 +158,7 @@ class Shim:
         subprocess.run(["cc", "-O1", "-w", "-shared", "-fPIC", "-o", self.file, f"{folder}/shim.c", "-ldl"], check=True)
 
     def run(self, words, kind, number, seconds):
-        """The status, the output, the errors, the counts of calls and the greatest memory in kB."""
+        """The status, the output, the errors, and the counts: of calls, of blocks held at the end, and of the most kB that it took."""
         if os.path.exists(self.counts):
             os.remove(self.counts)
         how = {**os.environ, "LD_PRELOAD": self.file, "REFUSE": f"{kind}:{number}", "REFUSE_TO": self.counts}

@@ -3,7 +3,7 @@
 
 usage: python3 docs/damage.py PROGRAM [--runs 10000] [--seed 1] [--seconds 1.0] [--keep FOLDER]
 
-PROGRAM is crates/trinorun/out/trinorun, or what `rt try` compiles. Each run damages either the plan or one table, at one to
+PROGRAM is crates/trinorun/out/trinorun, or what docs/native.py makes. Each run damages either the plan or one table, at one to
 three places. It has to answer in time, with status 0, 4 or 5:
   4   code 1 exactly where Python's json reads no document, within what docs/FORMATS.md says of one, and then at the empty
       path; any other code at a place that the damaged document has
@@ -34,7 +34,7 @@ SMALL_SUM = worked.Work("small sum", worked.SUM, {"t": "a\n7\n-5\n\\N\n12\n"}, "
 MANY_GROUPS = worked.Work("many groups", worked.GROUPED.plan, {"t": MORE_ROWS}, "--tasks 3")
 # Those in which nothing can fail, as they stand.
 CALM = [it for it in worked.SEVEN + worked.OTHERS
-        if it.status == 0 and not re.search(rb'"[/%]"|9223372036854775807|' + b"9" * 38, it.plan + b"".join(it.tables[n].encode() for n in it.tables))]
+        if it.status == 0 and not re.search(rb'"[/%]"', it.plan) and "9223372036854775807" not in str(it.tables)]
 WORKS = CALM + [SMALL_SUM, MANY_GROUPS]
 
 
@@ -226,12 +226,13 @@ def main():
                 is_bad, err = True, err + repr(error).encode()
             if is_bad:
                 bad += 1
-                print(f"run {run}, {work.name}, {hit} damaged: {status} in {took:.2f} s, {out[:80]!r}, told {err[:200]!r}", flush=True)
+                print(f"run {run}, {work.name}, {hit} damaged: {status} in {took:.2f} s, {out[:80]!r}, told {err[:200]!r}",
+                      flush=True)
                 if keep:
                     shutil.copytree(folder, f"{keep}/{run}", dirs_exist_ok=True)
     counts = ", ".join(f"{came[it]} with {it}" for it in sorted(came))
-    print(f"{given.runs} runs of seed {given.seed} in {time.monotonic() - began:.0f} s, the slowest in {slowest:.2f} s, by status and "
-          f"code or reason: {counts}; {bad} ended otherwise than they may")
+    print(f"{given.runs} runs of seed {given.seed} in {time.monotonic() - began:.0f} s, the slowest in {slowest:.2f} s, by status "
+          f"and code or reason: {counts}; {bad} ended otherwise than they may")
     return 1 if bad else 0
 
 

@@ -3,13 +3,13 @@
 
 usage: python3 docs/long_runs.py PROGRAM [--runs 1000] [--seed 1] [--seconds 60]
 
-PROGRAM is crates/trinorun/out/trinorun, or what `rt try` compiles. There are so many runs of a plan of groups in 16
+PROGRAM is crates/trinorun/out/trinorun, or what docs/native.py makes. There are so many runs of a plan of groups in 16
 drivers, of which every second one has a row that divides by zero, at another place each time; as many in which one growth of
 memory, at a random place, is refused (by the shim of docs/refused.py); and as many of these over the join of docs/stress.py,
-whose left sides wait for the right one. A run has to end in time: with its result, or with status 6 and its line and no output, or, where
-memory was refused, with status 1, its line and no output. At its end the program holds no more blocks of memory than any other
-run does, and the most memory that it took is told for each hundred runs: the last hundred may take a tenth more than the
-first. What breaks this is told, and the exit status is then 1."""
+whose left sides wait for the right one. A run has to end in time: with its result, or with status 6 and its line and no output,
+or, where memory was refused, with status 1, its line and no output. At its end the program holds no more blocks of memory than
+any other run does, and the most memory that it took is told for each hundred runs: the last hundred may take a tenth more than
+the first. What breaks this is told, and the exit status is then 1."""
 import argparse
 import collections
 import os

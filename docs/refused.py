@@ -3,7 +3,7 @@
 
 usage: python3 docs/refused.py PROGRAM [--kinds grow,read,..] [--workers 1,2] [--seconds 60]
 
-PROGRAM is crates/trinorun/out/trinorun, or what `rt try` compiles, linked with the shared C library. A shim that `cc` compiles
+PROGRAM is crates/trinorun/out/trinorun, or what docs/native.py makes, linked with the shared C library. A shim that `cc` compiles
 is loaded before it (LD_PRELOAD). It counts the program's own calls of one kind and refuses the Nth, N from 1 until a run makes
 fewer than N:
   grow         malloc or realloc gives nothing            read, write   an error (EIO); `write` is to standard output

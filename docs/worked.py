@@ -3,7 +3,7 @@
 
 usage: python3 docs/worked.py PROGRAM [--under WORDS] [--only WORD] [--workers N] [--seconds 60]
 
-PROGRAM is crates/trinorun/out/trinorun, or what `rt try` compiles. With --under the program is started by these words, as
+PROGRAM is crates/trinorun/out/trinorun, or what docs/native.py makes. With --under the program is started by these words, as
   python3 docs/worked.py PROGRAM --under 'valgrind -q --leak-check=full --error-exitcode=99'
   python3 docs/worked.py PROGRAM --under 'valgrind -q --tool=helgrind --error-exitcode=99'
 and what they print beside the program's own line is told. --only runs the plans whose name has the word. --workers runs all
@@ -108,6 +108,7 @@ U, W = table("u", k="bigint"), table("w", k="bigint")
 ITEMS = table("items", day="date", flag="varchar", qty="bigint", price="decimal(12,2)", disc="decimal(4,2)")
 ITEM_ROWS = ("day,flag,qty,price,disc\n1998-09-01,A,10,100.00,0.10\n1998-09-02,A,5,50.50,0.00\n1998-09-03,A,1,1.00,0.00\n"
              "1998-01-01,N,2,20.00,0.05\n")
+BACKSLASHES = "a,c\n1,\n2,\\\\N\n3,\\\\\\N\n"
 TIES = "a,c\n2,y\n1,x\n2,z\n"
 GROUP_ROWS = "g,v\n\\N,1\nx,2\n\\N,3\nx,\\N\n"
 LEFT_ROWS, RIGHT_ROWS = "k,x\n1,a\n1,b\n\\N,c\n2,d\n", "k,y\n1,p\n1,q\n\\N,r\n3,s\n"
@@ -152,7 +153,7 @@ def values(id, rows):
     return {"id": id, "op": "values", "types": ["varchar", "date"], "rows": rows}
 
 
-def scanned_by_halves(table, output, calls, columns=None, keys=None):
+def scanned_by_halves(table, output, calls):
     """A global aggregate in two halves over a scan."""
     return several([table], output, {"id": 0, "placement": "SINGLE", "root": final(remote(2, 1), 1)},
                    {"id": 1, "placement": "SOURCE", "output": {"kind": "SINGLE"},
@@ -193,23 +194,25 @@ FILTERED = Work("join with a dynamic filter",
                 single([U, W], ["c0", "c1"], joined("INNER", scan(2, U), scan(3, W), filters=FILTERS)),
                 {"u": "k\n" + "".join(f"{n}\n" for n in range(10)), "w": "k\n3\n7\n3\n"}, "--counts yes",
                 ["c0,c1\n3,3\n3,3\n7,7\n"])
-PRICED = Work("pricing", pricing(), {"items": ITEM_ROWS}, texts=["flag,qty,revenue,avg_price\nA,15,140.5000,75.25\nN,2,19.0000,20.00\n"],
-              ordered=True)
+PRICED = Work("pricing", pricing(), {"items": ITEM_ROWS},
+              texts=["flag,qty,revenue,avg_price\nA,15,140.5000,75.25\nN,2,19.0000,20.00\n"], ordered=True)
 
 # Those over which memory, reads and writes are refused one by one.
 SEVEN = [SCANNED, SUMMED, JOINED, GROUPED, TOP, FILTERED, PRICED]
 
 PLUS_ONE = single([A], ["a"], projected([call("+", {"col": 0}, lit("1"))], scan(9, A)))
 V, NULLS = values(2, [["é", "2024-02-29"]]), values(3, [[None, None]])
-WIDE_COUNT = table("t", a="bigint")
 
 OTHERS = [
     Work("no row", single([A], ["a"], scan(9, A)), {"t": "a\n"}, texts=["a\n"]),
-    Work("aggregate of no row", single([A], ["n", "s"], grouped("SINGLE", [], scan(9, A))), {"t": "a\n"}, texts=["n,s\n0,\\N\n"]),
+    Work("aggregate of no row", single([A], ["n", "s"], grouped("SINGLE", [], scan(9, A))), {"t": "a\n"},
+         texts=["n,s\n0,\\N\n"]),
     Work("groups of no row", single([A], ["a", "n", "s"], grouped("SINGLE", [0], scan(9, A), 1,
          [{"name": "count_all"}, {"name": "sum", "column": 0}])), {"t": "a\n"}, texts=["a,n,s\n"]),
-    Work("filter", single([A], ["a"], filtered(call(">", {"col": 0}, lit("1")), scan(9, A))), {"t": "a\n1\n\\N\n2\n"}, texts=["a\n2\n"]),
-    Work("and that stops", single([B], ["b"], filtered(call("and", NO_ZERO, ABOVE_ONE), scan(9, B))), {"t": "b\n0\n"}, texts=["b\n"]),
+    Work("filter", single([A], ["a"], filtered(call(">", {"col": 0}, lit("1")), scan(9, A))), {"t": "a\n1\n\\N\n2\n"},
+         texts=["a\n2\n"]),
+    Work("and that stops", single([B], ["b"], filtered(call("and", NO_ZERO, ABOVE_ONE), scan(9, B))), {"t": "b\n0\n"},
+         texts=["b\n"]),
     Work("and that divides first", single([B], ["b"], filtered(call("and", ABOVE_ONE, NO_ZERO), scan(9, B))), {"t": "b\n0\n"},
          status=6, line="expression failed 2 at node 1"),
     Work("plus past the range", PLUS_ONE, {"t": "a\n9223372036854775807\n"}, status=6, line="expression failed 1 at node 1"),
@@ -217,8 +220,8 @@ OTHERS = [
          line="expression failed 1 at node 1"),
     Work("cast that rounds", single([D], ["d"], projected([{"cast": {"col": 0}, "type": "decimal(1,0)"}], scan(9, D))),
          {"t": "d\n0.5\n-0.5\n"}, texts=["d\n1\n-1\n"]),
-    Work("product past the range", single([WIDE], ["e"], projected([call("*", {"col": 0}, lit("10", "decimal(2,0)"))], scan(9, WIDE))),
-         {"t": "e\n" + "9" * 38 + "\n"}, status=6, line="expression failed 1 at node 1"),
+    Work("product past the range",
+         single([WIDE], ["e"], projected([call("*", {"col": 0}, lit("10", "decimal(2,0)"))], scan(9, WIDE))), {"t": "e\n" + "9" * 38 + "\n"}, status=6, line="expression failed 1 at node 1"),
     Work("left join", single([L, R], ["a", "b", "c", "d"], joined("LEFT", scan(2, L), scan(3, R))),
          {"l": LEFT_ROWS, "r": RIGHT_ROWS}, texts=[INNER + "\\N,c,\\N,\\N\n2,d,\\N,\\N\n"]),
     Work("limit of none", single([AC], ["a", "c"], first("limit", scan(9, AC), count=0)), {"t": TIES}, texts=["a,c\n"]),
@@ -229,9 +232,9 @@ OTHERS = [
          ["g,n,s\n\\N,2,4\nx,2,2\n"]),
     Work("groups on two workers", groups_over_hash(scan(5, GV)), {"t": GROUP_ROWS}, "--workers 2 --tasks 3 --drivers 4",
          ["g,n,s\n\\N,2,4\nx,2,2\n"]),
-    Work("dynamic filter of no value", single([U, W], ["c0", "c1"], joined("INNER", scan(2, U), scan(3, W), filters=FILTERS)),
-         {"u": "k\n1\n2\n", "w": "k\n"}, "--counts yes", ["c0,c1\n"]),
-    Work("backslashes", single([AC], ["a", "c"], scan(9, AC)), {"t": "a,c\n1,\n2,\\\\N\n3,\\\\\\N\n"}, texts=["a,c\n1,\n2,\\\\N\n3,\\\\\\N\n"]),
+    Work("dynamic filter of no value",
+         single([U, W], ["c0", "c1"], joined("INNER", scan(2, U), scan(3, W), filters=FILTERS)), {"u": "k\n1\n2\n", "w": "k\n"}, "--counts yes", ["c0,c1\n"]),
+    Work("backslashes", single([AC], ["a", "c"], scan(9, AC)), {"t": BACKSLASHES}, texts=[BACKSLASHES]),
     Work("union of values", single([], ["c0", "c1"], {"id": 1, "op": "union", "left": V, "right": NULLS}), {},
          texts=["c0,c1\né,2024-02-29\n\\N,\\N\n"]),
     Work("like", single([], ["c0", "c1"], filtered(call("like", {"col": 0}, lit("_", "varchar")), V, 4)), {},

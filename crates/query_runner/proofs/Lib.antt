@@ -1,4 +1,5 @@
 pub mod AppendLemmas
+pub mod ToldLemmas
 pub mod TableLemmas
 pub mod CompletenessLemmas
 pub mod TypeLemmas

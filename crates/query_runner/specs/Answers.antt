@@ -96,9 +96,10 @@ PlanAnswered job plan seen (status.ExprFailed node kind) =
     WroteNothing seen × MayHaveFailed seen.held job plan node kind
 PlanAnswered job plan seen status.WriteFault = StoppedWriting job plan seen
 
--- a line of this message was written to the errors, unless a write of it failed
-abbrev pub ToldLine : Heard → List ℕ → Type 0
-ToldLine heard text = ¬ Rose heard.faults_before heard.faults_after → Appends heard.told_before heard.told_after (line text)
+-- a line of this message was written to the errors, or a beginning of it where a write failed
+pub record ToldLine (heard : Heard) (text : List ℕ) : Type 0 where
+  pub whole : ¬ Rose heard.faults_before heard.faults_after → Appends heard.told_before heard.told_after (line text)
+  pub begun : AppendsPrefix heard.told_before heard.told_after (line text)
 
 -- what was told on the errors: nothing where all went well, else the answer's message
 abbrev pub Told : Heard → List ℕ → Status → Type 0

@@ -2,6 +2,7 @@ ghost use Rattle.std.specs.Prelude.{◌≡◌, ◌≤◌, ◌++◌, codes, List,
 ghost use Rattle.std.specs.Fmt.{decimal};
 ghost use Rattle.std.specs.Io.KnownBytes.{Appends};
 ghost use Rattle.run_ports.specs.Counts.{Rose};
+ghost use Rattle.run_ports.specs.Writing.{AppendsPrefix};
 ghost use Rattle.command_line.specs.Words.{asked, no_job};
 ghost use Rattle.query_runner.specs.Answers.{Told};
 ghost use Rattle.query_runner.specs.Lines.{failure_message, file_numbered, kind_number, line, message, plan_message, read_message, table_message, table_named};
@@ -51,6 +52,8 @@ fn write_line<E: Sink>(
     ensures ok { OnOk result
         (Appends (E.written err.old) (E.written err.new)
         (line (message (asked job.now) tables.now status.now))) }
+    ensures begins { OnErr result
+        (AppendsPrefix (E.written err.old) (E.written err.new) (line (message (asked job.now) tables.now status.now))) }
     ensures later { E.faults err.old ≤ E.faults err.new }
     ensures cause { OnErr result (Rose (E.faults err.old) (E.faults err.new)) }
 {
@@ -68,6 +71,8 @@ fn write_message<E: Sink>(
     ensures ok { OnOk result
         (Appends (E.written err.old) (E.written err.new)
         (message (asked job.now) tables.now status.now)) }
+    ensures begins { OnErr result
+        (AppendsPrefix (E.written err.old) (E.written err.new) (message (asked job.now) tables.now status.now)) }
     ensures later { E.faults err.old ≤ E.faults err.new }
     ensures cause { OnErr result (Rose (E.faults err.old) (E.faults err.new)) }
 {
@@ -82,7 +87,15 @@ fn write_message<E: Sink>(
             row,
             column,
             why,
-        } => { write_table(err, table_named(tables, *table), *row, *column, *why) }
+        } => {
+            write_table(
+                err,
+                table_named(tables, *table),
+                *row,
+                *column,
+                u32::from(*why),
+            )
+        }
         Status::ExprFailed { node, kind } => write_failure(err, *node, kind_number(*kind)),
         Status::WriteFault => write_text(err, "cannot write"),
     }
@@ -91,6 +104,8 @@ fn write_message<E: Sink>(
 fn write_unread<E: Sink>(err: &mut E, file: &str) -> Result<(), SinkFailed>
     ensures ok { OnOk result
         (Appends (E.written err.old) (E.written err.new) (read_message file.now)) }
+    ensures begins { OnErr result
+        (AppendsPrefix (E.written err.old) (E.written err.new) (read_message file.now)) }
     ensures later { E.faults err.old ≤ E.faults err.new }
     ensures cause { OnErr result (Rose (E.faults err.old) (E.faults err.new)) }
 {
@@ -101,6 +116,8 @@ fn write_unread<E: Sink>(err: &mut E, file: &str) -> Result<(), SinkFailed>
 fn write_plan<E: Sink>(err: &mut E, code: u32, path: &str) -> Result<(), SinkFailed>
     ensures ok { OnOk result
         (Appends (E.written err.old) (E.written err.new) (plan_message code path.now)) }
+    ensures begins { OnErr result
+        (AppendsPrefix (E.written err.old) (E.written err.new) (plan_message code path.now)) }
     ensures later { E.faults err.old ≤ E.faults err.new }
     ensures cause { OnErr result (Rose (E.faults err.old) (E.faults err.new)) }
 {
@@ -115,17 +132,19 @@ fn write_table<E: Sink>(
     name: &str,
     row: u32,
     column: u32,
-    why: u8,
+    why: u32,
 ) -> Result<(), SinkFailed>
     ensures ok { OnOk result
         (Appends (E.written err.old) (E.written err.new) (table_message name.now row column why)) }
+    ensures begins { OnErr result
+        (AppendsPrefix (E.written err.old) (E.written err.new) (table_message name.now row column why)) }
     ensures later { E.faults err.old ≤ E.faults err.new }
     ensures cause { OnErr result (Rose (E.faults err.old) (E.faults err.new)) }
 {
     write_text(err, "table ")?;
     write_text(err, name)?;
     write_text(err, " refused ")?;
-    write_number(err, u32::from(why))?;
+    write_number(err, why)?;
     write_text(err, " at row ")?;
     write_number(err, row)?;
     write_text(err, " column ")?;
@@ -135,6 +154,8 @@ fn write_table<E: Sink>(
 fn write_failure<E: Sink>(err: &mut E, node: u32, kind: u32) -> Result<(), SinkFailed>
     ensures ok { OnOk result
         (Appends (E.written err.old) (E.written err.new) (failure_message node kind)) }
+    ensures begins { OnErr result
+        (AppendsPrefix (E.written err.old) (E.written err.new) (failure_message node kind)) }
     ensures later { E.faults err.old ≤ E.faults err.new }
     ensures cause { OnErr result (Rose (E.faults err.old) (E.faults err.new)) }
 {
@@ -146,6 +167,8 @@ fn write_failure<E: Sink>(err: &mut E, node: u32, kind: u32) -> Result<(), SinkF
 
 fn write_text<E: Sink>(err: &mut E, text: &str) -> Result<(), SinkFailed>
     ensures ok { OnOk result (Appends (E.written err.old) (E.written err.new) text.now) }
+    ensures begins { OnErr result
+        (AppendsPrefix (E.written err.old) (E.written err.new) text.now) }
     ensures later { E.faults err.old ≤ E.faults err.new }
     ensures cause { OnErr result (Rose (E.faults err.old) (E.faults err.new)) }
 {
@@ -154,6 +177,8 @@ fn write_text<E: Sink>(err: &mut E, text: &str) -> Result<(), SinkFailed>
 
 fn write_number<E: Sink>(err: &mut E, number: u32) -> Result<(), SinkFailed>
     ensures ok { OnOk result (Appends (E.written err.old) (E.written err.new) (decimal number)) }
+    ensures begins { OnErr result
+        (AppendsPrefix (E.written err.old) (E.written err.new) (decimal number)) }
     ensures later { E.faults err.old ≤ E.faults err.new }
     ensures cause { OnErr result (Rose (E.faults err.old) (E.faults err.new)) }
 {

@@ -157,7 +157,7 @@ pub(crate) fn is_text(bytes: &[u8], text: &str) -> bool {
 }
 
 /// A sink with room for 1 000 bytes that takes so many at once, of which one write fails.
-fn sink_of(alloc: Global, most: usize, failing: u32) -> Result<MemSink, Fail>
+pub(crate) fn sink_of(alloc: Global, most: usize, failing: u32) -> Result<MemSink, Fail>
     requires { 1 ≤ most }
 {
     let failing = Vec::from_slice(alloc, &[failing])?;

@@ -1,4 +1,4 @@
-//! A courier that counts its turns, and one that tells who asked it.
+//! A courier that counts its turns, one that always delivers the same, and one that tells who asked it.
 
 use once_cell::race::OnceBox;
 use run_ports::{Courier, Delivery};
@@ -40,6 +40,37 @@ impl Courier for Thirds {
         } else {
             Delivery::Again(0)
         }
+    }
+}
+
+/// Delivers the same at each turn.
+#[derive(Drop)]
+pub(crate) struct Same {
+    delivery: Delivery,
+    missed: u64,
+}
+
+impl Same {
+    pub(crate) fn new(delivery: Delivery) -> Same {
+        Same {
+            delivery,
+            missed: 0,
+        }
+    }
+}
+
+impl Courier for Same {
+    ghost missed = { λ same. same.missed };
+
+    fn for_edge(&self, _number: u64, _edge: u32) -> Same {
+        Same::new(self.delivery)
+    }
+
+    fn turn(&mut self) -> Delivery {
+        if !matches!(self.delivery, Delivery::Fresh) {
+            self.missed = self.missed.saturating_add(1);
+        }
+        self.delivery
     }
 }
 

@@ -330,7 +330,7 @@ where
 }
 
 /// Whether the bytes are the header and the records of a text, in its order or in any.
-fn has_records(written: &[u8], order: &str, text: &str) -> bool {
+pub(crate) fn has_records(written: &[u8], order: &str, text: &str) -> bool {
     if order == "sorted" {
         return is_text(written, text);
     }

@@ -12,6 +12,7 @@
 //! - `demos`: runs of a demo
 //! - `fragments`: the cases of several, and `couriers`: couriers for them
 //! - `workers`: runs on one worker and on more
+//! - `outside`: a failing outside, and input that is cut
 #![tactic(auto)]
 
 #[cfg(test)]
@@ -28,6 +29,8 @@ mod fragments;
 mod joins;
 #[cfg(test)]
 mod orders;
+#[cfg(test)]
+mod outside;
 #[cfg(test)]
 mod plain;
 #[cfg(test)]

@@ -1,5 +1,5 @@
 -- Targets over edges, as they are seen.
-use Rattle.std.specs.Prelude.{◌≡◌, ℕ, ◌<◌, ◌⊎◌, ◌++◌, ◌&&◌, List, [], ◌∷◌, Bool, true, false, All, Option, Some, None, get_or, is_none, length, map, replicate, slice_index_or, sum_by, take}
+use Rattle.std.specs.Prelude.{◌≡◌, ℕ, ◌<◌, ◌⊎◌, ◌++◌, ◌&&◌, List, [], ◌∷◌, Bool, true, false, All, Option, Some, None, get_or, is_none, length, map, nat_lt, replicate, slice_index_or, sum_by, take}
 use Rattle.std.specs.List.{range_with_len}
 use Rattle.sql_values.specs.declared.value.Value.{Value}
 use Rattle.blocked.specs.Counts.{Rose}
@@ -18,6 +18,12 @@ pub record TargetState : Type 0 where
   pub outlets : List OutletState
   pub waiting : Option TypedPage
   pub is_told : Bool
+
+-- rows wait first where they are spread over several edges by bucket
+abbrev pub may_wait : PutKind → ℕ → Bool
+may_wait One outlets = false
+may_wait Each outlets = false
+may_wait (Hash by) outlets = nat_lt 1 outlets
 
 -- no page comes any more and no rows wait, so that Ends may be put
 abbrev pub may_end : TargetState → Bool
@@ -47,10 +53,11 @@ pub record HasSent (t : TargetState) (given : List (List Value)) : Type 0 where
   pub whole : given ≡ spread ++ rows_of_held t.waiting
   pub sent : map rows_sent t.outlets ≡ sent_to t.kind (length t.outlets) spread
 
--- what a target keeps in every state: it has the outlets of its kind, no End is put before it was told to finish, none
--- while rows wait, none before a page that is held, and no page without rows
+-- what a target keeps in every state: it has the outlets of its kind, rows wait only where they may, no End is
+-- put before it was told to finish, none while rows wait, none before a page that is held, and no page without rows
 pub record KeepsTarget (t : TargetState) : Type 0 where
   pub fits : FitsKind t.kind (length t.outlets)
+  pub waits : may_wait t.kind (length t.outlets) ≡ false → t.waiting ≡ None
   pub early : may_end t ≡ false → All (λ outlet. end_count outlet.seat.put ≡ 0) t.outlets
   pub order : All OutletInOrder t.outlets
 

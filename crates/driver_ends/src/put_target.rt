@@ -7,13 +7,13 @@ ghost use Rattle.output_buffer.specs.Edges.{end_count};
 ghost use Rattle.driver_ends.specs.declared.put_target.PutKind.TheVariants.{Hash};
 ghost use Rattle.driver_ends.specs.Ends.{put_finished, put_wants};
 ghost use Rattle.driver_ends.specs.Outlets.{IsClear, IsThrough, OutletInOrder, outlet_kept, new_outlet, rows_sent};
-ghost use Rattle.driver_ends.specs.Targets.{AreThrough, FitsKind, HasSent, HasStuckOutlet, HavePutAll, HavePutFirst, HaveTried, IsFinished, KeepsTarget, Wants, add_each, dues, dues_of, earlier, fulls_of, may_end, sent_to};
+ghost use Rattle.driver_ends.specs.Targets.{AreThrough, FitsKind, HasSent, HasStuckOutlet, HavePutAll, HavePutFirst, HaveTried, IsFinished, KeepsTarget, Wants, add_each, dues, dues_of, earlier, fulls_of, may_wait, may_end, sent_to};
 
 use crate::at_edges::EdgeEnd;
 use crate::outlet::{AdvanceAsTold, Outlet};
 use crate::page_joins::join_behind;
 use blocked::{Bells, BlockedOn};
-use col_pages::Page;
+use col_pages::{MOST_ROWS, Page};
 use output_buffer::{GatherPut, Partitioner};
 use sql_values::Memory;
 use stage_moves::PageTarget;
@@ -92,7 +92,7 @@ impl<'w> PutTarget<'w> {
         })
     }
 
-    /// It has the outlets of its kind. No End is put before it was told to finish, none while rows wait, none before a
+    /// It has the outlets of its kind, and rows wait only where they may. No End is put before it was told to finish, none while rows wait, none before a
     /// page that is held for its edge, and no page without rows.
     pub fn keeps(&self)
         ensures { KeepsTarget self.now }
@@ -118,8 +118,8 @@ impl<'w> PutTarget<'w> {
         ensures seats { map (λ l. l.seat) self.new.outlets ≡ map (λ l. l.seat) self.old.outlets }
         ensures lost { OnErr result (self.new ≡ self.old) }
     {
-        if self.waiting.is_some() || gathers(&self.kind, self.outlets.len()) {
-            return self.gather(page);
+        if may_wait(&self.kind, self.outlets.len()) {
+            return self.let_wait(page);
         }
         let pages = pages_for(self.alloc, &self.kind, self.outlets.len(), page)?;
         hold_all(&mut self.outlets, pages);
@@ -127,8 +127,9 @@ impl<'w> PutTarget<'w> {
     }
 
     /// Lets a page wait behind the rows that do. Where they cannot be one page, those are spread first.
-    fn gather(&mut self, page: Page) -> Result<(), Memory>
-        requires { Wants self.old }
+    fn let_wait(&mut self, page: Page) -> Result<(), Memory>
+        requires wants { Wants self.old }
+        requires may_wait { may_wait self.old.kind (length self.old.outlets) ≡ true }
         ensures sent { OnOk result ((given : List (List Value)) → HasSent self.old given
             → HasSent self.new (given ++ page.rows)) }
         ensures rest { self.new ≡ record self.old { outlets = self.new.outlets; waiting = self.new.waiting } }
@@ -136,7 +137,7 @@ impl<'w> PutTarget<'w> {
         ensures lost { OnErr result (self.new ≡ self.old) }
     {
         let wanted = (page.len() as usize).saturating_mul(self.outlets.len());
-        self.enough = self.enough.max(wanted);
+        self.enough = self.enough.max(wanted.min(MOST_ROWS as usize));
         if let Some(page) = join_behind(self.alloc, &mut self.waiting, page)? {
             self.spread()?;
             self.waiting = Some(page);
@@ -327,9 +328,14 @@ fn have_put_ends(outlets: &[Outlet<'_>]) -> bool
     outlets.iter().all(|outlet| outlet.has_put_end())
 }
 
-/// Whether rows of this kind wait to be spread over so many edges.
-fn gathers(kind: &PutKind, outlets: usize) -> bool {
-    outlets > 1 && matches!(kind, PutKind::Hash(_))
+/// Whether rows wait before they are spread over so many edges.
+fn may_wait(kind: &PutKind, outlets: usize) -> bool
+    ensures { result ≡ may_wait kind.now outlets }
+{
+    match kind {
+        PutKind::One | PutKind::Each => false,
+        PutKind::Hash(_) => outlets > 1,
+    }
 }
 
 /// Whether no page comes any more and no rows wait.

@@ -15,43 +15,47 @@ use Rattle.plan_runs.specs.Spreads.{Tables}
 use Rattle.plan_runs.specs.Stops.{AllSet, Hop}
 use Rattle.plan_runs.specs.Wholes.{longer}
 use Rattle.lane_laws.specs.Lanes.{Noted, other_notes}
-use Rattle.pipe_laws.specs.Pipes.{IsPipeOf, PipeState, Stands}
+use Rattle.pipe_laws.specs.Pipes.{PipeState, Stands}
 use Rattle.lost_rows.specs.Sieves.{Sieve, if_calm, is_lost, over_input}
-use Rattle.sieve_laws.specs.LosingPipes.{GaveTyped, StandsLosing}
+use Rattle.sieve_laws.specs.LosingPipes.{RightsTyped, StandsLosing}
 
 with_none : (n w : ℕ) (took : Lanes) → gather n (of_tasks w took) ≡ gather n (of_tasks w (longer took (λ k d. [])))
 with_none n w took =
     gather-agree n (of_tasks w took) (of_tasks w (longer took (λ k d. [])))
     (λ k lt. gather-agree w (took k) (longer took (λ k d. []) k) (λ d less. sym (append-nil (took k d))))
 
-module _ {S : Type 0} (g : Ghosts S) (pipes : ℕ → PipeState S) (tables : Tables)
-    (typed : (n : ℕ) (run : RunPlan) (j : ℕ) → IsPipeOf g n run (pipes j) → GaveTyped (types_of (tree_of_run run)) n (pipes j)) where
-  pub lost_nothing : (sieves : List Sieve) (at n : ℕ) (run : RunPlan) (notes : ℕ → ℕ → Noted) → Stands g pipes tables at n run notes
-      → StandsLosing g pipes (λ id. []) tables sieves at n run notes
-  lost_nothing sieves at n (scan id table columns types) notes stands = (
+module _ {S : Type 0} (g : Ghosts S) (pipes : ℕ → PipeState S) (tables : Tables) where
+  pub lost_nothing : (sieves : List Sieve) (at n : ℕ) (run : RunPlan) (notes : ℕ → ℕ → Noted) (stands : Stands g pipes tables at n run notes)
+      → RightsTyped g pipes tables at n run notes stands → StandsLosing g pipes (λ id. []) tables sieves at n run notes
+  lost_nothing sieves at n (scan id table columns types) notes stands typed = (
     λ k d. [],
     subst (λ (rows : List Row). Hop (scanned tables table columns) rows (AllSet n (pipes at).drivers (pipes at).ended) (Unit {0})) (with_none n (pipes at).drivers (pipes at).took) stands,
     λ k d lt less. sits-nil (is_lost strict sieves types),
   )
-  lost_nothing sieves at n (values id types rows) notes stands = stands
-  lost_nothing sieves at n (remote id output m input) notes (j, is, below, passed) = (j, is, lost_nothing sieves j m input (pipes j).notes below, passed)
-  lost_nothing sieves at n (filter id predicate input) notes stands = lost_nothing (if_calm (is_calm (types_of (tree_of_run input)) predicate) sieves) at n input notes stands
-  lost_nothing sieves at n (project id columns input) notes stands = lost_nothing (over_input (passed_column (types_of (tree_of_run input)) columns) sieves) at n input notes stands
-  lost_nothing sieves at n (join id kind on left right) notes (j, is, below, known, rest) = (
+  lost_nothing sieves at n (values id types rows) notes stands typed = stands
+  lost_nothing sieves at n (remote id output m input) notes (j, is, below, passed) typed = (j, is, lost_nothing sieves j m input (pipes j).notes below typed, passed)
+  lost_nothing sieves at n (filter id predicate input) notes stands typed =
+      lost_nothing (if_calm (is_calm (types_of (tree_of_run input)) predicate) sieves) at n input notes stands typed
+  lost_nothing sieves at n (project id columns input) notes stands typed =
+      lost_nothing (over_input (passed_column (types_of (tree_of_run input)) columns) sieves) at n input notes stands typed
+  lost_nothing sieves at n (join id kind on left right) notes (j, is, below, known, rest) typed = (
     j,
     is,
-    lost_nothing [] j n right (pipes j).notes below,
+    lost_nothing [] j n right (pipes j).notes below typed.1,
     known,
     λ a held. absurd cc,
-    typed n right j is,
-    lost_nothing (over_input (left_column kind (width_of (tree_of_run left))) sieves) at n left (λ k d. other_notes (notes k d)) rest,
+    typed.0,
+    lost_nothing (over_input (left_column kind (width_of (tree_of_run left))) sieves) at n left (λ k d. other_notes (notes k d)) rest typed.2,
   )
-  lost_nothing sieves at n (aggregate id keys calls input) notes stands = (stands.0, lost_nothing [] at n input notes stands.1)
-  lost_nothing sieves at n (aggregate_parts id source output m keys calls input) notes (j, half, alone, is, below, passed) = (j, half, alone, is, lost_nothing [] j m input (pipes j).notes below, passed)
-  lost_nothing sieves at n (sort id keys input) notes stands = (stands.0, lost_nothing [] at n input notes stands.1)
-  lost_nothing sieves at n (topn id count keys input) notes stands = (stands.0, lost_nothing [] at n input notes stands.1)
-  lost_nothing sieves at n (topn_parts id source output m count keys input) notes (j, half, alone, is, below, passed) = (j, half, alone, is, lost_nothing [] j m input (pipes j).notes below, passed)
-  lost_nothing sieves at n (limit id count input) notes stands = (stands.0, lost_nothing [] at n input notes stands.1)
-  lost_nothing sieves at n (limit_parts id source output m count input) notes (j, half, alone, is, below, passed) = (j, half, alone, is, lost_nothing [] j m input (pipes j).notes below, passed)
-  lost_nothing sieves at n (union id left right) notes (i, j, first, left_below, second, right_below, passed) =
-      (i, j, first, lost_nothing [] i n left (pipes i).notes left_below, second, lost_nothing [] j n right (pipes j).notes right_below, passed)
+  lost_nothing sieves at n (aggregate id keys calls input) notes stands typed = (stands.0, lost_nothing [] at n input notes stands.1 typed)
+  lost_nothing sieves at n (aggregate_parts id source output m keys calls input) notes (j, half, alone, is, below, passed) typed =
+      (j, half, alone, is, lost_nothing [] j m input (pipes j).notes below typed, passed)
+  lost_nothing sieves at n (sort id keys input) notes stands typed = (stands.0, lost_nothing [] at n input notes stands.1 typed)
+  lost_nothing sieves at n (topn id count keys input) notes stands typed = (stands.0, lost_nothing [] at n input notes stands.1 typed)
+  lost_nothing sieves at n (topn_parts id source output m count keys input) notes (j, half, alone, is, below, passed) typed =
+      (j, half, alone, is, lost_nothing [] j m input (pipes j).notes below typed, passed)
+  lost_nothing sieves at n (limit id count input) notes stands typed = (stands.0, lost_nothing [] at n input notes stands.1 typed)
+  lost_nothing sieves at n (limit_parts id source output m count input) notes (j, half, alone, is, below, passed) typed =
+      (j, half, alone, is, lost_nothing [] j m input (pipes j).notes below typed, passed)
+  lost_nothing sieves at n (union id left right) notes (i, j, first, left_below, second, right_below, passed) typed =
+      (i, j, first, lost_nothing [] i n left (pipes i).notes left_below typed.0, second, lost_nothing [] j n right (pipes j).notes right_below typed.1, passed)

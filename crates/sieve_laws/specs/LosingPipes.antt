@@ -19,7 +19,7 @@ use Rattle.plan_runs.specs.Stops.{AllSet, Hop, PassedSoFar, TookOf}
 use Rattle.plan_runs.specs.Wholes.{longer}
 use Rattle.stage_meanings.specs.Pipelines.{at_node}
 use Rattle.lane_laws.specs.Lanes.{Noted, first_note, other_notes}
-use Rattle.pipe_laws.specs.Pipes.{IsHalfPipeOf, IsPipeOf, PipeState, stopped}
+use Rattle.pipe_laws.specs.Pipes.{IsHalfPipeOf, IsPipeOf, PipeState, Stands, stopped}
 use Rattle.lost_rows.specs.Sieves.{Sieve, if_calm, is_lost, over_input}
 use Rattle.lost_rows.specs.Stops.{AreSure}
 
@@ -109,3 +109,26 @@ IsBelowLosing g pipes own tables sieves place at n (limit_parts id source output
 IsBelowLosing g pipes own tables sieves place at n (union id left right) notes (i, j, first, left_below, second, right_below, passed) =
     ((place ≡ i) ⊎ IsBelowLosing g pipes own tables [] place i n left (pipes i).notes left_below)
     ⊎ ((place ≡ j) ⊎ IsBelowLosing g pipes own tables [] place j n right (pipes j).notes right_below)
+
+-- of each join of a run whose pipes stand so, what the right side's drivers gave has that side's types
+abbrev pub RightsTyped : {S : Type 0} (g : Ghosts S) (pipes : ℕ → PipeState S) (tables : Tables) (at n : ℕ) (run : RunPlan) (notes : ℕ → ℕ → Noted) → Stands g pipes tables at n run notes → Type 0
+RightsTyped g pipes tables at n (scan id table columns types) notes stands = Unit {0}
+RightsTyped g pipes tables at n (values id types rows) notes stands = Unit {0}
+RightsTyped g pipes tables at n (remote id output m input) notes (j, is, below, passed) = RightsTyped g pipes tables j m input (pipes j).notes below
+RightsTyped g pipes tables at n (filter id predicate input) notes stands = RightsTyped g pipes tables at n input notes stands
+RightsTyped g pipes tables at n (project id columns input) notes stands = RightsTyped g pipes tables at n input notes stands
+RightsTyped g pipes tables at n (join id kind on left right) notes (j, is, below, known, rest) =
+    GaveTyped (types_of (tree_of_run right)) n (pipes j) × RightsTyped g pipes tables j n right (pipes j).notes below
+    × RightsTyped g pipes tables at n left (λ k d. other_notes (notes k d)) rest
+RightsTyped g pipes tables at n (aggregate id keys calls input) notes stands = RightsTyped g pipes tables at n input notes stands.1
+RightsTyped g pipes tables at n (aggregate_parts id source output m keys calls input) notes (j, half, alone, is, below, passed) =
+    RightsTyped g pipes tables j m input (pipes j).notes below
+RightsTyped g pipes tables at n (sort id keys input) notes stands = RightsTyped g pipes tables at n input notes stands.1
+RightsTyped g pipes tables at n (topn id count keys input) notes stands = RightsTyped g pipes tables at n input notes stands.1
+RightsTyped g pipes tables at n (topn_parts id source output m count keys input) notes (j, half, alone, is, below, passed) =
+    RightsTyped g pipes tables j m input (pipes j).notes below
+RightsTyped g pipes tables at n (limit id count input) notes stands = RightsTyped g pipes tables at n input notes stands.1
+RightsTyped g pipes tables at n (limit_parts id source output m count input) notes (j, half, alone, is, below, passed) =
+    RightsTyped g pipes tables j m input (pipes j).notes below
+RightsTyped g pipes tables at n (union id left right) notes (i, j, first, left_below, second, right_below, passed) =
+    RightsTyped g pipes tables i n left (pipes i).notes left_below × RightsTyped g pipes tables j n right (pipes j).notes right_below

@@ -3,7 +3,6 @@ ghost use Rattle.std.specs.Prelude.{◌≡◌, ◌⊎◌, ℕ, List, []};
 ghost use Rattle.sql_values.specs.declared.fail.Fail.{Fail};
 ghost use Rattle.plan_trees.specs.Allowed.{Gives, strict};
 ghost use Rattle.plan_trees.specs.Stopped.{MayFail};
-ghost use Rattle.plan_trees.specs.TreeTypes.{types_of};
 ghost use Rattle.plan_trees.specs.Widths.{FitsWidths};
 ghost use Rattle.plan_runs.specs.Placements.{Placed};
 ghost use Rattle.plan_runs.specs.RunPlans.{RunPlan, tree_of_run};
@@ -13,7 +12,7 @@ ghost use Rattle.lane_laws.specs.Lanes.{Noted};
 ghost use Rattle.pipe_laws.specs.Pipes.{AreOver, HasFailing, IsPipeOf, PipeState, Stands};
 ghost use Rattle.lost_rows.specs.Runs.{AreTyped};
 ghost use Rattle.lost_rows.specs.Sieves.{Sieve};
-ghost use Rattle.sieve_laws.specs.LosingPipes.{GaveTyped, IsBelowLosing, StandsLosing};
+ghost use Rattle.sieve_laws.specs.LosingPipes.{IsBelowLosing, RightsTyped, StandsLosing};
 
 use operator_core::Operator;
 use sql_values::RowList;
@@ -46,12 +45,11 @@ pub fn pipes_that_lost_rows_fail<O: Operator>(tables: &[RowList], _of: PhantomDa
     operator_core::laws::laws::<O>(PhantomData);
 }
 
-/// The law that pipes that lost nothing stand so, where what each gave has its node's types.
+/// The law that pipes that lost nothing stand so, where what the right side of each join gave has that side's types.
 pub fn pipes_that_lost_nothing_stand<O: Operator>(tables: &[RowList], _of: PhantomData<O>)
-    ensures { (pipes : ℕ → PipeState O) → ((n : ℕ) (run : RunPlan) (j : ℕ)
-        → IsPipeOf O.Operator n run (pipes j) → GaveTyped (types_of (tree_of_run run)) n (pipes j))
-        → (at n : ℕ) (run : RunPlan) (notes : ℕ → ℕ → Noted)
-        → Stands O.Operator pipes tables.now at n run notes
+    ensures { (pipes : ℕ → PipeState O) → (at n : ℕ) (run : RunPlan) (notes : ℕ → ℕ → Noted)
+        → (stands : Stands O.Operator pipes tables.now at n run notes)
+        → RightsTyped O.Operator pipes tables.now at n run notes stands
         → StandsLosing O.Operator pipes (λ _. []) tables.now [] at n run notes }
 {}
 

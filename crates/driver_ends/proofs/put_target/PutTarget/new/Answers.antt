@@ -10,6 +10,7 @@ invariant_of-result c =
     let long : length c.in_ok-outlets.outlets.items ≡ length c.args.seats.items = ap length c.in_ok-outlets.ensures ∙ length-map c.args.seats.items new_outlet in
     record {
       fits = subst (FitsKind c.args.kind) (sym long) c.requires.fits;
+      waits = λ is. refl;
       early = λ is. new_early c.args.seats.items c.in_ok-outlets.outlets.items c.in_ok-outlets.ensures c.requires.fresh;
       order = new_in_order c.args.seats.items c.in_ok-outlets.outlets.items c.in_ok-outlets.ensures c.requires.fresh;
       none = search rules;

@@ -30,6 +30,7 @@ invariant_of-self c =
     ∙ c.self.invariant.early (no_end t.is_told t.waiting c.in-Some.page c.in-Some.is) k d (omega (arith, less, long)) in
     record {
       fits = subst (λ outlets. FitsKind t.kind (length outlets)) (sym is) (subst (FitsKind t.kind) (sym long) c.self.invariant.fits);
+      waits = λ is. refl;
       early = λ told. subst (All (λ (l : OutletState). end_count l.seat.put ≡ 0)) (sym is) going;
       order = subst (All OutletInOrder) (sym is) c.hold_all.ensures.order;
       none = c.self.invariant.none;

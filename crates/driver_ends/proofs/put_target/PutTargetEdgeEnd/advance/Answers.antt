@@ -5,7 +5,7 @@ use Rattle.std.proofs.lemmas.List.{with_items_is}
 use Rattle.output_buffer.specs.Edges.{end_count}
 use Rattle.driver_ends.specs.InTarget.{target_view}
 use Rattle.driver_ends.specs.Outlets.{OutletInOrder, OutletState, outlet_kept}
-use Rattle.driver_ends.specs.Targets.{FitsKind, HasSent, HaveTried, TargetState}
+use Rattle.driver_ends.specs.Targets.{FitsKind, HasSent, HaveTried, TargetState, may_wait}
 use Rattle.driver_ends.proofs.TargetLemmas.{kept_early, kept_given, length_same}
 use Rattle.driver_ends.proofs.put_target.PutTargetEdgeEnd.advance.Goals as goal
 
@@ -21,6 +21,7 @@ invariant_of-self g c =
     let is : (with_items t.outlets new).items ≡ new = with_items_is t.outlets new (omega (arith, long, t.outlets.ok.0)) in
     record {
       fits = subst (λ outlets. FitsKind t.kind (length outlets)) (sym is) (subst (FitsKind t.kind) (sym long) c.self.invariant.fits);
+      waits = λ none. c.self.invariant.waits (ap (may_wait t.kind) (sym long ∙ sym (ap length is)) ∙ none);
       early = λ told. subst (All (λ (l : OutletState). end_count l.seat.put ≡ 0)) (sym is) (kept_early ends t.outlets.items new kept c.self.invariant.early told);
       order = subst (All OutletInOrder) (sym is) c.advance_all.ensures.order;
       none = c.self.invariant.none;

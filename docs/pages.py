@@ -3,8 +3,8 @@
 
 usage: python3 docs/pages.py [PROGRAM]
 
-At the top of the repository. It looks whether each link of a page leads somewhere, and whether ARCHITECTURE has each
-crate of crates.txt once, on its floor, in order. With PROGRAM, which is crates/trinorun/out/trinorun, it runs each
+At the top of the repository. It looks whether each link of a page leads somewhere, whether a merge left its marks, and
+whether ARCHITECTURE has each crate of crates.txt once, on its floor, in order. With PROGRAM, which is crates/trinorun/out/trinorun, it runs each
 command of the README and of FORMATS that begins with that path, and looks whether what it prints is a block of the page
 behind it. The exit status is 1 where something does not fit."""
 import os
@@ -36,6 +36,11 @@ def broken_links(page):
         target = os.path.normpath(os.path.join(os.path.dirname(page), file)) if file else page
         if not os.path.exists(target) or anchor and anchor not in anchors(target):
             yield f"{page}: the link {link} leads nowhere"
+
+
+def merge_marks(page):
+    for mark in re.findall(r"^(?:<<<<<<<|=======|>>>>>>>).*$", text_of(page), re.M):
+        yield f"{page}: a merge left {mark}"
 
 
 def crates():
@@ -93,7 +98,8 @@ def wrong_commands(page, program):
 
 
 def main():
-    wrong = [told for page in pages() for told in broken_links(page)] + list(wrong_crates())
+    wrong = [told for page in pages() for look in (broken_links, merge_marks) for told in look(page)]
+    wrong += list(wrong_crates())
     for program in sys.argv[1:]:
         wrong += [told for page in ("README.md", "docs/FORMATS.md") for told in wrong_commands(page, program)]
     print("\n".join(wrong + [f"{len(wrong)} things do not fit"]))

@@ -94,6 +94,11 @@ abbrev pub IsBegun : Bool → List Verdict → List (List Value) → List (List 
 IsBegun true verdicts old new = new ≡ old
 IsBegun false verdicts old new = map keeps new ≡ verdicts
 
+-- groups whose output had begun stay as they are, and the others have no keys any more but those of no row
+abbrev pub AreForgotten : Bool → TableState → TableState → Type 0
+AreForgotten true old new = new ≡ old
+AreForgotten false old new = new.keys ≡ first_keys (length old.columns)
+
 -- of no row, with pages of rows of these types
 abbrev pub no_groups : List ℕ → List Call → List SqlType → List SqlType → ℕ → GroupsState
 no_groups columns calls types given page = record {

@@ -4,7 +4,7 @@ ghost use Rattle.col_pages.specs.Pages.{most_rows};
 ghost use Rattle.relations.specs.Verdicts.{fails};
 ghost use Rattle.accumulators.specs.Limits.{are_allowed};
 ghost use Rattle.aggregation.specs.Alike.{TellAlike, held_row, part_rows};
-ghost use Rattle.aggregation.specs.Giving.{IsBegun, IsGiven, has_more, no_groups, parts_with, verdicts_with};
+ghost use Rattle.aggregation.specs.Giving.{AreForgotten, IsBegun, IsGiven, has_more, no_groups, parts_with, verdicts_with};
 ghost use Rattle.aggregation.specs.Tables.{held_in};
 
 use crate::left::LeftRows;
@@ -128,6 +128,7 @@ impl GroupRows {
           keys = self.old.table.keys;
           partials = self.old.table.partials;
         } ≡ self.old.table) }
+        ensures forgot { OnOk result (AreForgotten self.old.begun self.old.table self.new.table) }
         ensures begun { OnOk result
             (IsBegun self.old.begun (verdicts_with self.old.table []) self.old.left.rows self.new.left.rows) }
         ensures err { OnErr result (self.new ≡ self.old) }
@@ -161,6 +162,7 @@ impl GroupRows {
           keys = self.old.table.keys;
           partials = self.old.table.partials;
         } ≡ self.old.table) }
+        ensures forgot { OnOk result (AreForgotten self.old.begun self.old.table self.new.table) }
         ensures begun { OnOk result
             (IsBegun self.old.begun (parts_with self.old.table []) self.old.left.rows self.new.left.rows) }
         ensures err { OnErr result (self.new ≡ self.old) }

@@ -10,9 +10,9 @@ use Rattle.sql_values.specs.declared.order.Order.{Order}
 use Rattle.sql_values.specs.Cells.{cell}
 use Rattle.sql_values.specs.Order.{number_in}
 use Rattle.sql_functions.specs.Truth.{is_null}
-use Rattle.relations.specs.Aggregates.{first_by}
-use Rattle.relations.specs.Equality.{is_present}
-use Rattle.relations.specs.Partials.{added_counts, added_sums, partial_sum}
+use Rattle.relation_laws.specs.Aggregates.{first_by}
+use Rattle.relation_laws.specs.Equality.{is_present}
+use Rattle.relation_laws.specs.Partials.{added_counts, added_sums, partial_sum}
 use Rattle.accumulators.specs.Columns.{added, count_in, sum_cell, summand}
 
 no_more : (n : ℤ) → n +ℤ pos 0 ≡ n

@@ -6,7 +6,7 @@ use Rattle.sql_values.specs.declared.value.Value.{Value}
 use Rattle.sql_values.specs.declared.relational.Call.{Call}
 use Rattle.sql_values.specs.declared.relational.Call.TheVariants.{CountAll, Count, Sum, Min, Max, Avg}
 use Rattle.sql_values.specs.Cells.{cell}
-use Rattle.relations.specs.Partials.{call_columns, call_width, merged_call, merged_calls}
+use Rattle.relation_laws.specs.Partials.{call_columns, call_width, merged_call, merged_calls}
 use Rattle.accumulators.specs.Columns.{column_of, columns_of}
 use Rattle.accumulators.specs.Kept.{Kept, added_row, all_columns, calls_of, kinds_of, merged_each, merged_kept}
 use Rattle.accumulators.specs.Limits.{IsKept}

@@ -16,9 +16,9 @@ use Rattle.sql_values.specs.Cells.{cell}
 use Rattle.sql_values.specs.Order.{number_in}
 use Rattle.sql_functions.specs.Outcomes.{Outcome}
 use Rattle.sql_functions.specs.Truth.{is_null}
-use Rattle.relations.specs.Aggregates.{all_values, most_rows, within_rows}
-use Rattle.relations.specs.Partials.{call_columns, call_from, call_width, calls_from, merged, merged_calls, overfull, partial_of, results_from, rows_in, with_rows}
-use Rattle.relations.proofs.PartialLemmas.{beyond_most, within_most}
+use Rattle.relation_laws.specs.Aggregates.{all_values, most_group_rows, within_rows}
+use Rattle.relation_laws.specs.Partials.{call_columns, call_from, call_width, calls_from, merged, merged_calls, overfull, partial_of, results_from, rows_in, with_rows}
+use Rattle.relation_laws.proofs.PartialLemmas.{beyond_most, within_most}
 use Rattle.accumulators.specs.Columns.{columns_of, kind_in}
 use Rattle.accumulators.specs.Kept.{Kept, added_row, kept_of_none, all_columns, calls_of, kinds_of, merged_each, outcome_from, outcome_in}
 use Rattle.accumulators.specs.Limits.{CanAdd, CanMergeEach, IsKept, takes_row, are_all_columns, are_columns, are_null, is_partial, is_row_count}
@@ -29,14 +29,14 @@ use Rattle.accumulators.proofs.KeptLemmas.{columns-can_merge, columns-kept, row-
 
 -- how many rows a group's partial row tells
 pub rows-told : (calls : List Call) (rows : ℕ) (columns : List Value) → rows ≤ 2 ^ 63 → rows_in (with_rows calls rows columns) ≡ rows
-rows-told calls rows columns few = rows_at (cases_lt most_rows rows)
+rows-told calls rows columns few = rows_at (cases_lt most_group_rows rows)
   where
-    rows_at : (most_rows < rows) ⊎ (rows ≤ most_rows) → rows_in (with_rows calls rows columns) ≡ rows
+    rows_at : (most_group_rows < rows) ⊎ (rows ≤ most_group_rows) → rows_in (with_rows calls rows columns) ≡ rows
     rows_at (inl gt) = ap rows_in (beyond_most calls rows columns gt) ∙ omega (arith, gt, few)
     rows_at (inr le) = ap rows_in (within_most calls rows columns le)
 
 -- a part whose rows are not too many
-pub part-merged : (a : ℕ) (ks : List Kept) (part : List Value) → a + rows_in part ≤ most_rows → All (IsKept a) ks
+pub part-merged : (a : ℕ) (ks : List Kept) (part : List Value) → a + rows_in part ≤ most_group_rows → All (IsKept a) ks
     → with_part (group_kept a ks) part ≡ group_kept (a + rows_in part) (merged_each ks (drop 1 part))
 part-merged a ks part few all =
     let calls = calls_of ks in
@@ -51,7 +51,7 @@ part-merged a ks part few all =
     }
 
 -- one whose rows are
-pub part-overfull : (a : ℕ) (ks now : List Kept) (part : List Value) → a ≤ 2 ^ 63 → most_rows < a + rows_in part → calls_of now ≡ calls_of ks → kinds_of now ≡ kinds_of ks
+pub part-overfull : (a : ℕ) (ks now : List Kept) (part : List Value) → a ≤ 2 ^ 63 → most_group_rows < a + rows_in part → calls_of now ≡ calls_of ks → kinds_of now ≡ kinds_of ks
     → with_part (group_kept a ks) part ≡ group_kept (2 ^ 63) now
 part-overfull a ks now part few many calls kinds =
     let cs = calls_of ks in
@@ -64,12 +64,12 @@ part-overfull a ks now part few many calls kinds =
     }
 
 -- one more row
-pub row-added : (a : ℕ) (ks : List Kept) (row : List Value) → a + 1 ≤ most_rows → All (IsKept a) ks → with_row (group_kept a ks) row ≡ group_kept (a + 1) (map (added_row row) ks)
+pub row-added : (a : ℕ) (ks : List Kept) (row : List Value) → a + 1 ≤ most_group_rows → All (IsKept a) ks → with_row (group_kept a ks) row ≡ group_kept (a + 1) (map (added_row row) ks)
 row-added a ks row few all =
     part-merged a ks (partial_of (calls_of ks) (row ∷ [])) few all
     ∙ ap (group_kept (a + 1)) (sym (rows-merged row ks))
 
-pub row-overfull : (a : ℕ) (ks now : List Kept) (row : List Value) → a ≤ 2 ^ 63 → most_rows < a + 1 → calls_of now ≡ calls_of ks → kinds_of now ≡ kinds_of ks → with_row (group_kept a ks) row ≡ group_kept (2 ^ 63) now
+pub row-overfull : (a : ℕ) (ks now : List Kept) (row : List Value) → a ≤ 2 ^ 63 → most_group_rows < a + 1 → calls_of now ≡ calls_of ks → kinds_of now ≡ kinds_of ks → with_row (group_kept a ks) row ≡ group_kept (2 ^ 63) now
 row-overfull a ks now row few many calls kinds = part-overfull a ks now (partial_of (calls_of ks) (row ∷ [])) few many calls kinds
 
 -- the columns of a call, with more behind them
@@ -107,16 +107,16 @@ overfull-null (call ∷ calls) =
     ∙ and_from (list_all is_null (take w (replicate (w + n) Null))) (are_null calls (drop w (replicate (w + n) Null))) front (ap (are_null calls) rest ∙ overfull-null calls)
 
 -- the partial row is one of the layout
-pub group-partial : (rows : ℕ) (ks : List Kept) → rows ≤ 2 ^ 63 → (rows ≤ most_rows → All (IsKept rows) ks) → IsTrue (is_partial (calls_of ks) (kinds_of ks) (group_kept rows ks).partial)
-group-partial rows ks few all = partial_at (cases_lt most_rows rows)
+pub group-partial : (rows : ℕ) (ks : List Kept) → rows ≤ 2 ^ 63 → (rows ≤ most_group_rows → All (IsKept rows) ks) → IsTrue (is_partial (calls_of ks) (kinds_of ks) (group_kept rows ks).partial)
+group-partial rows ks few all = partial_at (cases_lt most_group_rows rows)
   where
-    partial_at : (most_rows < rows) ⊎ (rows ≤ most_rows) → IsTrue (is_partial (calls_of ks) (kinds_of ks) (group_kept rows ks).partial)
+    partial_at : (most_group_rows < rows) ⊎ (rows ≤ most_group_rows) → IsTrue (is_partial (calls_of ks) (kinds_of ks) (group_kept rows ks).partial)
     partial_at (inl gt) = ap (is_partial (calls_of ks) (kinds_of ks)) (beyond_most (calls_of ks) rows (all_columns ks) gt) ∙ overfull-null (calls_of ks)
     partial_at (inr le) =
         ap (is_partial (calls_of ks) (kinds_of ks)) (within_most (calls_of ks) rows (all_columns ks) le)
-        ∙ and_from (int_le (pos 0) (pos rows) && nat_le rows (2 ^ 63)) (if nat_le rows most_rows then are_all_columns rows (calls_of ks) (kinds_of ks) (all_columns ks) else are_null (calls_of ks) (all_columns ks))
+        ∙ and_from (int_le (pos 0) (pos rows) && nat_le rows (2 ^ 63)) (if nat_le rows most_group_rows then are_all_columns rows (calls_of ks) (kinds_of ks) (all_columns ks) else are_null (calls_of ks) (all_columns ks))
         (and_from (int_le (pos 0) (pos rows)) (nat_le rows (2 ^ 63)) (le-leb 0 rows (omega arith)) (le-leb rows (2 ^ 63) few))
-        (ap (λ b. if b then are_all_columns rows (calls_of ks) (kinds_of ks) (all_columns ks) else are_null (calls_of ks) (all_columns ks)) (le-leb rows most_rows le)
+        (ap (λ b. if b then are_all_columns rows (calls_of ks) (kinds_of ks) (all_columns ks) else are_null (calls_of ks) (all_columns ks)) (le-leb rows most_group_rows le)
         ∙ columns-whole rows ks (all le))
 
 -- what a call's columns tell
@@ -146,21 +146,21 @@ outcomes-told types rows (k ∷ ks) all e =
     other_kinds : (k.kind ∷ kinds_of ks) ≡ (kind_in types k.call ∷ map (kind_in types) (calls_of ks)) → kinds_of ks ≡ map (kind_in types) (calls_of ks)
     other_kinds e = cc
 
-too_many : (rows : ℕ) (o : Outcome) → most_rows < rows → within_rows rows o ≡ Err OutOfRange
-too_many rows o h = ap (λ b. if b then o else Err OutOfRange) (lt-leb rows most_rows h)
+too_many : (rows : ℕ) (o : Outcome) → most_group_rows < rows → within_rows rows o ≡ Err OutOfRange
+too_many rows o h = ap (λ b. if b then o else Err OutOfRange) (lt-leb rows most_group_rows h)
 
-none-told : (types : List SqlType) (rows told : ℕ) (ks : List Kept) (columns : List Value) → most_rows < rows → most_rows < told
+none-told : (types : List SqlType) (rows told : ℕ) (ks : List Kept) (columns : List Value) → most_group_rows < rows → most_group_rows < told
     → calls_from types told columns (calls_of ks) ≡ map (outcome_in rows) ks
 none-told types rows told [] columns h g = refl
 none-told types rows told (k ∷ ks) columns h g =
     let here = too_many told (call_from types told columns k.call) g ∙ sym (too_many rows (outcome_from k.kind rows k.columns k.call) h) in
     λ i. here i ∷ none-told types rows told ks (drop (call_width k.call) columns) h g i
 
-pub results-told : (types : List SqlType) (rows : ℕ) (ks : List Kept) → (rows ≤ most_rows → All (IsKept rows) ks) → kinds_of ks ≡ map (kind_in types) (calls_of ks)
+pub results-told : (types : List SqlType) (rows : ℕ) (ks : List Kept) → (rows ≤ most_group_rows → All (IsKept rows) ks) → kinds_of ks ≡ map (kind_in types) (calls_of ks)
     → results_from types (calls_of ks) (group_kept rows ks).partial ≡ all_outcomes rows ks
-results-told types rows ks all e = results_at (cases_lt most_rows rows)
+results-told types rows ks all e = results_at (cases_lt most_group_rows rows)
   where
-    results_at : (most_rows < rows) ⊎ (rows ≤ most_rows) → results_from types (calls_of ks) (group_kept rows ks).partial ≡ all_outcomes rows ks
+    results_at : (most_group_rows < rows) ⊎ (rows ≤ most_group_rows) → results_from types (calls_of ks) (group_kept rows ks).partial ≡ all_outcomes rows ks
     results_at (inl gt) =
         ap (results_from types (calls_of ks)) (beyond_most (calls_of ks) rows (all_columns ks) gt)
         ∙ ap all_values (none-told types rows (2 ^ 63) ks (drop 1 (overfull (calls_of ks))) gt (omega arith))
@@ -223,36 +223,36 @@ none-view types calls ks e =
     })
 
 -- the columns of a part whose rows are not too many
-columns-of : (calls : List Call) (kinds : List SqlType) (part : List Value) → rows_in part ≤ most_rows → IsTrue (is_partial calls kinds part) → IsTrue (are_all_columns (rows_in part) calls kinds (drop 1 part))
+columns-of : (calls : List Call) (kinds : List SqlType) (part : List Value) → rows_in part ≤ most_group_rows → IsTrue (is_partial calls kinds part) → IsTrue (are_all_columns (rows_in part) calls kinds (drop 1 part))
 columns-of calls kinds part few h =
-    let parts = and_parts (is_row_count (cell part 0)) (if nat_le (rows_in part) most_rows then are_all_columns (rows_in part) calls kinds (drop 1 part) else are_null calls (drop 1 part)) h in
-    ap (λ (b : Bool). if b then are_all_columns (rows_in part) calls kinds (drop 1 part) else are_null calls (drop 1 part)) (sym (le-leb (rows_in part) most_rows few)) ∙ parts.1
+    let parts = and_parts (is_row_count (cell part 0)) (if nat_le (rows_in part) most_group_rows then are_all_columns (rows_in part) calls kinds (drop 1 part) else are_null calls (drop 1 part)) h in
+    ap (λ (b : Bool). if b then are_all_columns (rows_in part) calls kinds (drop 1 part) else are_null calls (drop 1 part)) (sym (le-leb (rows_in part) most_group_rows few)) ∙ parts.1
 
 -- what a row has from a column on, by its first cell
 module _ (calls : List Call) (kinds : List SqlType) (row : List Value) (first rows : ℕ) (v : Value) (told : Bool) (is : v ≡ cell row first) (count : IsTrue (is_row_count v)) (number : rows ≡ nat_abs (number_in v)) where
   rows-here : rows ≡ rows_in (drop first row)
   rows-here = number ∙ ap (λ (x : Value). nat_abs (number_in x)) (is ∙ first_cell row first)
 
-  part-here : (columns : Bool) → told ≡ columns → columns ≡ (if nat_le (rows_in (drop first row)) most_rows then are_all_columns (rows_in (drop first row)) calls kinds (drop 1 (drop first row)) else are_null calls (drop 1 (drop first row)))
+  part-here : (columns : Bool) → told ≡ columns → columns ≡ (if nat_le (rows_in (drop first row)) most_group_rows then are_all_columns (rows_in (drop first row)) calls kinds (drop 1 (drop first row)) else are_null calls (drop 1 (drop first row)))
       → told ≡ is_partial calls kinds (drop first row)
   part-here columns e f =
       let part = drop first row in
-      e ∙ f ∙ ap (λ (b : Bool). b && (if nat_le (rows_in part) most_rows then are_all_columns (rows_in part) calls kinds (drop 1 part) else are_null calls (drop 1 part)))
+      e ∙ f ∙ ap (λ (b : Bool). b && (if nat_le (rows_in part) most_group_rows then are_all_columns (rows_in part) calls kinds (drop 1 part) else are_null calls (drop 1 part)))
       (sym (ap is_row_count (sym (is ∙ first_cell row first)) ∙ count))
 
-  pub few-told : rows ≤ most_rows → told ≡ are_all_columns rows calls kinds (drop (first + 1) row) → told ≡ is_partial calls kinds (drop first row)
+  pub few-told : rows ≤ most_group_rows → told ≡ are_all_columns rows calls kinds (drop (first + 1) row) → told ≡ is_partial calls kinds (drop first row)
   few-told few e =
       let part = drop first row in
       part-here (are_all_columns rows calls kinds (drop (first + 1) row)) e
       ((λ i. are_all_columns (rows-here i) calls kinds (behind_first row first i))
-      ∙ ap (λ (b : Bool). if b then are_all_columns (rows_in part) calls kinds (drop 1 part) else are_null calls (drop 1 part)) (sym (le-leb (rows_in part) most_rows (omega (arith, few, rows-here)))))
+      ∙ ap (λ (b : Bool). if b then are_all_columns (rows_in part) calls kinds (drop 1 part) else are_null calls (drop 1 part)) (sym (le-leb (rows_in part) most_group_rows (omega (arith, few, rows-here)))))
 
-  pub many-told : most_rows < rows → told ≡ are_null calls (drop (first + 1) row) → told ≡ is_partial calls kinds (drop first row)
+  pub many-told : most_group_rows < rows → told ≡ are_null calls (drop (first + 1) row) → told ≡ is_partial calls kinds (drop first row)
   many-told many e =
       let part = drop first row in
       part-here (are_null calls (drop (first + 1) row)) e
       (ap (are_null calls) (behind_first row first)
-      ∙ ap (λ (b : Bool). if b then are_all_columns (rows_in part) calls kinds (drop 1 part) else are_null calls (drop 1 part)) (sym (lt-leb (rows_in part) most_rows (omega (arith, many, rows-here)))))
+      ∙ ap (λ (b : Bool). if b then are_all_columns (rows_in part) calls kinds (drop 1 part) else are_null calls (drop 1 part)) (sym (lt-leb (rows_in part) most_group_rows (omega (arith, many, rows-here)))))
 
 -- whatever was merged in, the calls and what they add are the same
 pub merge-stays : (ks now : List Kept) (columns : List Value) → now ≡ merged_each ks columns → (calls_of now ≡ calls_of ks) × (kinds_of now ≡ kinds_of ks)
@@ -271,10 +271,10 @@ module _ (a : ℕ) (ks now : List Kept) (g : Group) (view : group_kept a ks ≡ 
   part-view : (part : List Value) → IsTrue (is_partial g.calls g.kinds part) → IsTrue (is_partial (calls_of ks) (kinds_of ks) part)
   part-view part h = ap (λ (x : Group). is_partial x.calls x.kinds part) view ∙ h
 
-  pub can-add : (row : List Value) → a + 1 ≤ most_rows → IsTrue (takes_row g.calls g.kinds row) → All (CanAdd row) ks
+  pub can-add : (row : List Value) → a + 1 ≤ most_group_rows → IsTrue (takes_row g.calls g.kinds row) → All (CanAdd row) ks
   can-add row few h = row-can_add a row ks few (is.all_kept (omega (arith, few))) (takes-view row h)
 
-  pub group-added : (row : List Value) (rows : ℕ) → rows ≡ a + 1 → a + 1 ≤ most_rows → IsTrue (takes_row g.calls g.kinds row) → now ≡ map (added_row row) ks → IsGroup rows now
+  pub group-added : (row : List Value) (rows : ℕ) → rows ≡ a + 1 → a + 1 ≤ most_group_rows → IsTrue (takes_row g.calls g.kinds row) → now ≡ map (added_row row) ks → IsGroup rows now
   group-added row rows e few h ok = record {
     few = omega (arith, e, few);
     few_calls = same-few ks now (add-stays ks now row ok).0 is.few_calls;
@@ -282,16 +282,16 @@ module _ (a : ℕ) (ks now : List Kept) (g : Group) (view : group_kept a ks ≡ 
         (All-same (IsKept (a + 1)) now (map (added_row row) ks) ok (row-kept a row ks (is.all_kept (omega (arith, few))) (takes-view row h)));
   }
 
-  pub view-added : (row : List Value) (rows : ℕ) → rows ≡ a + 1 → a + 1 ≤ most_rows → now ≡ map (added_row row) ks → group_kept rows now ≡ with_row g row
+  pub view-added : (row : List Value) (rows : ℕ) → rows ≡ a + 1 → a + 1 ≤ most_group_rows → now ≡ map (added_row row) ks → group_kept rows now ≡ with_row g row
   view-added row rows e few ok =
       (λ i. group_kept (e i) (ok i)) ∙ sym (row-added a ks row few (is.all_kept (omega (arith, few)))) ∙ ap (λ (x : Group). with_row x row) view
 
-  pub can-merge : (part columns : List Value) → columns ≡ drop 1 part → a + rows_in part ≤ most_rows → IsTrue (is_partial g.calls g.kinds part) → CanMergeEach ks columns
+  pub can-merge : (part columns : List Value) → columns ≡ drop 1 part → a + rows_in part ≤ most_group_rows → IsTrue (is_partial g.calls g.kinds part) → CanMergeEach ks columns
   can-merge part columns e few h =
       subst (λ (cs : List Value). CanMergeEach ks cs) (sym e)
       (columns-can_merge a (rows_in part) ks (drop 1 part) few (is.all_kept (omega (arith, few))) (columns-of (calls_of ks) (kinds_of ks) part (omega (arith, few)) (part-view part h)))
 
-  pub group-merged : (part columns : List Value) (rows : ℕ) → columns ≡ drop 1 part → rows ≡ a + rows_in part → a + rows_in part ≤ most_rows → IsTrue (is_partial g.calls g.kinds part)
+  pub group-merged : (part columns : List Value) (rows : ℕ) → columns ≡ drop 1 part → rows ≡ a + rows_in part → a + rows_in part ≤ most_group_rows → IsTrue (is_partial g.calls g.kinds part)
       → now ≡ merged_each ks columns → IsGroup rows now
   group-merged part columns rows c e few h ok = record {
     few = omega (arith, e, few);
@@ -301,7 +301,7 @@ module _ (a : ℕ) (ks now : List Kept) (g : Group) (view : group_kept a ks ≡ 
         (columns-kept a (rows_in part) ks (drop 1 part) (is.all_kept (omega (arith, few))) (columns-of (calls_of ks) (kinds_of ks) part (omega (arith, few)) (part-view part h))));
   }
 
-  pub view-merged : (part columns : List Value) (rows : ℕ) → columns ≡ drop 1 part → rows ≡ a + rows_in part → a + rows_in part ≤ most_rows → now ≡ merged_each ks columns
+  pub view-merged : (part columns : List Value) (rows : ℕ) → columns ≡ drop 1 part → rows ≡ a + rows_in part → a + rows_in part ≤ most_group_rows → now ≡ merged_each ks columns
       → group_kept rows now ≡ with_part g part
   view-merged part columns rows c e few ok =
       (λ i. group_kept (e i) ((ok ∙ ap (merged_each ks) c) i)) ∙ sym (part-merged a ks part few (is.all_kept (omega (arith, few)))) ∙ ap (λ (x : Group). with_part x part) view

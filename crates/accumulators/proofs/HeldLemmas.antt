@@ -8,9 +8,9 @@ use Rattle.sql_values.specs.declared.value.Value.TheVariants.{Bigint}
 use Rattle.sql_values.specs.declared.relational.Call.TheVariants as call_is
 use Rattle.sql_values.specs.Cells.{cell}
 use Rattle.sql_functions.specs.CallTypes.{is_decimal}
-use Rattle.relations.specs.Aggregates.{count_of, most_rows}
-use Rattle.relations.specs.Equality.{is_present}
-use Rattle.relations.specs.Partials.{partial_sum}
+use Rattle.relation_laws.specs.Aggregates.{count_of, most_group_rows}
+use Rattle.relation_laws.specs.Equality.{is_present}
+use Rattle.relation_laws.specs.Partials.{partial_sum}
 use Rattle.accumulators.specs.declared.call_state.Held.{Held}
 use Rattle.accumulators.specs.declared.call_state.Held.TheVariants.{Count, Sum, Avg}
 use Rattle.accumulators.specs.Columns.{HasAverage, columns_of, count_in, magnitude, sum_cell, summand}
@@ -38,7 +38,7 @@ pub short_average : (held : Held) (column : ℕ) (kind : SqlType) (sum : Option 
     → IsTrue (is_short kind)
 short_average held column kind sum count e h = (and_parts (is_decimal kind) (is_short kind) (short_at_held held (Avg column kind sum count) e h)).1
 
-two_sums : (kind : SqlType) (own others : ℕ) (sum : Option ℤ) (v : Value) → IsTrue (is_short kind) → own + others ≤ most_rows
+two_sums : (kind : SqlType) (own others : ℕ) (sum : Option ℤ) (v : Value) → IsTrue (is_short kind) → own + others ≤ most_group_rows
     → IsTrue (is_sum (own * greatest kind) (sum_cell sum)) → IsTrue (is_sum (others * greatest kind) v) → magnitude sum + magnitude (summand v) < 2 ^ 127
 two_sums kind own others sum v short few h k =
     let g = greatest kind in
@@ -47,18 +47,18 @@ two_sums kind own others sum v short few h k =
     let below : magnitude sum + magnitude (summand v) < 2 ^ 126 = room own others g (magnitude sum) (magnitude (summand v)) left right few (greatest_small kind short) in
     omega arith
 
-two_counts : (own others count : ℕ) (v : Value) → own + others ≤ most_rows → IsTrue (is_count own (Bigint (pos count))) → IsTrue (is_count others v) → count + count_in v ≤ most_rows
+two_counts : (own others count : ℕ) (v : Value) → own + others ≤ most_group_rows → IsTrue (is_count own (Bigint (pos count))) → IsTrue (is_count others v) → count + count_in v ≤ most_group_rows
 two_counts own others count v few h k = omega (arith, count_within own (Bigint (pos count)) h, count_within others v k)
 
 one_summand : (v : Value) → summand (partial_sum (filter is_present (v ∷ []))) ≡ summand v
 one_summand v = ap summand (one_sum v) ∙ summand-cell (summand v)
 
 pub count_and_cell : (column count : ℕ) (v : Value) → CanMerge (kept (Count column count)) (columns_of (call_is.Count column) (v ∷ []))
-    → count + length (filter is_present (v ∷ [])) ≤ most_rows
+    → count + length (filter is_present (v ∷ [])) ≤ most_group_rows
 count_and_cell column count v m = two_counts m.own m.others count (count_of (filter is_present (v ∷ []))) m.few m.is_kept.within m.is_merged
 
 pub count_and_stored : (column count : ℕ) (columns : List Value) (v : Value) → v ≡ cell columns 0 → CanMerge (kept (Count column count)) columns
-    → (count + count_in v ≤ most_rows) × (Bigint (pos (count_in v)) ≡ v)
+    → (count + count_in v ≤ most_group_rows) × (Bigint (pos (count_in v)) ≡ v)
 count_and_stored column count columns v e m =
     let is : IsTrue (is_count m.others v) = ap (is_count m.others) e ∙ m.is_merged in
     (two_counts m.own m.others count v m.few m.is_kept.within is, count_is m.others v is)
@@ -77,7 +77,7 @@ sum_and_stored column kind sum columns v e short m =
 
 pub average_and_cell : (column : ℕ) (kind : SqlType) (sum : Option ℤ) (count : ℕ) (v : Value) → IsTrue (is_short kind)
     → CanMerge (kept (Avg column kind sum count)) (columns_of (call_is.Avg column) (v ∷ []))
-    → (magnitude sum + magnitude (summand v) < 2 ^ 127) × (count + length (filter is_present (v ∷ [])) ≤ most_rows)
+    → (magnitude sum + magnitude (summand v) < 2 ^ 127) × (count + length (filter is_present (v ∷ [])) ≤ most_group_rows)
 average_and_cell column kind sum count v short m =
     let g = greatest kind in
     let one = partial_sum (filter is_present (v ∷ [])) in
@@ -90,7 +90,7 @@ average_and_cell column kind sum count v short m =
 
 pub average_and_stored : (column : ℕ) (kind : SqlType) (sum : Option ℤ) (count : ℕ) (columns : List Value) (v w : Value) → v ≡ cell columns 0 → w ≡ cell columns 1
     → IsTrue (is_short kind) → CanMerge (kept (Avg column kind sum count)) columns
-    → (magnitude sum + magnitude (summand v) < 2 ^ 127) × (sum_cell (summand v) ≡ v) × (count + count_in w ≤ most_rows) × (Bigint (pos (count_in w)) ≡ w)
+    → (magnitude sum + magnitude (summand v) < 2 ^ 127) × (sum_cell (summand v) ≡ v) × (count + count_in w ≤ most_group_rows) × (Bigint (pos (count_in w)) ≡ w)
 average_and_stored column kind sum count columns v w e f short m =
     let g = greatest kind in
     let own = sum_parts m.own g (sum_cell sum) (Bigint (pos count)) m.is_kept.within in
@@ -104,7 +104,7 @@ average_and_stored column kind sum count columns v w e f short m =
     )
 
 -- what is kept for an average has one
-pub average_at : (rows column : ℕ) (kind : SqlType) (sum : Option ℤ) (count : ℕ) → IsTrue (is_short kind) → rows ≤ most_rows → IsKept rows (kept (Avg column kind sum count)) → HasAverage sum count
+pub average_at : (rows column : ℕ) (kind : SqlType) (sum : Option ℤ) (count : ℕ) → IsTrue (is_short kind) → rows ≤ most_group_rows → IsKept rows (kept (Avg column kind sum count)) → HasAverage sum count
 average_at rows column kind sum count short few m =
     let g = greatest kind in
     let parts = sum_parts rows g (sum_cell sum) (Bigint (pos count)) m.within in

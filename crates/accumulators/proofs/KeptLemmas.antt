@@ -10,9 +10,9 @@ use Rattle.sql_values.specs.declared.relational.Call.{Call}
 use Rattle.sql_values.specs.declared.relational.Call.TheVariants.{CountAll, Count, Sum, Min, Max, Avg}
 use Rattle.sql_values.specs.Cells.{cell}
 use Rattle.sql_values.specs.Order.{number_in}
-use Rattle.relations.specs.Aggregates.{most_rows}
-use Rattle.relations.specs.Equality.{is_present}
-use Rattle.relations.specs.Partials.{added_counts, added_sums, call_width, merged_call}
+use Rattle.relation_laws.specs.Aggregates.{most_group_rows}
+use Rattle.relation_laws.specs.Equality.{is_present}
+use Rattle.relation_laws.specs.Partials.{added_counts, added_sums, call_width, merged_call}
 use Rattle.accumulators.specs.Columns.{added, column_of, columns_of, count_in, magnitude, sum_cell, summand}
 use Rattle.accumulators.specs.Kept.{Kept, added_row, calls_of, kinds_of, merged_each, merged_kept}
 use Rattle.accumulators.specs.Limits.{CanAdd, CanMerge, CanMergeEach, IsKept, are_all_columns, are_columns, are_sum_and_count, counts_sum, greatest, is_count, is_number_of, is_sum, takes_cell, takes_row}
@@ -108,7 +108,7 @@ cell-fits kind (Avg column) v h =
     (ap (λ s. counts_sum g s (length (filter is_present (v ∷ [])))) (summand-cell (summand v)) ∙ one_tied g v small)
 
 -- a row that all calls can take
-pub row-can_add : (rows : ℕ) (row : List Value) (ks : List Kept) → rows + 1 ≤ most_rows → All (IsKept rows) ks → IsTrue (takes_row (calls_of ks) (kinds_of ks) row) → All (CanAdd row) ks
+pub row-can_add : (rows : ℕ) (row : List Value) (ks : List Kept) → rows + 1 ≤ most_group_rows → All (IsKept rows) ks → IsTrue (takes_row (calls_of ks) (kinds_of ks) row) → All (CanAdd row) ks
 row-can_add rows row [] few all h = All-nil (CanAdd row)
 row-can_add rows row (k ∷ ks) few all h =
     let v = cell row (column_of k.call) in
@@ -126,7 +126,7 @@ row-kept rows row (k ∷ ks) all h =
     (row-kept rows row ks (All-tail (IsKept rows) k ks all) parts.1)
 
 -- columns that all calls can take
-pub columns-can_merge : (a b : ℕ) (ks : List Kept) (columns : List Value) → a + b ≤ most_rows → All (IsKept a) ks
+pub columns-can_merge : (a b : ℕ) (ks : List Kept) (columns : List Value) → a + b ≤ most_group_rows → All (IsKept a) ks
     → IsTrue (are_all_columns b (calls_of ks) (kinds_of ks) columns) → CanMergeEach ks columns
 columns-can_merge a b [] columns few all h = tt
 columns-can_merge a b (k ∷ ks) columns few all h =

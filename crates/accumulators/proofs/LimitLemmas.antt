@@ -8,7 +8,7 @@ use Rattle.sql_values.specs.declared.types.SqlType.{SqlType}
 use Rattle.sql_values.specs.declared.types.SqlType.TheVariants as type
 use Rattle.sql_values.specs.declared.value.Value.{Value}
 use Rattle.sql_values.specs.declared.value.Value.TheVariants.{Null, Boolean, Bigint, Decimal, Varchar, Date}
-use Rattle.relations.specs.Aggregates.{most_rows}
+use Rattle.relation_laws.specs.Aggregates.{most_group_rows}
 use Rattle.accumulators.specs.Columns.{HasAverage, added, count_in, magnitude, sum_cell, summand}
 use Rattle.accumulators.specs.Limits.{counts_sum, greatest, is_count, is_short, is_sum}
 
@@ -28,11 +28,11 @@ greatest_small type.Varchar h = omega arith
 greatest_small type.Date h = omega arith
 
 -- sums of at most so many numbers, each of at most so great a magnitude
-pub room : (a b g m n : ℕ) → m ≤ a * g → n ≤ b * g → a + b ≤ most_rows → g ≤ 2 ^ 63 → m + n < 2 ^ 126
+pub room : (a b g m n : ℕ) → m ≤ a * g → n ≤ b * g → a + b ≤ most_group_rows → g ≤ 2 ^ 63 → m + n < 2 ^ 126
 room a b g m n h k few small =
     let whole : (a + b) * g ≡ a * g + b * g = add-mul a b g in
-    let most : (a + b) * g ≤ most_rows * 2 ^ 63 = mul-le-mul few small in
-    let top : most_rows * 2 ^ 63 < 2 ^ 126 = lit< tt in
+    let most : (a + b) * g ≤ most_group_rows * 2 ^ 63 = mul-le-mul few small in
+    let top : most_group_rows * 2 ^ 63 < 2 ^ 126 = lit< tt in
     omega arith
 
 pub summand-cell : (sum : Option ℤ) → summand (sum_cell sum) ≡ sum
@@ -87,13 +87,13 @@ pub count-fits : (most n : ℕ) → n ≤ most → IsTrue (is_count most (Bigint
 count-fits most n h = let some : 0 ≤ n = omega arith in and_from (int_le (pos 0) (pos n)) (nat_le n most) (le-leb 0 n some) (le-leb n most h)
 
 -- the average of what a group can hold is one
-pub has_average : (g count : ℕ) (sum : Option ℤ) → IsTrue (counts_sum g sum count) → count ≤ most_rows → g ≤ 2 ^ 63 → HasAverage sum count
+pub has_average : (g count : ℕ) (sum : Option ℤ) → IsTrue (counts_sum g sum count) → count ≤ most_group_rows → g ≤ 2 ^ 63 → HasAverage sum count
 has_average g count None h few small = tt
 has_average g count (Some n) h few small =
     let parts = and_parts (nat_le 1 count) (nat_le (nat_abs n) (count * g)) h in
     let below : nat_abs n ≤ count * g = leb-true (nat_abs n) (count * g) parts.1 in
     let none : 0 ≤ 0 * g = omega arith in
-    let few_more : count + 0 ≤ most_rows = omega arith in
+    let few_more : count + 0 ≤ most_group_rows = omega arith in
     let within : nat_abs n + 0 < 2 ^ 126 = room count 0 g (nat_abs n) 0 below none few_more small in
     (leb-true 1 count parts.0, omega arith)
 

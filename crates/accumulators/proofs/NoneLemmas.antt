@@ -9,8 +9,8 @@ use Rattle.sql_values.specs.declared.value.Value.TheVariants.{Null, Bigint}
 use Rattle.sql_values.specs.declared.order.Order.TheVariants.{Ascending, Descending}
 use Rattle.sql_values.specs.declared.relational.Call.{Call}
 use Rattle.sql_values.specs.declared.relational.Call.TheVariants.{CountAll, Count, Sum, Min, Max, Avg}
-use Rattle.relations.specs.Aggregates.{earlier, most_rows}
-use Rattle.relations.specs.Partials.{added_counts, added_sums, call_columns, call_width, merged_call, partial_of}
+use Rattle.relation_laws.specs.Aggregates.{earlier, most_group_rows}
+use Rattle.relation_laws.specs.Partials.{added_counts, added_sums, call_columns, call_width, merged_call, partial_of}
 use Rattle.accumulators.specs.Columns.{count_in}
 use Rattle.accumulators.specs.Kept.{Kept, calls_of, merged_each}
 use Rattle.accumulators.specs.Limits.{IsKept, are_columns, greatest, is_count}
@@ -69,7 +69,7 @@ each-none rows (k ∷ ks) all =
     let rest = ap (merged_each ks) (drop_at (call_columns [] k.call) more (call_width k.call) (none-width k.call)) ∙ each-none rows ks (All-tail (IsKept rows) k ks all) in
     λ i. record { call = k.call; kind = k.kind; columns = here i } ∷ rest i
 
-none-at : (a : ℕ) (ks : List Kept) → IsGroup a ks → (most_rows < a) ⊎ (a ≤ most_rows) → with_part (group_kept a ks) (partial_of (calls_of ks) []) ≡ group_kept a ks
+none-at : (a : ℕ) (ks : List Kept) → IsGroup a ks → (most_group_rows < a) ⊎ (a ≤ most_group_rows) → with_part (group_kept a ks) (partial_of (calls_of ks) []) ≡ group_kept a ks
 none-at a ks is (inl gt) =
     let full : 2 ^ 63 ≡ a = omega (arith, gt, is.few) in
     part-overfull a ks ks (partial_of (calls_of ks) []) is.few (omega (arith, gt)) refl refl ∙ ap (λ n. group_kept n ks) full
@@ -82,4 +82,4 @@ none-at a ks is (inr le) =
 
 pub none-added : (a : ℕ) (ks : List Kept) (g : Group) → group_kept a ks ≡ g → IsGroup a ks → with_part g (partial_of g.calls []) ≡ g
 none-added a ks g view is =
-    ap (λ (x : Group). with_part x (partial_of x.calls [])) (sym view) ∙ none-at a ks is (cases_lt most_rows a) ∙ view
+    ap (λ (x : Group). with_part x (partial_of x.calls [])) (sym view) ∙ none-at a ks is (cases_lt most_group_rows a) ∙ view

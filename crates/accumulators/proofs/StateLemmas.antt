@@ -4,7 +4,7 @@ use Rattle.std.specs.Prelude.{All, Result, Ok, Err}
 use Rattle.std.proofs.lemmas.List.Elements.{All-head}
 use Rattle.sql_values.specs.declared.value.Value.{Value}
 use Rattle.sql_values.specs.declared.fail.Fail.{Fail}
-use Rattle.relations.specs.Aggregates.{with_first}
+use Rattle.relation_laws.specs.Aggregates.{with_first}
 use Rattle.accumulators.specs.Kept.{Kept}
 
 -- values, and then those of a row that may have failed

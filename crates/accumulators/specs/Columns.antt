@@ -9,9 +9,9 @@ use Rattle.sql_values.specs.declared.relational.Call.{Call}
 use Rattle.sql_values.specs.declared.relational.Call.TheVariants.{CountAll, Count, Sum, Min, Max, Avg}
 use Rattle.sql_values.specs.Order.{number_in}
 use Rattle.sql_functions.specs.CallTypes.{type_at}
-use Rattle.relations.specs.Aggregates.{count_of, first_by}
-use Rattle.relations.specs.Equality.{is_present}
-use Rattle.relations.specs.Partials.{partial_sum}
+use Rattle.relation_laws.specs.Aggregates.{count_of, first_by}
+use Rattle.relation_laws.specs.Equality.{is_present}
+use Rattle.relation_laws.specs.Partials.{partial_sum}
 
 -- the column that a call names; one that names none is seen as reading the first
 abbrev pub column_of : Call → ℕ

@@ -8,7 +8,7 @@ use Rattle.sql_values.specs.declared.relational.Call.{Call}
 use Rattle.sql_values.specs.declared.relational.Call.TheVariants.{CountAll, Count, Sum, Min, Max, Avg}
 use Rattle.sql_values.specs.Cells.{cell}
 use Rattle.sql_values.specs.Order.{cell_cmp}
-use Rattle.relations.specs.Partials.{call_width}
+use Rattle.relation_laws.specs.Partials.{call_width}
 use Rattle.accumulators.specs.Columns.{column_of}
 use Rattle.accumulators.specs.Kept.{Kept}
 

@@ -7,8 +7,8 @@ use Rattle.sql_values.specs.declared.fail.Fail.{Fail}
 use Rattle.sql_values.specs.declared.fail.EvalFault.{EvalFault}
 use Rattle.sql_values.specs.declared.fail.EvalFault.TheVariants as fault
 use Rattle.sql_values.specs.declared.relational.Call.{Call}
-use Rattle.relations.specs.Aggregates.{all_values, most_rows}
-use Rattle.relations.specs.Partials.{merged, partial_of, with_rows}
+use Rattle.relation_laws.specs.Aggregates.{all_values, most_group_rows}
+use Rattle.relation_laws.specs.Partials.{merged, partial_of, with_rows}
 use Rattle.accumulators.specs.Columns.{kind_in}
 use Rattle.accumulators.specs.Kept.{Kept, all_columns, calls_of, kinds_of, outcome_in}
 use Rattle.accumulators.specs.Limits.{IsKept}
@@ -46,7 +46,7 @@ group_kept rows kept = record {
 pub record IsGroup (rows : ℕ) (kept : List Kept) : Type 0 where
   pub few : rows ≤ 2 ^ 63
   pub few_calls : length kept ≤ 2 ^ 20
-  pub all_kept : rows ≤ most_rows → All (IsKept rows) kept
+  pub all_kept : rows ≤ most_group_rows → All (IsKept rows) kept
 
 -- the fault tells this failure, or memory was wanting
 abbrev pub RowFailsBy : Result (List Value) Fail → EvalFault → Type 0

@@ -7,8 +7,8 @@ use Rattle.sql_values.specs.declared.relational.Call.{Call}
 use Rattle.sql_values.specs.declared.relational.Call.TheVariants.{CountAll, Count, Sum, Min, Max, Avg}
 use Rattle.sql_values.specs.Cells.{cell}
 use Rattle.sql_functions.specs.Outcomes.{Outcome}
-use Rattle.relations.specs.Aggregates.{within_rows}
-use Rattle.relations.specs.Partials.{average_from, call_width, merged_call, sum_from}
+use Rattle.relation_laws.specs.Aggregates.{within_rows}
+use Rattle.relation_laws.specs.Partials.{average_from, call_width, merged_call, sum_from}
 use Rattle.accumulators.specs.Columns.{column_of, columns_of, kind_in}
 
 pub record Kept : Type 0 where

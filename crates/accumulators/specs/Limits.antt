@@ -11,8 +11,8 @@ use Rattle.sql_values.specs.Cells.{cell}
 use Rattle.sql_values.specs.Order.{number_in}
 use Rattle.sql_functions.specs.CallTypes.{is_bigint, is_decimal, type_at}
 use Rattle.sql_functions.specs.Truth.{is_null}
-use Rattle.relations.specs.Aggregates.{most_rows}
-use Rattle.relations.specs.Partials.{call_width, rows_in}
+use Rattle.relation_laws.specs.Aggregates.{most_group_rows}
+use Rattle.relation_laws.specs.Partials.{call_width, rows_in}
 use Rattle.accumulators.specs.Columns.{column_of, columns_of, count_in, summand}
 use Rattle.accumulators.specs.Kept.{Kept}
 
@@ -100,7 +100,7 @@ is_row_count v = false
 abbrev pub is_partial : List Call → List SqlType → List Value → Bool
 is_partial calls kinds row =
     is_row_count (cell row 0)
-    && (if nat_le (rows_in row) most_rows then are_all_columns (rows_in row) calls kinds (drop 1 row) else are_null calls (drop 1 row))
+    && (if nat_le (rows_in row) most_group_rows then are_all_columns (rows_in row) calls kinds (drop 1 row) else are_null calls (drop 1 row))
 
 -- what is kept of a call is of at most so many rows
 pub record IsKept (rows : ℕ) (kept : Kept) : Type 0 where
@@ -111,7 +111,7 @@ pub record IsKept (rows : ℕ) (kept : Kept) : Type 0 where
 pub record CanMerge (kept : Kept) (columns : List Value) : Type 0 where
   pub own : ℕ
   pub others : ℕ
-  pub few : own + others ≤ most_rows
+  pub few : own + others ≤ most_group_rows
   pub is_kept : IsKept own kept
   pub is_merged : IsTrue (are_columns others kept.kind kept.call columns)
 

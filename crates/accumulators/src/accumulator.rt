@@ -2,8 +2,8 @@ ghost use Rattle.std.specs.Prelude.{◌≡◌, ◌≤◌, ◌^◌, [], ◌∷◌
 ghost use Rattle.sql_values.specs.declared.types.SqlType.{SqlType};
 ghost use Rattle.sql_values.specs.Cells.{lent_value};
 ghost use Rattle.sql_values.specs.Order.{number_in};
-ghost use Rattle.relations.specs.Aggregates.{aggregates_of};
-ghost use Rattle.relations.specs.Partials.{partial_of, results_from};
+ghost use Rattle.relation_laws.specs.Aggregates.{aggregates_of};
+ghost use Rattle.relation_laws.specs.Partials.{partial_of, results_from};
 ghost use Rattle.accumulators.specs.Columns.{kind_in};
 ghost use Rattle.accumulators.specs.Groups.{Answers, HasTaken, empty_group, with_part, with_row};
 ghost use Rattle.accumulators.specs.Limits.{are_allowed, is_partial, is_row_count as is_row_count_value, takes_row};

@@ -2,8 +2,8 @@ ghost use Rattle.std.specs.Prelude.{◌≡◌, ◌++◌, ◌∷◌, [], ◌≤�
 ghost use Rattle.sql_values.specs.Cells.{cell, lent_value};
 ghost use Rattle.sql_functions.specs.CallTypes.{type_at as type_of};
 ghost use Rattle.sql_functions.specs.Outcomes.{FailsBy};
-ghost use Rattle.relations.specs.Aggregates.{most_rows};
-ghost use Rattle.relations.specs.Partials.{call_width};
+ghost use Rattle.relation_laws.specs.Aggregates.{most_group_rows};
+ghost use Rattle.relation_laws.specs.Partials.{call_width};
 ghost use Rattle.accumulators.specs.Columns.{column_of, columns_of};
 ghost use Rattle.accumulators.specs.Firsts.{BeginWith, kept_first};
 ghost use Rattle.accumulators.specs.Kept.{added_cell, kept_of_none, merged_kept, outcome_from, outcome_in};
@@ -60,14 +60,14 @@ impl Model for CallState {
     ghost Value = { Kept };
 
     ghost use Rattle.std.specs.Prelude.{◌≤◌, IsTrue};
-    ghost use Rattle.relations.specs.Aggregates.{most_rows};
+    ghost use Rattle.relation_laws.specs.Aggregates.{most_group_rows};
     ghost use Rattle.accumulators.specs.Held.{count_held, kept};
     ghost use Rattle.accumulators.specs.Limits.{can_add};
 
     ghost view = { λ s. kept s.held };
 
     ghost invariant = { λ s.
-        IsTrue (can_add (kept s.held).kind (kept s.held).call) × (count_held s.held ≤ most_rows) };
+        IsTrue (can_add (kept s.held).kind (kept s.held).call) × (count_held s.held ≤ most_group_rows) };
 }
 
 impl CallState {
@@ -254,7 +254,7 @@ impl CallState {
 
     /// The call's result in a group of so many rows.
     pub fn outcome(&self, alloc: Global, rows: u64) -> Result<Value, EvalFault>
-        requires { rows ≤ most_rows → IsKept rows self.now }
+        requires { rows ≤ most_group_rows → IsKept rows self.now }
         ensures { MatchResult result (λ v. outcome_in rows self.now ≡ Ok v) (FailsBy (outcome_in rows self.now)) }
     {
         if MOST_ROWS < rows {
@@ -264,7 +264,7 @@ impl CallState {
     }
 
     fn outcome_of_few(&self, alloc: Global, rows: u64) -> Result<Value, EvalFault>
-        requires few { rows ≤ most_rows }
+        requires few { rows ≤ most_group_rows }
         requires kept { IsKept rows self.now }
         ensures { MatchResult result
             (λ v. outcome_from self.now.kind rows self.now.columns self.now.call ≡ Ok v)

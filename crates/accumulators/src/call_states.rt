@@ -2,8 +2,8 @@ ghost use Rattle.std.specs.Prelude.{◌≡◌, ◌≤◌, ◌++◌, All, IfOk, I
 ghost use Rattle.sql_values.specs.declared.value.Value.TheVariants as value_is;
 ghost use Rattle.std.specs.List.{list_all};
 ghost use Rattle.sql_functions.specs.Truth.{is_null as is_null_value};
-ghost use Rattle.relations.specs.Aggregates.{most_rows};
-ghost use Rattle.relations.specs.Partials.{call_width};
+ghost use Rattle.relation_laws.specs.Aggregates.{most_group_rows};
+ghost use Rattle.relation_laws.specs.Partials.{call_width};
 ghost use Rattle.accumulators.specs.Firsts.{part_firsts, row_firsts};
 ghost use Rattle.accumulators.specs.Kept.{added_row, all_columns, calls_of, kept_of_none, kinds_of, merged_each, outcome_in};
 ghost use Rattle.accumulators.specs.Limits.{CanAdd, CanMergeEach, IsKept, are_all_columns, are_allowed, are_null, takes_row};
@@ -193,7 +193,7 @@ fn push_nulls(values: &mut Vec<Value>, count: usize) -> Result<(), Memory>
 
 /// The results in a group of so many rows.
 pub fn all_results(alloc: Global, states: &[CallState], rows: u64) -> Result<Vec<Value>, EvalFault>
-    requires { rows ≤ most_rows → All (IsKept rows) states.now }
+    requires { rows ≤ most_group_rows → All (IsKept rows) states.now }
     ensures { AllAnswer (all_outcomes rows states.now) result }
 {
     let mut values = Vec::with_capacity(alloc, states.len())?;

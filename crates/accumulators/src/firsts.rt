@@ -1,6 +1,6 @@
 ghost use Rattle.std.specs.Prelude.{◌≡◌, ◌++◌, OnOk, drop, length};
 ghost use Rattle.sql_values.specs.Cells.{lent_value};
-ghost use Rattle.relations.specs.Aggregates.{earlier};
+ghost use Rattle.relation_laws.specs.Aggregates.{earlier};
 ghost use Rattle.accumulators.specs.Firsts.{BeginWith, first_over};
 
 use sql_values::{Memory, Order, Value, ValueRef, compare_cells};

@@ -2,7 +2,7 @@
 //! rows of other pieces of the group, and tells the group's partial row and the results of the calls.
 //!
 //! To contracts a group is its calls, the types of what they add, and the partial row (`specs/Groups.antt`).
-//! A row is taken as its own partial row is, and the laws of `relations` on partial rows say what came of all
+//! A row is taken as its own partial row is, and the laws of `relation_laws` on partial rows say what came of all
 //! rows, in whatever order and in whatever pieces: `rows_are_taken` says which rows a group took, and
 //! `results_are_aggregates` that its results are theirs.
 //!

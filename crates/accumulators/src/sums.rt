@@ -2,9 +2,9 @@ ghost use Rattle.std.specs.Prelude.{◌≡◌, ℕ, [], ◌∷◌, ◌+◌, ◌<
 ghost use Rattle.decimals.specs.Arithmetic.{rounded_quotient as quotient_of};
 ghost use Rattle.scalar_texts.specs.Numbers.{has_64_bits};
 ghost use Rattle.sql_values.specs.Cells.{lent_value};
-ghost use Rattle.relations.specs.Aggregates.{average as average_of, count_of as cells_count, most_rows};
-ghost use Rattle.relations.specs.Equality.{is_present};
-ghost use Rattle.relations.specs.Partials.{added_counts, added_sums, average_from, partial_sum, sum_from};
+ghost use Rattle.relation_laws.specs.Aggregates.{average as average_of, count_of as cells_count, most_group_rows};
+ghost use Rattle.relation_laws.specs.Equality.{is_present};
+ghost use Rattle.relation_laws.specs.Partials.{added_counts, added_sums, average_from, partial_sum, sum_from};
 ghost use Rattle.accumulators.specs.Columns.{HasAverage, added as added_of, count_in as count_of, magnitude, sum_cell, summand as summand_of};
 
 use sql_functions::is_null;
@@ -86,10 +86,10 @@ pub fn add_sum(sum: &mut Option<i128>, value: ValueRef<'_>)
 /// Counts a cell, where it is not NULL.
 #[tactic(auto, using(crate::proofs::CellRules::counting))]
 pub fn count_cell(count: &mut u64, cell: ValueRef<'_>)
-    requires { count.old + length (filter is_present (lent_value cell ∷ [])) ≤ most_rows }
+    requires { count.old + length (filter is_present (lent_value cell ∷ [])) ≤ most_group_rows }
     ensures value { Value.Bigint (pos count.new)
         ≡ added_counts (Value.Bigint (pos count.old)) (cells_count (filter is_present (lent_value cell.entry ∷ []))) }
-    ensures few { count.new ≤ most_rows }
+    ensures few { count.new ≤ most_group_rows }
 {
     *count += counted(cell);
 }
@@ -97,11 +97,11 @@ pub fn count_cell(count: &mut u64, cell: ValueRef<'_>)
 /// Adds a stored count.
 #[tactic(auto, using(crate::proofs::CellRules::counting))]
 pub fn add_count(count: &mut u64, value: ValueRef<'_>)
-    requires room { count.old + count_of (lent_value value) ≤ most_rows }
+    requires room { count.old + count_of (lent_value value) ≤ most_group_rows }
     requires stored { Value.Bigint (pos (count_of (lent_value value))) ≡ lent_value value }
     ensures value { Value.Bigint (pos count.new)
         ≡ added_counts (Value.Bigint (pos count.old)) (lent_value value.entry) }
-    ensures few { count.new ≤ most_rows }
+    ensures few { count.new ≤ most_group_rows }
 {
     *count += count_in(value);
 }

@@ -17,7 +17,8 @@ use Rattle.col_pages.specs.Pages.{TypedPage}
 use Rattle.accumulators.specs.Groups.{Group, empty_group}
 use Rattle.accumulators.specs.Limits.{is_partial}
 use Rattle.aggregation.specs.Finals.{FinalState, IsFinal, layout_in}
-use Rattle.aggregation.specs.Giving.{AllFit, FitsTypes, GroupsState, no_groups}
+use Rattle.col_pages.specs.Fits.{AllFit, IsOfTypes}
+use Rattle.aggregation.specs.Giving.{GroupsState, no_groups}
 use Rattle.aggregation.specs.Layouts.{Layout, is_layout_row}
 use Rattle.plan_trees.specs.Layouts.{layout_types}
 use Rattle.aggregation.proofs.FitLemmas.{RowFits}
@@ -108,5 +109,5 @@ final-layout columns calls types given taken page width keys node g made front s
     ap (λ (x : GroupsState). layout_in (record { node = node; groups = x; taken = taken })) made
     ∙ ap (λ (n : ℕ). record { width = n; types = types; calls = calls }) (ap length front ∙ length-range_with_len 0 width ∙ size)
 
-pub same-pages : (types others : List SqlType) (p : TypedPage) → types ≡ others → FitsTypes types p ↔ FitsTypes others p
-same-pages types others p e = ((λ f. subst (λ (ts : List SqlType). FitsTypes ts p) e f), (λ f. subst (λ (ts : List SqlType). FitsTypes ts p) (sym e) f))
+pub same-pages : (types others : List SqlType) (p : TypedPage) → types ≡ others → IsOfTypes types p ↔ IsOfTypes others p
+same-pages types others p e = ((λ f. subst (λ (ts : List SqlType). IsOfTypes ts p) e f), (λ f. subst (λ (ts : List SqlType). IsOfTypes ts p) (sym e) f))

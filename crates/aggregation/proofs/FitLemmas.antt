@@ -22,13 +22,13 @@ use Rattle.sql_values.specs.Order.{cell_cmp}
 use Rattle.sql_functions.specs.CallTypes.{is_decimal, type_at}
 use Rattle.sql_functions.specs.Outcomes.{Outcome}
 use Rattle.plan_trees.specs.TreeTypes.{call_kind, sum_kind}
-use Rattle.relations.specs.Aggregates.{aggregates_of, all_values, average_of, call_result, first_by, most_rows, sum_of, sum_value, total_of, values_in, with_first, within_rows}
-use Rattle.relations.specs.Equality.{is_present, same_row}
-use Rattle.relations.specs.Groups.{distinct, group_of, grouped_row, groups_of, keys_of}
-use Rattle.relations.specs.Verdicts.{Verdict, kept}
+use Rattle.relation_laws.specs.Aggregates.{aggregates_of, all_values, average_of, call_result, first_by, most_group_rows, sum_of, sum_value, total_of, values_in, with_first, within_rows}
+use Rattle.relation_laws.specs.Equality.{is_present, same_row}
+use Rattle.relation_laws.specs.Groups.{distinct, group_of, grouped_row, groups_of, keys_of}
+use Rattle.relation_laws.specs.Verdicts.{Verdict, kept}
 use Rattle.accumulators.specs.Columns.{column_of}
 use Rattle.accumulators.specs.Limits.{are_allowed, can_add, is_short}
-use Rattle.aggregation.specs.Giving.{AllFit}
+use Rattle.col_pages.specs.Fits.{AllFit}
 
 abbrev pub Fits : SqlType → Value → Type 0
 Fits kind v = IsTrue (fits kind v)
@@ -147,7 +147,7 @@ results-fit types (call ∷ calls) rows can fit =
     let parts = and_parts (can_add (type_at types (column_of call)) call) (are_allowed types calls) can in
     next-fits (call_kind types call) (map (call_kind types) calls) (within_rows (length rows) (call_result types rows call))
     (map (λ c. within_rows (length rows) (call_result types rows c)) calls)
-    (few-fits (call_kind types call) (nat_le (length rows) most_rows) (call_result types rows call) (result-fits types call rows parts.0 fit))
+    (few-fits (call_kind types call) (nat_le (length rows) most_group_rows) (call_result types rows call) (result-fits types call rows parts.0 fit))
     (results-fit types calls rows parts.1 fit)
 
 -- the rows

@@ -7,13 +7,13 @@ use Rattle.std.proofs.lemmas.List.Elements.{All-cons, All-head, All-nil, All-tai
 use Rattle.sql_values.specs.declared.types.SqlType.{SqlType}
 use Rattle.sql_values.specs.declared.value.Value.{Value}
 use Rattle.sql_values.specs.declared.relational.Call.{Call}
-use Rattle.relations.specs.Equality.{same_row}
-use Rattle.relations.specs.Groups.{distinct, grouped_row}
-use Rattle.relations.specs.Partials.{merged, results_from}
-use Rattle.relations.proofs.EqualityLemmas.{same_row_decides}
+use Rattle.relation_laws.specs.Equality.{same_row}
+use Rattle.relation_laws.specs.Groups.{distinct, grouped_row}
+use Rattle.relation_laws.specs.Partials.{merged, results_from}
+use Rattle.relation_laws.proofs.EqualityLemmas.{same_row_decides}
 use Rattle.bag_laws.specs.Pieces.{all_merged, behind_key, finals_of, front_keys}
 use Rattle.aggregation.specs.Alike.{AreApart, TellAlike, merged_rows}
-use Rattle.relations.specs.Verdicts.{keeps}
+use Rattle.relation_laws.specs.Verdicts.{keeps}
 use Rattle.aggregation.specs.Giving.{part_verdicts}
 use Rattle.aggregation.specs.Held.{AreHeld, HasFirst, IsTold, group_verdicts, held_rows, of_each}
 use Rattle.aggregation.proofs.AlikeLemmas.{alike-cons, alike-first, behind-append, behind-here, behind-other}

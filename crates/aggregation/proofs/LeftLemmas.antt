@@ -9,7 +9,8 @@ use Rattle.sql_values.specs.declared.value.Value.{Value}
 use Rattle.sql_values.specs.ColumnRows.{TypedRows, fits_row}
 use Rattle.operator_core.specs.Samples.{has_row}
 use Rattle.col_pages.specs.Pages.{TypedPage}
-use Rattle.aggregation.specs.Giving.{AllFit, IsNextPage, RowsLeft}
+use Rattle.col_pages.specs.Fits.{AllFit}
+use Rattle.aggregation.specs.Giving.{IsNextPage, RowsLeft}
 
 below : (given n : ℕ) (b : Bool) → nat_lt given n ≡ b → nat_lt (suc given) (suc n) ≡ b
 below given n true e = lt-ltb (suc given) (suc n) (omega (arith, ltb-true given n e))
@@ -39,10 +40,10 @@ next-page held cut given high page old new p before after is of fit more inside 
           ∙ (λ i. sym rows i ++ (drop-drop (high - given) given R ∙ ap (λ n. drop n R) place ∙ sym (ap (λ (x : RowsLeft). x.rows) after)) i);
       some = omega (arith, long, more);
       most = omega (arith, long, most, size);
-      of = (
-        types ∙ kinds,
-        subst (λ (ts : List SqlType). AllFit ts p.rows) kinds
+      of = record {
+        of_types = types ∙ kinds;
+        fit = subst (λ (ts : List SqlType). AllFit ts p.rows) kinds
             (subst (λ (rs : List (List Value)). AllFit held.types rs) (sym rows)
-            (All-take (λ row. IsTrue (fits_row held.types row)) (high - given) (drop given R) (All-drop (λ row. IsTrue (fits_row held.types row)) given R fit))),
-      );
+            (All-take (λ row. IsTrue (fits_row held.types row)) (high - given) (drop given R) (All-drop (λ row. IsTrue (fits_row held.types row)) given R fit)));
+      };
     }

@@ -3,7 +3,6 @@ pub mod AlikeLemmas
 pub mod PartLemmas
 pub mod HeldLemmas
 pub mod TableLemmas
-pub mod PageLemmas
 pub mod RowLemmas
 pub mod ResultLemmas
 pub mod LeftLemmas

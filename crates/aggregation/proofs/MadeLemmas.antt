@@ -6,9 +6,9 @@ use Rattle.sql_values.specs.declared.value.Value.{Value}
 use Rattle.sql_values.specs.declared.fail.Fail.{Fail}
 use Rattle.sql_values.specs.declared.relational.Call.{Call}
 use Rattle.sql_values.specs.Bags.{SameBag}
-use Rattle.relations.specs.Groups.{grouped_row, groups_of}
-use Rattle.relations.specs.Partials.{results_from}
-use Rattle.relations.specs.Verdicts.{Verdict, fails, keeps, kept}
+use Rattle.relation_laws.specs.Groups.{grouped_row, groups_of}
+use Rattle.relation_laws.specs.Partials.{results_from}
+use Rattle.relation_laws.specs.Verdicts.{Verdict, fails, keeps, kept}
 use Rattle.bag_laws.specs.Pieces.{all_merged, behind_key, finals_of, front_keys, partials_of}
 use Rattle.aggregation.specs.Alike.{part_rows}
 use Rattle.aggregation.specs.Giving.{GroupsFail, GroupsGive, GroupsState, has_more, has_verdict, merged_with, no_groups, parts_with, verdicts_with}

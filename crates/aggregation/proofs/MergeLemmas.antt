@@ -2,9 +2,9 @@
 use Rattle.std.proofs.Common.{◌≡◌, List, [], ◌∷◌, ◌++◌, refl, ap, sym, ◌∙◌}
 use Rattle.sql_values.specs.declared.value.Value.{Value}
 use Rattle.sql_values.specs.declared.relational.Call.{Call}
-use Rattle.relations.specs.Partials.{merged, partial_of}
-use Rattle.relations.proofs.PartialLemmas.{partial_of-append}
-use Rattle.relations.proofs.PartialOrderLemmas.{merged_comm}
+use Rattle.relation_laws.specs.Partials.{merged, partial_of}
+use Rattle.relation_laws.proofs.PartialLemmas.{partial_of-append}
+use Rattle.relation_laws.proofs.PartialOrderLemmas.{merged_comm}
 use Rattle.bag_laws.specs.Pieces.{all_merged}
 use Rattle.bag_laws.proofs.MergeLemmas.{merged_assoc}
 

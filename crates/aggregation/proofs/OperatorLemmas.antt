@@ -8,7 +8,7 @@ use Rattle.operator_core.specs.declared.fault.OpFault.{OpFault}
 use Rattle.operator_core.specs.declared.fault.OpFault.TheVariants.{Expr}
 use Rattle.operator_core.specs.Rows.{Coming}
 use Rattle.operator_core.specs.Answers.{gave}
-use Rattle.relations.specs.Verdicts.{Verdict, fails}
+use Rattle.relation_laws.specs.Verdicts.{Verdict, fails}
 use Rattle.aggregation.specs.Giving.{GroupsFail, GroupsGive, GroupsState, IsBegun, IsGiven, RowsLeft}
 use Rattle.aggregation.specs.Tables.{TableState}
 use Rattle.aggregation.proofs.SingleLemmas.{begun-calm, begun-gives}

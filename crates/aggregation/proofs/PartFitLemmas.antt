@@ -20,15 +20,15 @@ use Rattle.sql_values.specs.ColumnRows.{fits_row}
 use Rattle.sql_values.specs.Order.{cell_cmp, number_in}
 use Rattle.sql_functions.specs.CallTypes.{is_decimal, type_at}
 use Rattle.plan_trees.specs.TreeTypes.{call_kind, sum_kind}
-use Rattle.relations.specs.Aggregates.{all_values, earlier, most_rows, values_in, within_rows}
-use Rattle.relations.specs.Equality.{same_row}
-use Rattle.relations.specs.Groups.{group_of, grouped_row, keys_of}
-use Rattle.relations.specs.Partials.{added_sums, average_from, call_columns, call_from, call_width, calls_from, merged_call, merged_calls, overfull, partial_of, partial_sum, results_from, rows_in, sum_from, with_rows}
-use Rattle.relations.specs.Verdicts.{kept}
+use Rattle.relation_laws.specs.Aggregates.{all_values, earlier, most_group_rows, values_in, within_rows}
+use Rattle.relation_laws.specs.Equality.{same_row}
+use Rattle.relation_laws.specs.Groups.{group_of, grouped_row, keys_of}
+use Rattle.relation_laws.specs.Partials.{added_sums, average_from, call_columns, call_from, call_width, calls_from, merged_call, merged_calls, overfull, partial_of, partial_sum, results_from, rows_in, sum_from, with_rows}
+use Rattle.relation_laws.specs.Verdicts.{kept}
 use Rattle.bag_laws.specs.Pieces.{all_merged, behind_key, finals_of, front_keys, partials_of}
 use Rattle.accumulators.specs.Columns.{column_of}
 use Rattle.accumulators.specs.Limits.{are_allowed, can_add, is_short}
-use Rattle.aggregation.specs.Giving.{AllFit}
+use Rattle.col_pages.specs.Fits.{AllFit}
 use Rattle.plan_trees.specs.Layouts.{call_layout, layout_types, sum_layout}
 use Rattle.aggregation.proofs.FitLemmas.{Fits, RowFits, append-fits, distinct-all, few-fits, first-fits, grouped-fits, kept-fit, keys-fit, next-fits, null-fits, one-fits, sum_value-fits, values-fit}
 
@@ -85,7 +85,7 @@ row-fits types calls rows columns false h =
     subst (λ (n : ℕ). RowFits (columns_types types calls) (replicate n Null)) (columns-width types calls) (nulls-fit (columns_types types calls))
 
 rows-fit : (types : List SqlType) (calls : List Call) (rows : ℕ) (columns : List Value) → RowFits (columns_types types calls) columns → RowFits (part_types types calls) (with_rows calls rows columns)
-rows-fit types calls rows columns h = row-fits types calls rows columns (nat_le rows most_rows) h
+rows-fit types calls rows columns h = row-fits types calls rows columns (nat_le rows most_group_rows) h
 
 -- of the rows of a group
 sum_of-fits : (kind : SqlType) (vs : List Value) → Fits (sum_layout kind) (partial_sum vs)
@@ -207,7 +207,7 @@ calls-fit types rows (call ∷ calls) columns can h =
     let parts = and_parts (can_add (type_at types (column_of call)) call) (are_allowed types calls) can in
     let rest = subst (λ (n : ℕ). RowFits more (drop n columns)) (layout-width types call) (drop-fits (call_layout types call) more columns h) in
     next-fits (call_kind types call) (map (call_kind types) calls) (within_rows rows (call_from types rows columns call)) (calls_from types rows (drop (call_width call) columns) calls)
-    (few-fits (call_kind types call) (nat_le rows most_rows) (call_from types rows columns call) (call-fits types more rows columns call parts.0 h))
+    (few-fits (call_kind types call) (nat_le rows most_group_rows) (call_from types rows columns call) (call-fits types more rows columns call parts.0 h))
     (calls-fit types rows calls (drop (call_width call) columns) parts.1 rest)
 
 behind-fit : (kinds types : List SqlType) (rows : List (List Value)) (key : List Value) → AllFit (kinds ++ types) rows → All (RowFits types) (behind_key (length kinds) rows key)

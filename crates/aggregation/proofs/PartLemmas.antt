@@ -6,10 +6,10 @@ use Rattle.sql_values.specs.declared.types.SqlType.{SqlType}
 use Rattle.sql_values.specs.declared.value.Value.{Value}
 use Rattle.sql_values.specs.declared.relational.Call.{Call}
 use Rattle.sql_values.specs.Cells.{cell, cut}
-use Rattle.relations.specs.Equality.{same_row}
-use Rattle.relations.specs.Groups.{distinct, group_of, grouped_row, groups_of, keys_of}
-use Rattle.relations.specs.Partials.{merged, partial_of, results_from}
-use Rattle.relations.proofs.PartialLemmas.{partial_of-append, results_from-partial_of}
+use Rattle.relation_laws.specs.Equality.{same_row}
+use Rattle.relation_laws.specs.Groups.{distinct, group_of, grouped_row, groups_of, keys_of}
+use Rattle.relation_laws.specs.Partials.{merged, partial_of, results_from}
+use Rattle.relation_laws.proofs.PartialLemmas.{partial_of-append, results_from-partial_of}
 use Rattle.bag_laws.specs.Pieces.{all_merged, behind_key, finals_of, front_keys, partials_of}
 use Rattle.aggregation.specs.Alike.{merged_rows, part_rows}
 use Rattle.aggregation.specs.Held.{first_rows}

@@ -10,9 +10,9 @@ use Rattle.sql_values.specs.declared.fail.EvalFault.{EvalFault}
 use Rattle.sql_values.specs.declared.fail.EvalFault.TheVariants as fault
 use Rattle.sql_values.specs.declared.relational.Call.{Call}
 use Rattle.sql_values.specs.ColumnRows.{TypedRows}
-use Rattle.relations.specs.Groups.{grouped_row}
-use Rattle.relations.specs.Partials.{results_from}
-use Rattle.relations.specs.Verdicts.{Verdict, drops, fails, keeps}
+use Rattle.relation_laws.specs.Groups.{grouped_row}
+use Rattle.relation_laws.specs.Partials.{results_from}
+use Rattle.relation_laws.specs.Verdicts.{Verdict, drops, fails, keeps}
 use Rattle.accumulators.specs.Columns.{kind_in}
 use Rattle.accumulators.specs.Groups.{Group, RowFailsBy}
 use Rattle.aggregation.specs.Tables.{AreResults, GroupFailsBy, IsPut, IsTable, OneFailsBy, TableState, held_in, partials_of_groups, verdict_at, verdicts_of}

@@ -1,8 +1,13 @@
 -- Rows that were taken from a page, one by one, and rows of groups.
 use Rattle.std.proofs.Common.{◌≡◌, ℕ, ◌+◌, ◌<◌, zero, suc, List, [], ◌∷◌, ◌++◌, length, get_or, map, take, refl, ap, sym, subst, ◌∙◌, arith}
-use Rattle.std.specs.Prelude.{slice_index_or}
+use Rattle.std.specs.Prelude.{Bool, slice_index_or, true}
 use Rattle.std.proofs.lemmas.List.{append_assoc, map-append, take_more}
+use Rattle.std.proofs.lemmas.Option.{unwrap_or-slice_get}
 use Rattle.sql_values.specs.declared.value.Value.{Value}
+use Rattle.sql_values.specs.declared.value.Value.TheVariants as value
+use Rattle.sql_values.specs.Blocks.{offered}
+use Rattle.sql_values.specs.Cells.{cell}
+use Rattle.sql_values.specs.ColumnRows.{TypedRows}
 use Rattle.sql_values.specs.declared.relational.Call.{Call}
 use Rattle.aggregation.specs.Alike.{TellAlike}
 use Rattle.aggregation.specs.Held.{of_each}
@@ -53,3 +58,14 @@ pub each-long : {X : Type 0} (make : List Value → List Value → X) (keys part
 each-long make [] partials level = refl
 each-long make (key ∷ keys) [] level = absurd (omega (arith, level))
 each-long make (key ∷ keys) (p ∷ partials) level = ap suc (each-long make keys partials (omega (arith, level)))
+
+-- one more cell of a key
+pub key-put : (old now next : TypedRows) (key : List Value) (i : ℕ) {v : Value} (taken : Bool) → now ≡ record old { begun = old.begun ++ take i key } → next ≡ record now { begun = offered taken now.begun v }
+    → taken ≡ true → v ≡ cell key i → i < length key → next ≡ record old { begun = old.begun ++ take (i + 1) key }
+key-put old now next key i {v} taken so_far put is at lt =
+    let here : v ≡ get_or key i value.Null = at ∙ unwrap_or-slice_get key i value.Null in
+    let more : take i key ++ v ∷ [] ≡ take (i + 1) key = ap (λ (x : Value). take i key ++ x ∷ []) here ∙ sym (take_more key i value.Null lt) in
+    put
+    ∙ ap (λ (b : Bool). record now { begun = offered b now.begun v }) is
+    ∙ ap (λ (r : TypedRows). record r { begun = r.begun ++ v ∷ [] }) so_far
+    ∙ ap (λ (vs : List Value). record old { begun = vs }) (append_assoc old.begun (take i key) (v ∷ []) ∙ ap (λ (vs : List Value). old.begun ++ vs) more)

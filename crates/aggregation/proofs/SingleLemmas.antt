@@ -5,7 +5,7 @@ use Rattle.std.proofs.lemmas.List.{map-append}
 use Rattle.sql_values.specs.declared.value.Value.{Value}
 use Rattle.sql_values.specs.declared.fail.Fail.{Fail}
 use Rattle.sql_values.specs.Bags.{SameBag}
-use Rattle.relations.specs.Verdicts.{Verdict, fails, keeps, kept}
+use Rattle.relation_laws.specs.Verdicts.{Verdict, fails, keeps, kept}
 use Rattle.bag_laws.specs.Pieces.{finals_of}
 use Rattle.bag_laws.proofs.BagLemmas.{bag_from_same, same-refl}
 use Rattle.aggregation.specs.Alike.{TellAlike, part_row, part_rows}

@@ -8,16 +8,16 @@ use Rattle.sql_values.specs.declared.types.SqlType.{SqlType}
 use Rattle.sql_values.specs.declared.value.Value.{Value}
 use Rattle.sql_values.specs.declared.relational.Call.{Call}
 use Rattle.sql_values.specs.Cells.{cell, cut}
-use Rattle.relations.specs.Equality.{same_row}
-use Rattle.relations.specs.Partials.{merged, partial_of}
-use Rattle.relations.proofs.PartialLemmas.{partial_of-append}
+use Rattle.relation_laws.specs.Equality.{same_row}
+use Rattle.relation_laws.specs.Partials.{merged, partial_of}
+use Rattle.relation_laws.proofs.PartialLemmas.{partial_of-append}
 use Rattle.accumulators.specs.Groups.{Group, empty_group, with_part}
 use Rattle.accumulators.specs.Limits.{are_allowed}
 use Rattle.group_index.specs.Keys.{place_of}
 use Rattle.group_index.proofs.KeyLemmas.{none-stands}
 use Rattle.aggregation.specs.Alike.{TellAlike}
 use Rattle.aggregation.specs.Held.{AreHeld, HasFirst, IsTold, held_rows}
-use Rattle.aggregation.specs.Tables.{IsGroupOf, IsKeyAt, IsOpen, IsTable, TableState, held_in, partials_of_groups}
+use Rattle.aggregation.specs.Tables.{IsGroupOf, IsKeyAt, HasGroupFor, IsTable, TableState, held_in, partials_of_groups}
 use Rattle.aggregation.proofs.AlikeLemmas.{alike-append, alike-from_equal, alike-none, alike-refl, alike-trans}
 use Rattle.aggregation.proofs.HeldLemmas.{apart-more, held-more, merged-at}
 
@@ -124,8 +124,16 @@ module _ (columns : List ℕ) (calls : List Call) (types : List SqlType) (keys :
       ∙ ap (λ (x : TableState). record x { partials = set x.partials place (merged x.calls (get_or x.partials place []) (q x.calls)) }) view
   partials-set place before g q (Err x) old lt view at e = tt
 
+-- a key has a cell of each key column
+pub key-long : (columns : List ℕ) (calls : List Call) (types : List SqlType) (keys : List (List Value)) (groups : List Group) → IsTable columns calls types keys groups → (state : TableState)
+    → ◌≡◌ {A = TableState} (record { columns = columns; calls = calls; types = types; keys = keys; partials = partials_of_groups groups }) state
+    → (place : ℕ) → place < length state.keys → length (get_or state.keys place []) ≡ length columns
+key-long columns calls types keys groups t state view place lt =
+    ap (λ (x : TableState). length (get_or x.keys place [])) (sym view)
+    ∙ All-get_or (λ key. length key ≡ length columns) keys place [] (omega (arith, lt, ap (λ (x : TableState). length x.keys) view)) t.held.wide
+
 -- a group of no row, and then the partial row
-opened-at : (old table : TableState) (key q : List Value) → IsOpen old key table → length key ≡ length old.columns → AreHeld (length old.columns) old.calls old.keys old.partials
+opened-at : (old table : TableState) (key q : List Value) → HasGroupFor old key table → length key ≡ length old.columns → AreHeld (length old.columns) old.calls old.keys old.partials
     → TellAlike (length old.columns) old.calls (held_rows table.keys table.partials ++ (key ++ q) ∷ []) (held_in old ++ (key ++ q) ∷ [])
 opened-at old table key q (inl same) wide h = alike-from_equal (length old.columns) old.calls (ap (λ (t : TableState). held_rows t.keys t.partials ++ (key ++ q) ∷ []) same)
 opened-at old table key q (inr more) wide h =
@@ -139,7 +147,7 @@ opened-at old table key q (inr more) wide h =
     (alike-append w calls (alike-refl w calls (held_in old)) (alike-none w calls key q wide))
 
 -- a group for each key, and keys of one width, as before
-opened-level : (old table : TableState) (key : List Value) → IsOpen old key table → length old.partials ≡ length old.keys → length table.partials ≡ length table.keys
+opened-level : (old table : TableState) (key : List Value) → HasGroupFor old key table → length old.partials ≡ length old.keys → length table.partials ≡ length table.keys
 opened-level old table key (inl same) h = ap (λ (t : TableState). length t.partials) same ∙ h ∙ sym (ap (λ (t : TableState). length t.keys) same)
 opened-level old table key (inr more) h =
     omega (
@@ -151,14 +159,14 @@ opened-level old table key (inr more) h =
       length-append old.keys (key ∷ []),
     )
 
-opened-wide : (old table : TableState) (key : List Value) (width : ℕ) → IsOpen old key table → length key ≡ width → All (λ k. length k ≡ width) old.keys → All (λ k. length k ≡ width) table.keys
+opened-wide : (old table : TableState) (key : List Value) (width : ℕ) → HasGroupFor old key table → length key ≡ width → All (λ k. length k ≡ width) old.keys → All (λ k. length k ≡ width) table.keys
 opened-wide old table key width (inl same) wide h = subst (λ (t : TableState). All (λ k. length k ≡ width) t.keys) (sym same) h
 opened-wide old table key width (inr more) wide h =
     subst (λ (t : TableState). All (λ k. length k ≡ width) t.keys) (sym more)
     (All-append (λ k. length k ≡ width) old.keys (key ∷ []) h (All-cons (λ k. length k ≡ width) key [] wide (All-nil (λ k. length k ≡ width))))
 
 -- the partial row was merged in at the place of its key
-row-at : (old table : TableState) (key q : List Value) (place : ℕ) (partials : List (List Value)) → IsOpen old key table → IsKeyAt table.keys place key → length key ≡ length old.columns
+row-at : (old table : TableState) (key q : List Value) (place : ℕ) (partials : List (List Value)) → HasGroupFor old key table → IsKeyAt table.keys place key → length key ≡ length old.columns
     → AreHeld (length old.columns) old.calls old.keys old.partials
     → partials ≡ set table.partials place (merged old.calls (get_or table.partials place []) q)
     → TellAlike (length old.columns) old.calls (held_rows table.keys partials) (held_in old ++ (key ++ q) ∷ [])
@@ -176,7 +184,7 @@ row-at old table key q place partials opened at long before e =
 
 pub part-added : {E : Type 0} (old table new : TableState) (key : List Value) (q : TableState → List Value) (place : ℕ) (r : Result (Unit {0}) E)
     → ◌≡◌ {A = TableState} (record table { keys = old.keys; partials = old.partials }) old
-    → IsOpen old key table → IsKeyAt table.keys place key → length key ≡ length old.columns
+    → HasGroupFor old key table → IsKeyAt table.keys place key → length key ≡ length old.columns
     → AreHeld (length old.columns) old.calls old.keys old.partials → q table ≡ q old
     → OnOk r (new ≡ record table { partials = set table.partials place (merged table.calls (get_or table.partials place []) (q table)) })
     → OnOk r (TellAlike (length old.columns) old.calls (held_in new) (held_in old ++ (key ++ q old) ∷ []))

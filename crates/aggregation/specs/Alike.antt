@@ -3,9 +3,9 @@ use Rattle.std.specs.Prelude.{◌≡◌, ℕ, List, [], ◌∷◌, ◌++◌, dro
 use Rattle.sql_values.specs.declared.value.Value.{Value}
 use Rattle.sql_values.specs.declared.relational.Call.{Call}
 use Rattle.sql_values.specs.Cells.{cut}
-use Rattle.relations.specs.Equality.{same_row}
-use Rattle.relations.specs.Groups.{distinct}
-use Rattle.relations.specs.Partials.{partial_of}
+use Rattle.relation_laws.specs.Equality.{same_row}
+use Rattle.relation_laws.specs.Groups.{distinct}
+use Rattle.relation_laws.specs.Partials.{partial_of}
 use Rattle.bag_laws.specs.Pieces.{all_merged, behind_key, front_keys}
 
 -- the partial row of a row by itself, behind its key

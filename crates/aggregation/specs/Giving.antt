@@ -5,9 +5,10 @@ use Rattle.sql_values.specs.declared.value.Value.{Value}
 use Rattle.sql_values.specs.declared.fail.Fail.{Fail}
 use Rattle.sql_values.specs.Bags.{SameBag}
 use Rattle.sql_values.specs.ColumnRows.{TypedRows, fits_row}
+use Rattle.col_pages.specs.Fits.{IsOfTypes}
 use Rattle.col_pages.specs.Pages.{TypedPage, most_rows}
 use Rattle.operator_core.specs.Samples.{has_row}
-use Rattle.relations.specs.Verdicts.{Verdict, fails, keeps, kept}
+use Rattle.relation_laws.specs.Verdicts.{Verdict, fails, keeps, kept}
 use Rattle.sql_values.specs.declared.relational.Call.{Call}
 use Rattle.bag_laws.specs.Pieces.{all_merged, behind_key, finals_of, front_keys}
 use Rattle.aggregation.specs.Alike.{part_rows}
@@ -37,7 +38,7 @@ abbrev pub GroupsGive : Bool → List (List Value) → List Verdict → List (Li
 GroupsGive true left verdicts B = B ≡ left
 GroupsGive false left verdicts B = SameBag (flat_map kept verdicts) B
 
--- a group fails so, unless the output has begun
+-- a group fails with this kind, unless the output has begun
 abbrev pub GroupsFail : Bool → ℕ → List Verdict → ℕ → Fail → Type 0
 GroupsFail true own verdicts node kind = ⊥
 GroupsFail false own verdicts node kind = (node ≡ own) × Contains verdicts (fails kind)
@@ -68,19 +69,12 @@ pub record AreLeft (held : TypedRows) (given page : ℕ) : Type 0 where
   pub size : 0 < page
   pub most : page ≤ most_rows
 
-abbrev pub AllFit : List SqlType → List (List Value) → Type 0
-AllFit types rows = All (λ row. IsTrue (fits_row types row)) rows
-
--- a page of these types, whose rows fit them
-abbrev pub FitsTypes : List SqlType → TypedPage → Type 0
-FitsTypes types page = (page.types ≡ types) × AllFit types page.rows
-
 -- a page of the first rows, and what is left
 pub record IsNextPage (old : RowsLeft) (p : TypedPage) (new : RowsLeft) : Type 0 where
   pub rows : old.rows ≡ p.rows ++ new.rows
   pub some : 0 < length p.rows
   pub most : length p.rows ≤ old.page
-  pub of : FitsTypes old.types p
+  pub of : IsOfTypes old.types p
 
 -- groups, and the rows that are left to give once their output has begun
 pub record GroupsState : Type 0 where

@@ -7,11 +7,11 @@ use Rattle.sql_values.specs.declared.value.Value.{Value}
 use Rattle.sql_values.specs.declared.fail.Fail.{Fail}
 use Rattle.sql_values.specs.Bags.{SameBag}
 use Rattle.operator_core.specs.Samples.{has_row}
-use Rattle.relations.specs.Groups.{grouped_row}
-use Rattle.relations.specs.Verdicts.{Verdict, fails, keeps, kept}
+use Rattle.relation_laws.specs.Groups.{grouped_row}
+use Rattle.relation_laws.specs.Verdicts.{Verdict, fails, keeps, kept}
 use Rattle.bag_laws.specs.Weights.{SameWeights}
 use Rattle.bag_laws.proofs.BagLemmas.{bag_from_same, same-nil, same-refl, same-sym, same_from_bag}
-use Rattle.relations.specs.Partials.{results_from}
+use Rattle.relation_laws.specs.Partials.{results_from}
 use Rattle.bag_laws.specs.Pieces.{all_merged, behind_key, front_keys}
 use Rattle.aggregation.specs.Alike.{part_rows}
 use Rattle.aggregation.specs.Tables.{held_in}

@@ -3,9 +3,9 @@ use Rattle.std.specs.Prelude.{◌≡◌, ℕ, zero, suc, List, [], ◌∷◌, �
 use Rattle.sql_values.specs.declared.types.SqlType.{SqlType}
 use Rattle.sql_values.specs.declared.value.Value.{Value}
 use Rattle.sql_values.specs.declared.relational.Call.{Call}
-use Rattle.relations.specs.Groups.{grouped_row}
-use Rattle.relations.specs.Partials.{merged, partial_of, results_from}
-use Rattle.relations.specs.Verdicts.{Verdict}
+use Rattle.relation_laws.specs.Groups.{grouped_row}
+use Rattle.relation_laws.specs.Partials.{merged, partial_of, results_from}
+use Rattle.relation_laws.specs.Verdicts.{Verdict}
 use Rattle.aggregation.specs.Alike.{AreApart}
 
 -- what is made of each key and its partial row

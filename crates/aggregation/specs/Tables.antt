@@ -6,9 +6,9 @@ use Rattle.sql_values.specs.declared.fail.EvalFault.{EvalFault}
 use Rattle.sql_values.specs.declared.fail.EvalFault.TheVariants as fault
 use Rattle.sql_values.specs.declared.relational.Call.{Call}
 use Rattle.sql_values.specs.ColumnRows.{TypedRows}
-use Rattle.relations.specs.Groups.{grouped_row}
-use Rattle.relations.specs.Verdicts.{Verdict, drops, fails, keeps}
-use Rattle.relations.specs.Partials.{partial_of, results_from}
+use Rattle.relation_laws.specs.Groups.{grouped_row}
+use Rattle.relation_laws.specs.Verdicts.{Verdict, drops, fails, keeps}
+use Rattle.relation_laws.specs.Partials.{partial_of, results_from}
 use Rattle.accumulators.specs.Columns.{kind_in}
 use Rattle.accumulators.specs.Groups.{Group}
 use Rattle.accumulators.specs.Limits.{are_allowed}
@@ -43,8 +43,8 @@ abbrev pub IsKeyAt : List (List Value) → ℕ → List Value → Type 0
 IsKeyAt keys place key = (place < length keys) × (slice_index_or keys place [] ≡ key)
 
 -- as it was, or with a group of no row for the key
-abbrev pub IsOpen : TableState → List Value → TableState → Type 0
-IsOpen old key new = (new ≡ old) ⊎ (new ≡ record old { keys = old.keys ++ key ∷ []; partials = old.partials ++ partial_of old.calls [] ∷ [] })
+abbrev pub HasGroupFor : TableState → List Value → TableState → Type 0
+HasGroupFor old key new = (new ≡ old) ⊎ (new ≡ record old { keys = old.keys ++ key ∷ []; partials = old.partials ++ partial_of old.calls [] ∷ [] })
 
 -- what is said of each group
 abbrev pub verdicts_of : TableState → List Verdict

@@ -3,24 +3,24 @@ ghost use Rattle.std.specs.List.{list_all, range_with_len};
 ghost use Rattle.sql_values.specs.declared.fail.Fail.{Fail as Kind};
 ghost use Rattle.sql_values.specs.Bags.{SameBag};
 ghost use Rattle.col_pages.specs.Pages.{TypedPage, most_rows};
-ghost use Rattle.relations.specs.Verdicts.{fails, kept};
+ghost use Rattle.relation_laws.specs.Verdicts.{fails, kept};
 ghost use Rattle.bag_laws.specs.Pieces.{finals_of};
 ghost use Rattle.operator_core.specs.Rows.{Row};
 ghost use Rattle.operator_core.specs.Calls.{IsFresh};
 ghost use Rattle.accumulators.specs.Limits.{are_allowed};
 ghost use Rattle.aggregation.specs.Finals.{layout_in};
-ghost use Rattle.aggregation.specs.Giving.{FitsTypes};
+ghost use Rattle.col_pages.specs.Fits.{IsOfTypes};
 ghost use Rattle.aggregation.specs.Layouts.{is_layout_row};
 ghost use Rattle.plan_trees.specs.Layouts.{layout_types};
 
 use crate::group_rows::GroupRows;
-use crate::page_row::PageRow;
 use crate::table::first_behind;
 use accumulators::Accumulator;
 use blocked::{Bells, BlockedOn};
 use col_pages::Page;
 use operator_core::{OpFault, Operator};
 use plan_trees::{append_call_types, layout_of};
+use sql_exprs::PageRow;
 use sql_values::{Call, EvalFault, Memory, SqlType, Types};
 use std::alloc::Global;
 use std::marker::Model;
@@ -73,7 +73,7 @@ impl FinalAgg {
             ↔ ((n ≡ node) × Contains (finals_of types.items (length keys.items) calls.items X) (fails kind))) }
         ensures takes { IfOk result (λ op. (page : TypedPage)
             → ⟦<FinalAgg as Operator>⟧.takes op page
-            ↔ FitsTypes (layout_types keys.items types.items calls.items) page) }
+            ↔ IsOfTypes (layout_types keys.items types.items calls.items) page) }
         ensures layout { IfOk result (λ op. layout_in op
             ≡ record { width = length keys.items; types = types.items; calls = calls.items }) }
         ensures open { IfOk result (λ op. ⟦<FinalAgg as Operator>⟧.is_full op ≡ false) }
@@ -140,14 +140,15 @@ impl Operator for FinalAgg {
     ghost use Rattle.operator_core.specs.LawGroups.{never_full, no_note};
     ghost use Rattle.operator_core.specs.Samples.{has_row};
     ghost use Rattle.operator_core.specs.NoteLaws.{none-without, told-needs_none, told-needs};
-    ghost use Rattle.aggregation.specs.Giving.{FitsTypes, GroupsFail, GroupsGive, groups_made, has_more, to_give, merged_with};
+    ghost use Rattle.col_pages.specs.Fits.{IsOfTypes};
+    ghost use Rattle.aggregation.specs.Giving.{GroupsFail, GroupsGive, groups_made, has_more, to_give, merged_with};
     ghost use Rattle.aggregation.specs.GivingLaws.{groups-some, groups-rest, final-done};
 
     ghost may_give = { λ s X B. GroupsGive s.groups.begun s.groups.left.rows (merged_with s.groups.table X) B };
 
     ghost may_still_fail = { λ s X node kind. GroupsFail s.groups.begun s.node (merged_with s.groups.table X) node kind };
 
-    ghost takes = { λ s page. FitsTypes s.taken page };
+    ghost takes = { λ s page. IsOfTypes s.taken page };
 
     ghost page_size = { λ s. s.groups.left.page };
 

@@ -1,7 +1,7 @@
 ghost use Rattle.std.specs.Prelude.{◌≡◌, ◌<◌, ◌≤◌, [], ◌++◌, length, map, true, false, Contains, Err, IfOk, IsTrue, OnErr, OnOk};
 ghost use Rattle.sql_values.specs.declared.fail.Fail.{Fail as Kind};
 ghost use Rattle.col_pages.specs.Pages.{most_rows};
-ghost use Rattle.relations.specs.Verdicts.{fails};
+ghost use Rattle.relation_laws.specs.Verdicts.{fails};
 ghost use Rattle.accumulators.specs.Limits.{are_allowed};
 ghost use Rattle.aggregation.specs.Alike.{TellAlike, held_row, part_rows};
 ghost use Rattle.aggregation.specs.Giving.{AreForgotten, IsBegun, IsGiven, has_more, no_groups, parts_with, verdicts_with};

@@ -12,13 +12,11 @@
 //!   begun
 //! - `table`: `GroupTable`, the groups, found by their keys
 //! - `left`: `LeftRows`, rows that are still to be given, in pages
-//! - `page_row`: `PageRow`, a row of a page as cells
 #![tactic(auto)]
 
 mod final_agg;
 mod group_rows;
 mod left;
-mod page_row;
 mod partial;
 mod single;
 mod table;

@@ -6,7 +6,7 @@ ghost use Rattle.bag_laws.specs.Pieces.{partials_of};
 ghost use Rattle.operator_core.specs.Rows.{Row};
 ghost use Rattle.operator_core.specs.Calls.{IsFresh};
 ghost use Rattle.accumulators.specs.Limits.{are_allowed};
-ghost use Rattle.aggregation.specs.Giving.{FitsTypes};
+ghost use Rattle.col_pages.specs.Fits.{IsOfTypes};
 
 use crate::group_rows::GroupRows;
 use blocked::{Bells, BlockedOn};
@@ -42,7 +42,7 @@ impl PartialAgg {
         ensures calm { IfOk result (λ op. (X : List Row) (n : ℕ) (kind : Kind)
             → ⟦<PartialAgg as Operator>⟧.may_still_fail op X n kind → ⊥) }
         ensures takes { IfOk result (λ op. (page : TypedPage)
-            → ⟦<PartialAgg as Operator>⟧.takes op page ↔ FitsTypes types.items page) }
+            → ⟦<PartialAgg as Operator>⟧.takes op page ↔ IsOfTypes types.items page) }
         ensures open { IfOk result (λ op. ⟦<PartialAgg as Operator>⟧.is_full op ≡ false) }
         ensures size { IfOk result (λ op. ⟦<PartialAgg as Operator>⟧.page_size op ≡ page) }
         ensures late { IfOk result (λ op. ⟦<PartialAgg as Operator>⟧.gives_late op ≡ true) }
@@ -69,14 +69,15 @@ impl Operator for PartialAgg {
     ghost use Rattle.operator_core.specs.LawGroups.{never_full, no_note};
     ghost use Rattle.operator_core.specs.Samples.{has_row};
     ghost use Rattle.operator_core.specs.NoteLaws.{none-without, told-needs_none, told-needs};
-    ghost use Rattle.aggregation.specs.Giving.{FitsTypes, GroupsGive, groups_made, has_more, to_give, parts_with};
+    ghost use Rattle.col_pages.specs.Fits.{IsOfTypes};
+    ghost use Rattle.aggregation.specs.Giving.{GroupsGive, groups_made, has_more, to_give, parts_with};
     ghost use Rattle.aggregation.specs.GivingLaws.{groups-some, groups-rest, partial-done};
 
     ghost may_give = { λ s X B. GroupsGive s.groups.begun s.groups.left.rows (parts_with s.groups.table X) B };
 
     ghost may_still_fail = { λ _ _ _ _. ⊥ };
 
-    ghost takes = { λ s page. FitsTypes s.groups.table.types page };
+    ghost takes = { λ s page. IsOfTypes s.groups.table.types page };
 
     ghost page_size = { λ s. s.groups.left.page };
 

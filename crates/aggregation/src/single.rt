@@ -2,12 +2,12 @@ ghost use Rattle.std.specs.Prelude.{◌≡◌, ◌<◌, ◌≤◌, ◌↔◌, �
 ghost use Rattle.sql_values.specs.declared.fail.Fail.{Fail as Kind};
 ghost use Rattle.sql_values.specs.Bags.{SameBag};
 ghost use Rattle.col_pages.specs.Pages.{TypedPage, most_rows};
-ghost use Rattle.relations.specs.Verdicts.{fails, kept};
-ghost use Rattle.relations.specs.Groups.{groups_of};
+ghost use Rattle.relation_laws.specs.Verdicts.{fails, kept};
+ghost use Rattle.relation_laws.specs.Groups.{groups_of};
 ghost use Rattle.operator_core.specs.Rows.{Row};
 ghost use Rattle.operator_core.specs.Calls.{IsFresh};
 ghost use Rattle.accumulators.specs.Limits.{are_allowed};
-ghost use Rattle.aggregation.specs.Giving.{FitsTypes};
+ghost use Rattle.col_pages.specs.Fits.{IsOfTypes};
 
 use crate::group_rows::GroupRows;
 use blocked::{Bells, BlockedOn};
@@ -47,7 +47,7 @@ impl SingleAgg {
             → ⟦<SingleAgg as Operator>⟧.may_still_fail op X n kind
             ↔ ((n ≡ node) × Contains (groups_of types.items keys.items calls.items X) (fails kind))) }
         ensures takes { IfOk result (λ op. (page : TypedPage)
-            → ⟦<SingleAgg as Operator>⟧.takes op page ↔ FitsTypes types.items page) }
+            → ⟦<SingleAgg as Operator>⟧.takes op page ↔ IsOfTypes types.items page) }
         ensures open { IfOk result (λ op. ⟦<SingleAgg as Operator>⟧.is_full op ≡ false) }
         ensures size { IfOk result (λ op. ⟦<SingleAgg as Operator>⟧.page_size op ≡ page) }
         ensures late { IfOk result (λ op. ⟦<SingleAgg as Operator>⟧.gives_late op ≡ true) }
@@ -76,14 +76,15 @@ impl Operator for SingleAgg {
     ghost use Rattle.operator_core.specs.LawGroups.{never_full, no_note};
     ghost use Rattle.operator_core.specs.Samples.{has_row};
     ghost use Rattle.operator_core.specs.NoteLaws.{none-without, told-needs_none, told-needs};
-    ghost use Rattle.aggregation.specs.Giving.{FitsTypes, GroupsFail, GroupsGive, groups_made, has_more, to_give, verdicts_with};
+    ghost use Rattle.col_pages.specs.Fits.{IsOfTypes};
+    ghost use Rattle.aggregation.specs.Giving.{GroupsFail, GroupsGive, groups_made, has_more, to_give, verdicts_with};
     ghost use Rattle.aggregation.specs.GivingLaws.{groups-some, groups-rest, single-done};
 
     ghost may_give = { λ s X B. GroupsGive s.groups.begun s.groups.left.rows (verdicts_with s.groups.table X) B };
 
     ghost may_still_fail = { λ s X node kind. GroupsFail s.groups.begun s.node (verdicts_with s.groups.table X) node kind };
 
-    ghost takes = { λ s page. FitsTypes s.groups.table.types page };
+    ghost takes = { λ s page. IsOfTypes s.groups.table.types page };
 
     ghost page_size = { λ s. s.groups.left.page };
 

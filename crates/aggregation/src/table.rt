@@ -1,19 +1,19 @@
 ghost use Rattle.std.specs.Prelude.{◌≡◌, ◌<◌, ◌≤◌, ◌^◌, [], ◌∷◌, ◌++◌, drop, length, map, IfOk, IsTrue, MatchResult, OnErr, OnOk, None, slice_index_or, slice_set};
 ghost use Rattle.sql_values.specs.Cells.{cut};
-ghost use Rattle.relations.specs.Partials.{merged, partial_of};
+ghost use Rattle.relation_laws.specs.Partials.{merged, partial_of};
 ghost use Rattle.group_index.specs.Keys.{place_of};
 ghost use Rattle.accumulators.specs.Limits.{are_allowed};
 ghost use Rattle.aggregation.specs.Alike.{TellAlike, held_row, part_row, part_rows};
 ghost use Rattle.aggregation.specs.Held.{first_keys, first_partials};
 ghost use Rattle.aggregation.specs.Giving.{has_verdict, parts_with, verdicts_with};
-ghost use Rattle.aggregation.specs.Tables.{AreResults, GroupFailsBy, IsKeyAt, IsOpen, IsPut, OneFailsBy, held_in, verdict_at, verdicts_of};
+ghost use Rattle.aggregation.specs.Tables.{AreResults, GroupFailsBy, IsKeyAt, HasGroupFor, IsPut, OneFailsBy, held_in, verdict_at, verdicts_of};
 
-use crate::page_row::PageRow;
 use accumulators::Accumulator;
 use col_pages::Page;
 use group_index::GroupIndex;
-use sql_exprs::Cells;
-use sql_values::{Call, ColumnRows, EvalFault, Memory, Row, SqlType, Value};
+use plan_trees::append_key_types;
+use sql_exprs::{Cells, PageRow};
+use sql_values::{Call, ColumnRows, EvalFault, Memory, Row, SqlType, Types, Value};
 use std::alloc::Global;
 use std::marker::Model;
 
@@ -148,7 +148,7 @@ impl GroupTable {
     /// The place of the group of a row, which is made where there is none.
     fn open<C: Cells>(&mut self, cells: &C) -> Result<usize, Memory>
         ensures same { record self.new { keys = self.old.keys; partials = self.old.partials } ≡ self.old }
-        ensures ok { OnOk result (IsOpen self.old (cut self.old.columns (C.values cells.now)) self.new) }
+        ensures ok { OnOk result (HasGroupFor self.old (cut self.old.columns (C.values cells.now)) self.new) }
         ensures place { IfOk result (λ place. IsKeyAt self.new.keys place (cut self.old.columns (C.values cells.now))) }
     {
         match self.index.find(&self.columns, cells) {
@@ -194,12 +194,25 @@ impl GroupTable {
         added
     }
 
+    /// Keeps keys in columns of the types that a page's have, where there is none yet.
+    fn keep_keys_as(&mut self, page: &Page) -> Result<(), Memory>
+        ensures { self.new ≡ self.old }
+    {
+        if self.index.len() > 0 {
+            return Ok(());
+        }
+        let mut types = Types::new(self.alloc);
+        append_key_types(&mut types, page.types(), &self.columns)?;
+        self.index.keep_in(types.as_slice())
+    }
+
     /// Takes the rows of a page.
     pub fn add_page(&mut self, page: &Page) -> Result<(), Memory>
         ensures same { record self.new { keys = self.old.keys; partials = self.old.partials } ≡ self.old }
         ensures ok { OnOk result (TellAlike (length self.old.columns) self.old.calls (held_in self.new)
             (held_in self.old ++ part_rows self.old.columns self.old.calls page.now.rows)) }
     {
+        self.keep_keys_as(page)?;
         for position in 0..page.len() {
             self.add(&PageRow { page, position })?;
         }
@@ -244,6 +257,7 @@ impl GroupTable {
         ensures ok { OnOk result (TellAlike (length self.old.columns) self.old.calls (held_in self.new)
             (held_in self.old ++ map (held_row self.old.columns) page.now.rows)) }
     {
+        self.keep_keys_as(page)?;
         for position in 0..page.len() {
             self.merge(&PageRow { page, position })?;
         }
@@ -288,7 +302,7 @@ impl GroupTable {
         let mut rows = ColumnRows::new(self.alloc, kinds)?;
         for place in 0..self.groups.len() {
             let part = self.groups[place].part()?;
-            put_group(&mut rows, self.index.key(place), &part)?;
+            self.put_group(&mut rows, place, &part)?;
         }
         Ok(rows)
     }
@@ -301,9 +315,34 @@ impl GroupTable {
             (λ _. IsPut rows.old rows.new (verdict_at self.now place)) (GroupFailsBy (verdict_at self.now place)) }
     {
         match self.groups[place].result() {
-            Ok(results) => Ok(put_group(rows, self.index.key(place), &results)?),
+            Ok(results) => Ok(self.put_group(rows, place, &results)?),
             Err(fault) => Err(fault),
         }
+    }
+
+    /// Appends a row: the values of the key at a place, and then the results.
+    fn put_group(&self, rows: &mut ColumnRows, place: usize, results: &Row) -> Result<(), Memory>
+        requires within { place < length self.now.keys }
+        requires whole { rows.old.begun ≡ [] }
+        ensures { OnOk result (rows.new ≡ record rows.old {
+          rows = rows.old.rows ++ (slice_index_or self.now.keys place [] ++ results.now) ∷ [];
+        }) }
+    {
+        self.put_key(rows, place)?;
+        put_all(rows, results.as_slice())?;
+        if rows.end_row() { Ok(()) } else { Err(Memory) }
+    }
+
+    fn put_key(&self, rows: &mut ColumnRows, place: usize) -> Result<(), Memory>
+        requires { place < length self.now.keys }
+        ensures { OnOk result (rows.new ≡ record rows.old { begun = rows.old.begun ++ slice_index_or self.now.keys place [] }) }
+    {
+        for column in 0..first_behind(self.columns.len())? {
+            if !rows.put(self.index.cell(place, column))? {
+                return Err(Memory);
+            }
+        }
+        Ok(())
     }
 }
 
@@ -316,16 +355,6 @@ pub fn first_behind(width: usize) -> Result<u32, Memory>
     } else {
         Err(Memory)
     }
-}
-
-/// Appends a row: the values of a key, and then the results.
-fn put_group(rows: &mut ColumnRows, key: &Row, results: &Row) -> Result<(), Memory>
-    requires { rows.old.begun ≡ [] }
-    ensures { OnOk result (rows.new ≡ record rows.old { rows = rows.old.rows ++ (key.now ++ results.now) ∷ [] }) }
-{
-    put_all(rows, key.as_slice())?;
-    put_all(rows, results.as_slice())?;
-    if rows.end_row() { Ok(()) } else { Err(Memory) }
 }
 
 fn put_all(rows: &mut ColumnRows, values: &[Value]) -> Result<(), Memory>

@@ -1,7 +1,7 @@
 //! Pages as texts: rows stand on lines, their cells between blanks, and `-` is NULL.
 ghost use Rattle.std.specs.Prelude.{◌≡◌, ◌<◌, length, IfOk};
 ghost use Rattle.col_pages.specs.Pages.{TypedPage};
-ghost use Rattle.aggregation.specs.Giving.{FitsTypes};
+ghost use Rattle.col_pages.specs.Fits.{IsOfTypes};
 
 use col_pages::{Page, PageBuilder};
 use operator_core::{OpFault, Operator};
@@ -76,7 +76,7 @@ fn put_rows(
 
 pub(crate) fn page(alloc: Global, types: &[SqlType], rows: &str) -> Result<Page, Memory>
     requires { 0 < length types.now }
-    ensures { IfOk result (FitsTypes types.now) }
+    ensures { IfOk result (IsOfTypes types.now) }
 {
     let mut builder = PageBuilder::new(alloc, types, 8192)?;
     put_rows(alloc, &mut builder, types, rows)?;
@@ -88,7 +88,7 @@ pub(crate) fn page(alloc: Global, types: &[SqlType], rows: &str) -> Result<Page,
 /// The rows of a page, as a page of these types.
 pub(crate) fn copied(alloc: Global, types: &[SqlType], page: &Page) -> Result<Page, Memory>
     requires { 0 < length types.now }
-    ensures { IfOk result (FitsTypes types.now) }
+    ensures { IfOk result (IsOfTypes types.now) }
 {
     let mut builder = PageBuilder::new(alloc, types, 8192)?;
     for row in 0..page.len() {

@@ -7,9 +7,9 @@ use Rattle.std.proofs.lemmas.List.Sums.{sum_by-append, sum_by-cons}
 use Rattle.std.proofs.lemmas.List.Sorted.{sum_by-IsPermutation, IsPermutation-refl, IsPermutation-sym, IsPermutation-cons, IsPermutation-trans, IsPermutation-middle}
 use Rattle.sql_values.specs.declared.value.Value.{Value}
 use Rattle.sql_values.specs.Bags.{SameBag}
-use Rattle.relations.specs.Equality.{same_row}
-use Rattle.relations.proofs.BagLemmas.{Split, found, hit, hit_itself}
-use Rattle.relations.proofs.EqualityLemmas.{same_row_decides}
+use Rattle.relation_laws.specs.Equality.{same_row}
+use Rattle.relation_laws.proofs.BagLemmas.{Split, found, hit, hit_itself}
+use Rattle.relation_laws.proofs.EqualityLemmas.{same_row_decides}
 use Rattle.bag_laws.specs.Weights.{SameWeights}
 
 module _ {X : Type 0} where

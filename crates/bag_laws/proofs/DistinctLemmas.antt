@@ -5,8 +5,8 @@ use Rattle.std.specs.Bool.{Decides}
 use Rattle.std.proofs.lemmas.Bool.{true≢false}
 use Rattle.std.proofs.lemmas.List.Sums.{sum_by-cons}
 use Rattle.std.proofs.lemmas.List.Elements.{filter-append}
-use Rattle.relations.specs.Groups.{distinct}
-use Rattle.relations.proofs.BagLemmas.{by_permutation}
+use Rattle.relation_laws.specs.Groups.{distinct}
+use Rattle.relation_laws.proofs.BagLemmas.{by_permutation}
 use Rattle.bag_laws.specs.Weights.{SameWeights}
 use Rattle.bag_laws.specs.Gather.{gather}
 use Rattle.bag_laws.specs.Buckets.{Sits}

@@ -7,12 +7,12 @@ use Rattle.sql_values.specs.declared.types.SqlType.{SqlType}
 use Rattle.sql_values.specs.declared.value.Value.{Value}
 use Rattle.sql_values.specs.declared.relational.Call.{Call}
 use Rattle.sql_values.specs.Cells.{cut}
-use Rattle.relations.specs.Aggregates.{aggregates_of}
-use Rattle.relations.specs.Equality.{same_row}
-use Rattle.relations.specs.Groups.{distinct, group_of, grouped_row, groups_of}
-use Rattle.relations.specs.Verdicts.{Verdict}
-use Rattle.relations.proofs.EqualityLemmas.{same_row_decides}
-use Rattle.relations.proofs.PartialOrderLemmas.{aggregates_of-same}
+use Rattle.relation_laws.specs.Aggregates.{aggregates_of}
+use Rattle.relation_laws.specs.Equality.{same_row}
+use Rattle.relation_laws.specs.Groups.{distinct, group_of, grouped_row, groups_of}
+use Rattle.relation_laws.specs.Verdicts.{Verdict}
+use Rattle.relation_laws.proofs.EqualityLemmas.{same_row_decides}
+use Rattle.relation_laws.proofs.PartialOrderLemmas.{aggregates_of-same}
 use Rattle.bag_laws.specs.Weights.{SameWeights}
 use Rattle.bag_laws.specs.Gather.{gather}
 use Rattle.bag_laws.specs.Buckets.{SitByBucket, of_bucket}

@@ -7,7 +7,7 @@ use Rattle.std.proofs.lemmas.List.Concat.{flat_map-append}
 use Rattle.sql_values.specs.declared.value.Value.{Value}
 use Rattle.sql_values.specs.declared.relational.JoinKind.{JoinKind}
 use Rattle.sql_values.specs.declared.relational.JoinKind.TheVariants.{Inner, Left}
-use Rattle.relations.specs.Joins.{are_partners, beside_each, join_of, nulls, partnered}
+use Rattle.relation_laws.specs.Joins.{are_partners, beside_each, join_of, nulls, partnered}
 use Rattle.bag_laws.specs.Weights.{SameWeights}
 use Rattle.bag_laws.specs.Gather.{gather}
 use Rattle.bag_laws.specs.Buckets.{Sits, SitByBucket}

@@ -7,9 +7,9 @@ use Rattle.std.proofs.lemmas.List.Sums.{AllPass-from_list_all}
 use Rattle.sql_values.specs.declared.value.Value.{Value}
 use Rattle.sql_values.specs.Buckets.{bucket_of}
 use Rattle.sql_values.specs.Cells.{cell, cut}
-use Rattle.relations.specs.Equality.{is_present, same_value}
-use Rattle.relations.specs.Joins.{are_equal, are_partners}
-use Rattle.relations.proofs.EqualityLemmas.{same_value_decides}
+use Rattle.relation_laws.specs.Equality.{is_present, same_value}
+use Rattle.relation_laws.specs.Joins.{are_equal, are_partners}
+use Rattle.relation_laws.proofs.EqualityLemmas.{same_value_decides}
 use Rattle.bag_laws.specs.Buckets.{AllBelow, at_places, key_bucket, lefts, rights}
 
 cells_agree : (r s : List Value) (P : ℕ → Type 0) → ((column : ℕ) → P column → cell r column ≡ cell s column) → (columns : List ℕ) → All P columns → cut columns r ≡ cut columns s

@@ -6,8 +6,8 @@ use Rattle.sql_values.specs.declared.value.Value.{Value}
 use Rattle.sql_values.specs.declared.relational.Call.{Call}
 use Rattle.sql_values.specs.declared.relational.JoinKind.{JoinKind}
 use Rattle.sql_values.specs.Bags.{SameBag}
-use Rattle.relations.specs.Groups.{groups_of}
-use Rattle.relations.specs.Joins.{join_of}
+use Rattle.relation_laws.specs.Groups.{groups_of}
+use Rattle.relation_laws.specs.Joins.{join_of}
 use Rattle.bag_laws.specs.Weights.{SameWeights}
 use Rattle.bag_laws.specs.Gather.{gather}
 use Rattle.bag_laws.specs.Buckets.{AllBelow, SitByBucket, at_places, key_bucket, lefts, of_bucket, rights}

@@ -10,14 +10,14 @@ use Rattle.sql_values.specs.declared.relational.Call.{Call}
 use Rattle.sql_values.specs.declared.relational.Call.TheVariants.{CountAll, Count, Sum, Min, Max, Avg}
 use Rattle.sql_values.specs.Cells.{cell}
 use Rattle.sql_values.specs.Order.{number_in}
-use Rattle.relations.specs.Aggregates.{most_rows}
-use Rattle.relations.specs.Equality.{same_row}
-use Rattle.relations.specs.Partials.{added_counts, added_sums, call_width, merged, merged_call, merged_calls, rows_in, with_rows}
-use Rattle.relations.proofs.BagLemmas.{by_permutation}
-use Rattle.relations.proofs.EqualityLemmas.{same_row_decides}
-use Rattle.relations.proofs.FirstLemmas.{earlier_assoc}
-use Rattle.relations.proofs.PartialLemmas.{within_most, beyond_most}
-use Rattle.relations.proofs.PartialOrderLemmas.{merged_comm}
+use Rattle.relation_laws.specs.Aggregates.{most_group_rows}
+use Rattle.relation_laws.specs.Equality.{same_row}
+use Rattle.relation_laws.specs.Partials.{added_counts, added_sums, call_width, merged, merged_call, merged_calls, rows_in, with_rows}
+use Rattle.relation_laws.proofs.BagLemmas.{by_permutation}
+use Rattle.relation_laws.proofs.EqualityLemmas.{same_row_decides}
+use Rattle.relation_laws.proofs.FirstLemmas.{earlier_assoc}
+use Rattle.relation_laws.proofs.PartialLemmas.{within_most, beyond_most}
+use Rattle.relation_laws.proofs.PartialOrderLemmas.{merged_comm}
 use Rattle.bag_laws.specs.Pieces.{all_merged}
 
 added_counts_assoc : (u v w : Value) → added_counts (added_counts u v) w ≡ added_counts u (added_counts v w)
@@ -59,30 +59,30 @@ merged_calls_assoc (call ∷ calls) p q r =
     λ i. merged_call_assoc call p q r first last i ++ rest i
 
 -- how many rows a merge stands for
-rows_within : (calls : List Call) (p q : List Value) → rows_in p + rows_in q ≤ most_rows → rows_in (merged calls p q) ≡ rows_in p + rows_in q
+rows_within : (calls : List Call) (p q : List Value) → rows_in p + rows_in q ≤ most_group_rows → rows_in (merged calls p q) ≡ rows_in p + rows_in q
 rows_within calls p q h = ap rows_in (within_most calls (rows_in p + rows_in q) (merged_calls calls (drop 1 p) (drop 1 q)) h)
 
-rows_beyond : (calls : List Call) (p q : List Value) → most_rows < rows_in p + rows_in q → rows_in (merged calls p q) ≡ 2 ^ 63
+rows_beyond : (calls : List Call) (p q : List Value) → most_group_rows < rows_in p + rows_in q → rows_in (merged calls p q) ≡ 2 ^ 63
 rows_beyond calls p q h = ap rows_in (beyond_most calls (rows_in p + rows_in q) (merged_calls calls (drop 1 p) (drop 1 q)) h)
 
-columns_within : (calls : List Call) (p q : List Value) → rows_in p + rows_in q ≤ most_rows → drop 1 (merged calls p q) ≡ merged_calls calls (drop 1 p) (drop 1 q)
+columns_within : (calls : List Call) (p q : List Value) → rows_in p + rows_in q ≤ most_group_rows → drop 1 (merged calls p q) ≡ merged_calls calls (drop 1 p) (drop 1 q)
 columns_within calls p q h = ap (drop 1) (within_most calls (rows_in p + rows_in q) (merged_calls calls (drop 1 p) (drop 1 q)) h)
 
-still_beyond : (calls : List Call) (p q : List Value) (more : ℕ) → most_rows < more + (rows_in p + rows_in q)
-    → (most_rows < rows_in p + rows_in q) ⊎ (rows_in p + rows_in q ≤ most_rows) → most_rows < more + rows_in (merged calls p q)
+still_beyond : (calls : List Call) (p q : List Value) (more : ℕ) → most_group_rows < more + (rows_in p + rows_in q)
+    → (most_group_rows < rows_in p + rows_in q) ⊎ (rows_in p + rows_in q ≤ most_group_rows) → most_group_rows < more + rows_in (merged calls p q)
 still_beyond calls p q more h (inl gt) = omega (arith, rows_beyond calls p q gt)
 still_beyond calls p q more h (inr le) = omega (arith, rows_within calls p q le, h)
 
-assoc_at : (calls : List Call) (p q r : List Value) → (most_rows < rows_in p + (rows_in q + rows_in r)) ⊎ (rows_in p + (rows_in q + rows_in r) ≤ most_rows)
+assoc_at : (calls : List Call) (p q r : List Value) → (most_group_rows < rows_in p + (rows_in q + rows_in r)) ⊎ (rows_in p + (rows_in q + rows_in r) ≤ most_group_rows)
     → merged calls (merged calls p q) r ≡ merged calls p (merged calls q r)
 assoc_at calls p q r (inl gt) =
-    let left : most_rows < rows_in r + rows_in (merged calls p q) = still_beyond calls p q (rows_in r) (omega (arith, gt)) (cases_lt most_rows (rows_in p + rows_in q)) in
-    let right : most_rows < rows_in p + rows_in (merged calls q r) = still_beyond calls q r (rows_in p) gt (cases_lt most_rows (rows_in q + rows_in r)) in
+    let left : most_group_rows < rows_in r + rows_in (merged calls p q) = still_beyond calls p q (rows_in r) (omega (arith, gt)) (cases_lt most_group_rows (rows_in p + rows_in q)) in
+    let right : most_group_rows < rows_in p + rows_in (merged calls q r) = still_beyond calls q r (rows_in p) gt (cases_lt most_group_rows (rows_in q + rows_in r)) in
     beyond_most calls (rows_in (merged calls p q) + rows_in r) (merged_calls calls (drop 1 (merged calls p q)) (drop 1 r)) (omega (arith, left))
     ∙ sym (beyond_most calls (rows_in p + rows_in (merged calls q r)) (merged_calls calls (drop 1 p) (drop 1 (merged calls q r))) right)
 assoc_at calls p q r (inr le) =
-    let first : rows_in p + rows_in q ≤ most_rows = omega (arith, le) in
-    let last : rows_in q + rows_in r ≤ most_rows = omega (arith, le) in
+    let first : rows_in p + rows_in q ≤ most_group_rows = omega (arith, le) in
+    let last : rows_in q + rows_in r ≤ most_group_rows = omega (arith, le) in
     let rows : rows_in (merged calls p q) + rows_in r ≡ rows_in p + rows_in (merged calls q r) = omega (arith, rows_within calls p q first, rows_within calls q r last) in
     let columns : merged_calls calls (drop 1 (merged calls p q)) (drop 1 r) ≡ merged_calls calls (drop 1 p) (drop 1 (merged calls q r))
     = ap (λ x. merged_calls calls x (drop 1 r)) (columns_within calls p q first) ∙ merged_calls_assoc calls (drop 1 p) (drop 1 q) (drop 1 r)
@@ -90,7 +90,7 @@ assoc_at calls p q r (inr le) =
     λ i. with_rows calls (rows i) (columns i)
 
 pub merged_assoc : (calls : List Call) (p q r : List Value) → merged calls (merged calls p q) r ≡ merged calls p (merged calls q r)
-merged_assoc calls p q r = assoc_at calls p q r (cases_lt most_rows (rows_in p + (rows_in q + rows_in r)))
+merged_assoc calls p q r = assoc_at calls p q r (cases_lt most_group_rows (rows_in p + (rows_in q + rows_in r)))
 
 swaps : (calls : List Call) (p q : List Value) (partials : List (List Value)) → all_merged calls (p ∷ q ∷ partials) ≡ all_merged calls (q ∷ p ∷ partials)
 swaps calls p q partials =

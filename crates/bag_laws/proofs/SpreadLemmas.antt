@@ -12,12 +12,12 @@ use Rattle.sql_values.specs.declared.relational.Call.{Call}
 use Rattle.sql_values.specs.declared.relational.Call.TheVariants.{CountAll, Count, Sum, Min, Max, Avg}
 use Rattle.sql_values.specs.declared.relational.JoinKind.{JoinKind}
 use Rattle.sql_values.specs.Cells.{cell, cut}
-use Rattle.relations.specs.Groups.{group_of, groups_of, keys_of}
-use Rattle.relations.specs.Joins.{join_of}
-use Rattle.relations.specs.Partials.{call_columns, call_width, overfull, partial_of, with_rows}
-use Rattle.relations.specs.Aggregates.{most_rows}
-use Rattle.relations.specs.Verdicts.{kept}
-use Rattle.relations.specs.Widths.{HaveWidth}
+use Rattle.relation_laws.specs.Groups.{group_of, groups_of, keys_of}
+use Rattle.relation_laws.specs.Joins.{join_of}
+use Rattle.relation_laws.specs.Partials.{call_columns, call_width, overfull, partial_of, with_rows}
+use Rattle.relation_laws.specs.Aggregates.{most_group_rows}
+use Rattle.relation_laws.specs.Verdicts.{kept}
+use Rattle.relation_laws.specs.Widths.{HaveWidth}
 use Rattle.bag_laws.specs.Buckets.{AllBelow, Sits, SitByBucket, at_places, key_bucket}
 use Rattle.bag_laws.specs.Pieces.{finals_of, partials_of}
 use Rattle.bag_laws.proofs.BagLemmas.{weight-agree}
@@ -102,7 +102,7 @@ call_columns-width rows (Max column) = refl
 call_columns-width rows (Avg column) = refl
 
 with_rows-width : (calls : List Call) (rows : ℕ) (columns : List Value) → length columns ≡ sum_by call_width calls → length (with_rows calls rows columns) ≡ suc (sum_by call_width calls)
-with_rows-width calls rows columns e = either (nat_le rows most_rows)
+with_rows-width calls rows columns e = either (nat_le rows most_group_rows)
   where
     either : (b : Bool) → length (if b then Decimal (pos rows) ∷ columns else overfull calls) ≡ suc (sum_by call_width calls)
     either true = ap suc e

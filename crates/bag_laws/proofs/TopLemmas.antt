@@ -14,9 +14,9 @@ use Rattle.sql_values.specs.declared.value.Value.{Value}
 use Rattle.sql_values.specs.declared.order.KeySpec.{KeySpec}
 use Rattle.sql_values.specs.Order.{IsBefore, IsOrdered, row_cmp}
 use Rattle.sql_values.proofs.OrderLemmas.{row_cmp_total}
-use Rattle.relations.specs.Sorts.{IsSortOf}
-use Rattle.relations.proofs.OrderLemmas.{not_both, not_before}
-use Rattle.relations.proofs.SortLemmas.{AllPairs-head, AllPairs-nil, AllPairs-tail, is_sort, sorted_rows}
+use Rattle.relation_laws.specs.Sorts.{IsSortOf}
+use Rattle.relation_laws.proofs.OrderLemmas.{not_both, not_before}
+use Rattle.relation_laws.proofs.SortLemmas.{AllPairs-head, AllPairs-nil, AllPairs-tail, is_sort, sorted_rows}
 use Rattle.bag_laws.specs.Weights.{SameWeights}
 use Rattle.bag_laws.specs.Gather.{gather}
 use Rattle.bag_laws.specs.Firsts.{IsFirstOf, IsTopOf}

@@ -9,12 +9,12 @@ use Rattle.sql_values.specs.declared.value.Value.{Value}
 use Rattle.sql_values.specs.declared.fail.Fail.{Fail}
 use Rattle.sql_values.specs.declared.relational.Call.{Call}
 use Rattle.sql_values.specs.Cells.{cut}
-use Rattle.relations.specs.Aggregates.{aggregates_of}
-use Rattle.relations.specs.Equality.{same_row}
-use Rattle.relations.specs.Groups.{distinct, grouped_row, groups_of}
-use Rattle.relations.specs.Partials.{results_from}
-use Rattle.relations.specs.Verdicts.{Verdict, failures, is_failure, kept, kept_rows}
-use Rattle.relations.proofs.EqualityLemmas.{same_row_decides}
+use Rattle.relation_laws.specs.Aggregates.{aggregates_of}
+use Rattle.relation_laws.specs.Equality.{same_row}
+use Rattle.relation_laws.specs.Groups.{distinct, grouped_row, groups_of}
+use Rattle.relation_laws.specs.Partials.{results_from}
+use Rattle.relation_laws.specs.Verdicts.{Verdict, failures, is_failure, kept, kept_rows}
+use Rattle.relation_laws.proofs.EqualityLemmas.{same_row_decides}
 use Rattle.bag_laws.specs.Weights.{SameWeights}
 use Rattle.bag_laws.specs.Gather.{gather}
 use Rattle.bag_laws.specs.Buckets.{Sits}

@@ -5,7 +5,7 @@ use Rattle.sql_values.specs.declared.types.SqlType.TheVariants as type
 use Rattle.sql_values.specs.declared.value.Value.{Value}
 use Rattle.sql_values.specs.declared.value.Value.TheVariants.{Null, Boolean, Bigint, Decimal}
 use Rattle.sql_values.specs.declared.relational.Call.TheVariants.{CountAll, Sum}
-use Rattle.relations.specs.Verdicts.{keeps}
+use Rattle.relation_laws.specs.Verdicts.{keeps}
 use Rattle.bag_laws.specs.Buckets.{at_places, key_bucket, of_bucket}
 use Rattle.bag_laws.specs.Gather.{gather}
 use Rattle.bag_laws.specs.Pieces.{finals_of, partials_of}

@@ -2,7 +2,7 @@
 use Rattle.std.specs.Prelude.{◌≡◌, ℕ, List, take}
 use Rattle.sql_values.specs.declared.value.Value.{Value}
 use Rattle.sql_values.specs.declared.order.KeySpec.{KeySpec}
-use Rattle.relations.specs.Sorts.{IsSortOf}
+use Rattle.relation_laws.specs.Sorts.{IsSortOf}
 use Rattle.bag_laws.specs.Weights.{SameWeights}
 
 -- the items in some order, cut after so many

@@ -1,6 +1,6 @@
 -- Items put together by their keys.
 use Rattle.std.specs.Prelude.{List, map, filter, Bool}
-use Rattle.relations.specs.Groups.{distinct}
+use Rattle.relation_laws.specs.Groups.{distinct}
 
 -- for each key that occurs, in the order of first places: what is made of it and of its items
 abbrev pub grouped : {X K Y : Type 0} → (K → K → Bool) → (X → K) → (K → List X → Y) → List X → List Y

@@ -3,7 +3,7 @@ use Rattle.std.specs.Prelude.{◌≡◌, ℕ, ◌<◌, List}
 use Rattle.sql_values.specs.declared.value.Value.{Value}
 use Rattle.sql_values.specs.declared.order.KeySpec.{KeySpec}
 use Rattle.sql_values.specs.declared.relational.JoinKind.{JoinKind}
-use Rattle.relations.specs.Joins.{join_of}
+use Rattle.relation_laws.specs.Joins.{join_of}
 use Rattle.bag_laws.specs.Firsts.{IsFirstOf, IsTopOf}
 use Rattle.bag_laws.specs.Gather.{gather}
 

@@ -3,10 +3,10 @@ use Rattle.std.specs.Prelude.{ℕ, zero, suc, List, [], ◌∷◌, ◌++◌, map
 use Rattle.sql_values.specs.declared.types.SqlType.{SqlType}
 use Rattle.sql_values.specs.declared.value.Value.{Value}
 use Rattle.sql_values.specs.declared.relational.Call.{Call}
-use Rattle.relations.specs.Equality.{same_row}
-use Rattle.relations.specs.Groups.{distinct, group_of, grouped_row, keys_of}
-use Rattle.relations.specs.Partials.{merged, partial_of, results_from}
-use Rattle.relations.specs.Verdicts.{Verdict}
+use Rattle.relation_laws.specs.Equality.{same_row}
+use Rattle.relation_laws.specs.Groups.{distinct, group_of, grouped_row, keys_of}
+use Rattle.relation_laws.specs.Partials.{merged, partial_of, results_from}
+use Rattle.relation_laws.specs.Verdicts.{Verdict}
 
 -- a row of each group: its key, then its partial row
 abbrev pub partials_of : List ℕ → List Call → List (List Value) → List (List Value)

@@ -7,9 +7,9 @@ ghost use Rattle.bag_laws.specs.Gather.{gather};
 ghost use Rattle.bag_laws.specs.Laws.{AreFirstsOf, AreTopsOf, JoinTogether, TaskRows};
 ghost use Rattle.bag_laws.specs.Pieces.{finals_of, partials_of};
 ghost use Rattle.bag_laws.specs.Weights.{SameWeights};
-ghost use Rattle.relations.specs.Groups.{groups_of};
-ghost use Rattle.relations.specs.Joins.{join_of};
-ghost use Rattle.relations.specs.Partials.{merged};
+ghost use Rattle.relation_laws.specs.Groups.{groups_of};
+ghost use Rattle.relation_laws.specs.Joins.{join_of};
+ghost use Rattle.relation_laws.specs.Partials.{merged};
 ghost use Rattle.sql_values.specs.Bags.{SameBag};
 
 use sql_values::{Call, JoinKind, KeySpec, Row, RowList, SqlType, Value};

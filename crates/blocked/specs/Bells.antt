@@ -1,7 +1,7 @@
 -- Bells and who waits at them.
 use Rattle.std.specs.Prelude.{◌≡◌, ℕ, List, [], Bool, true, map, All, ◌≢◌, ◌⊎◌}
 use Rattle.blocked.specs.declared.waiters.Parked.{Parked}
-use Rattle.blocked.specs.Counts.{most_count}
+use Rattle.count_laws.specs.Counts.{most_count}
 
 -- who waits, without the counts
 abbrev pub waiters_of : {W : Type 0} → List (Parked W) → List W

@@ -1,3 +1,3 @@
-pub mod Counts
+pub mod Rings
 pub mod Bells
 pub mod Refusals

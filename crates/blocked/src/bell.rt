@@ -1,5 +1,5 @@
 ghost use Rattle.std.specs.Prelude.{◌≡◌, [], ◌∷◌, ◌++◌, ◌↔◌, true, false, IsTrue, IfErr, OnOk, OnErr, MatchResult};
-ghost use Rattle.blocked.specs.Counts.{next_count};
+ghost use Rattle.count_laws.specs.Counts.{next_count};
 ghost use Rattle.blocked.specs.Bells.{waiters_of, IsResting};
 ghost use Rattle.blocked.specs.Refusals.{IsRefusal, handed_back};
 

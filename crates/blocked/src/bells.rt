@@ -1,5 +1,5 @@
 ghost use Rattle.std.specs.Prelude.{ℕ, ◌+◌};
-ghost use Rattle.blocked.specs.Counts.{rings_at};
+ghost use Rattle.blocked.specs.Rings.{rings_at};
 
 use crate::due::Due;
 use sql_values::Memory;

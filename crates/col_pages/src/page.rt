@@ -1,4 +1,4 @@
-ghost use Rattle.std.specs.Prelude.{◌≡◌, ◌-◌, ◌<◌, ◌≤◌, ◌↔◌, [], length, take, drop, map, slice_index_or, IsTrue, IfOk, All};
+ghost use Rattle.std.specs.Prelude.{◌≡◌, ◌-◌, ◌<◌, ◌≤◌, ◌↔◌, [], length, take, drop, map, slice_get, slice_index_or, Some, IsSome, IsTrue, IfOk, IfSome, All};
 ghost use Rattle.columns.specs.Present.{gather};
 ghost use Rattle.sql_values.specs.Cells.{cell, cut, lent_value};
 ghost use Rattle.sql_values.specs.ColumnRows.{rows_of, kinds_of, common_length, AreFilled, fits_row};
@@ -120,6 +120,17 @@ impl Page {
         ensures { lent_value result ≡ cell (slice_index_or self.now.rows row []) column }
     {
         self.held.cell(row as usize, column)
+    }
+
+    /// A copy of a column, or none where no column of that type stands there.
+    pub fn column(&self, alloc: Global, kind: SqlType, column: u32) -> Result<Option<Block>, Memory>
+        ensures there { IfOk result
+            (λ found. IsSome found ↔ (slice_get self.now.types column ≡ Some kind)) }
+        ensures cells { IfOk result (λ found. IfSome found
+            (λ b. b ≡ record { kind = kind; cells = map (λ row. cell row column) self.now.rows })) }
+    {
+        let count = self.held.len();
+        self.held.column(alloc, kind, column, 0, count)
     }
 
     /// A copy of the row at a place.

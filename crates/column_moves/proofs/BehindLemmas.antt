@@ -1,5 +1,5 @@
 -- Columns behind columns hold the rows behind the rows.
-use Rattle.std.proofs.Common.{◌≡◌, ℕ, ◌+◌, ◌<◌, zero, suc, List, [], ◌∷◌, ◌++◌, length, get_or, set, take, Bool, true, refl, ap, sym, ◌∙◌, length-append, arith, add-one}
+use Rattle.std.proofs.Common.{◌≡◌, ℕ, ◌+◌, ◌<◌, zero, suc, List, [], ◌∷◌, ◌++◌, length, get_or, set, take, drop, Bool, true, refl, ap, sym, ◌∙◌, length-append, arith, add-one}
 use Rattle.std.specs.Prelude.{◌↔◌, IsTrue, map, if◌then◌else◌}
 use Rattle.std.proofs.lemmas.List.{replicate-append-replicate, take_all, take_at}
 use Rattle.sql_values.specs.declared.types.SqlType.{SqlType}
@@ -48,6 +48,17 @@ pub joined-more : (cs ds now : List TypedCells) (i : ℕ) (c d : TypedCells) (ta
 joined-more cs ds now i c d taken k n l e f same =
     ap (λ xs. set xs i (with_cells c (if taken then c.cells ++ d.cells else c.cells))) n
     ∙ rw add-one (joined-step cs ds i c d taken k l (e ∙ ap (λ xs. get_or xs i c) n) f same)
+
+no-item : (d : TypedCells) (left : List TypedCells) → [] ≡ d ∷ left → ⊥
+no-item d left e = let none : 0 ≡ suc (length left) = ap length e in omega (arith, none)
+
+-- the first of those that are left from a place on
+pub left-first : (ds : List TypedCells) (i : ℕ) (d : TypedCells) (left : List TypedCells) → drop i ds ≡ d ∷ left → (i < length ds) × (d ≡ get_or ds i d) × (drop (suc i) ds ≡ left)
+left-first [] zero d left e = absurd (no-item d left e)
+left-first [] (suc i) d left e = absurd (no-item d left e)
+left-first (b ∷ ds) zero d left e = (omega arith, sym (ap (λ (xs : List TypedCells). get_or xs 0 d) e), ap (λ (xs : List TypedCells). drop 1 xs) e)
+left-first (b ∷ ds) (suc i) d left e =
+    let there = left-first ds i d left e in (omega (arith, there.0), there.1, there.2)
 
 pub length-joined : (cs ds : List TypedCells) → length (joined cs ds) ≡ length cs
 length-joined [] ds = refl

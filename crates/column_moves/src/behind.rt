@@ -1,4 +1,4 @@
-ghost use Rattle.std.specs.Prelude.{◌≡◌, ◌++◌, [], map, take, IfOk, OnOk, OnErr};
+ghost use Rattle.std.specs.Prelude.{◌≡◌, ◌↔◌, ◌++◌, [], if◌then◌else◌, map, take, IsTrue, IfOk, OnOk, OnErr};
 ghost use Rattle.sql_values.specs.Blocks.{with_cells};
 ghost use Rattle.sql_values.specs.ColumnRows.{AreFilled, kinds_of};
 ghost use Rattle.column_moves.specs.Joined.{joined};
@@ -17,10 +17,30 @@ pub fn join_rows(alloc: Global, left: ColumnRows, right: ColumnRows) -> Result<C
         return Ok(right);
     }
     let types = Vec::from_slice(alloc, left.types())?;
-    let len = left.len();
     let mut columns = left.into_columns();
-    append_each(&mut columns, len, &right.into_columns())?;
+    append_all(&mut columns, right.into_columns())?;
     Ok(ColumnRows::of_columns(types, columns))
+}
+
+/// Appends cells to each of some columns. Each of the others gives its memory back before the next one is appended.
+fn append_all(columns: &mut Vec<Block>, others: Vec<Block>) -> Result<(), Memory>
+    requires { kinds_of columns.old.items ≡ kinds_of others.items }
+    ensures { OnOk result (columns.new.items ≡ joined columns.old.items others.items) }
+{
+    let mut place = 0;
+    for other in others {
+        append_whole(&mut columns[place], other)?;
+        place += 1;
+    }
+    Ok(())
+}
+
+fn append_whole(column: &mut Block, other: Block) -> Result<bool, Memory>
+    ensures same { IfOk result (λ taken. IsTrue taken ↔ (column.old.kind ≡ other.kind)) }
+    ensures ok { IfOk result (λ taken. column.new ≡ with_cells column.old
+        (if taken then column.old.cells ++ other.cells else column.old.cells)) }
+{
+    column.append(&other)
 }
 
 /// Appends cells to each of some columns of a length. Where memory does not suffice they stay as

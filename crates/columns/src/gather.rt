@@ -15,7 +15,7 @@ pub fn items_at<T: Copy + Drop>(
 {
     let mut chosen = Vec::with_capacity(alloc, places.len())?;
     for place in places {
-        chosen.push(items[*place as usize])?;
+        chosen.push_reserved(items[*place as usize]);
     }
     Ok(chosen)
 }

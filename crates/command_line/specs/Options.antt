@@ -88,8 +88,8 @@ number_written row None = Some row.usual
 number_written row (Some text) = number_for row text
 
 -- the number of an option on a command line; None where what is given is no such number
-abbrev pub number_in : NumberOption → Given → Option ℕ
-number_in option given = number_written (row_of option) (given (row_of option).name)
+abbrev pub option_number : NumberOption → Given → Option ℕ
+option_number option given = number_written (row_of option) (given (row_of option).name)
 
 -- whether counts are asked for; None where what is written is not `yes`
 abbrev pub counts_written : Option (List ℕ) → Option Bool

@@ -2,7 +2,7 @@
 use Rattle.std.specs.Prelude.{◌≡◌, ℕ, List, length, map, Bool, true, not, ◌&&◌, ◌≤◌, ◌<◌, ◌^◌, nat_lt, [], ◌∷◌, Option, Some, None, false, option_map, option_and_then, unwrap_or, slice_get, if◌then◌else◌, codes}
 use Rattle.std.specs.List.{list_all, list_any, position_from}
 use Rattle.command_line.specs.Items.{Item, begins_with_dash, first_part, items_of, named_in, same_text, second_part}
-use Rattle.command_line.specs.Options.{Given, are_options, are_plain, counts_in, number_for, number_in, plan_option, row_of, written_in}
+use Rattle.command_line.specs.Options.{Given, are_options, are_plain, counts_in, number_for, option_number, plan_option, row_of, written_in}
 use Rattle.command_line.specs.declared.options.NumberOption.{NumberOption}
 use Rattle.command_line.specs.declared.options.NumberOption.TheVariants as option
 use Rattle.command_line.specs.declared.job as job
@@ -105,7 +105,7 @@ source_in given words = source_given (given plan_option) (given (row_of option.D
 
 -- what follows from the number of an option
 abbrev pub with_number : NumberOption → Given → (ℕ → Option Job) → Option Job
-with_number option given job = option_and_then job (number_in option given)
+with_number option given job = option_and_then job (option_number option given)
 
 -- what the options ask for of this source
 abbrev pub job_with : Given → Source → Option Job

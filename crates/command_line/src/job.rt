@@ -32,7 +32,7 @@ pub struct Job<'a> {
     pub page: u32,
     /// The rows after whose move a driver's turn ends.
     pub quantum: u32,
-    /// The workers that give the drivers their turns.
+    /// The workers that read tables and give the drivers their turns.
     pub workers: u32,
     /// The tasks of a fragment that may have several.
     pub tasks: u32,

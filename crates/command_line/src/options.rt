@@ -1,7 +1,7 @@
 //! The options, and what each is given.
 ghost use Rattle.std.specs.Prelude.{◌≡◌, ◌≤◌, ◌<◌, ◌^◌, map, option_map, IfSome};
 ghost use Rattle.std.specs.List.{list_all};
-ghost use Rattle.command_line.specs.Options.{are_plain, counts_in, counts_written, is_plain, number_for, number_in, row, row_of, within};
+ghost use Rattle.command_line.specs.Options.{are_plain, counts_in, counts_written, is_plain, number_for, option_number, row, row_of, within};
 ghost use Rattle.command_line.specs.Items.{begins_with_dash};
 ghost use Rattle.command_line.specs.Found.{given_in};
 
@@ -19,7 +19,7 @@ pub enum NumberOption {
     Page,
     /// The rows after whose move a driver's turn ends.
     Quantum,
-    /// The workers that give the drivers their turns.
+    /// The workers that read tables and give the drivers their turns.
     Workers,
     /// The tasks of a fragment that may have several.
     Tasks,
@@ -91,8 +91,8 @@ impl NumberOption {
     }
 
     /// The number of this option on a command line, or the usual one.
-    pub fn number_in(self, found: &ArgMatches<'_>) -> Option<u64>
-        ensures number { result ≡ number_in self (given_in found.now) }
+    pub fn option_number(self, found: &ArgMatches<'_>) -> Option<u64>
+        ensures number { result ≡ option_number self (given_in found.now) }
         ensures bounds { IfSome result (λ n. ((row_of self).least ≤ n) × (n ≤ (row_of self).most)) }
     {
         match self.written_in(found) {
@@ -104,10 +104,10 @@ impl NumberOption {
     /// The same of an option whose numbers have 32 bits.
     pub fn short_number_in(self, found: &ArgMatches<'_>) -> Option<u32>
         requires { (row_of self).most < 2 ^ 32 }
-        ensures number { result ≡ number_in self (given_in found.now) }
+        ensures number { result ≡ option_number self (given_in found.now) }
         ensures bounds { IfSome result (λ n. ((row_of self).least ≤ n) × (n ≤ (row_of self).most)) }
     {
-        Some(self.number_in(found)? as u32)
+        Some(self.option_number(found)? as u32)
     }
 }
 

@@ -51,7 +51,7 @@ fn job_with<'a>(found: &ArgMatches<'_>, source: Source<'a>) -> Option<Job<'a>>
     let workers = NumberOption::Workers.short_number_in(found)?;
     let tasks = NumberOption::Tasks.short_number_in(found)?;
     let drivers = NumberOption::Drivers.short_number_in(found)?;
-    let replay = NumberOption::Replay.number_in(found)?;
+    let replay = NumberOption::Replay.option_number(found)?;
     let counts = counts_in(found)?;
     Some(Job {
         source,

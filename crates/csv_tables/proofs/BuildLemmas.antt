@@ -5,8 +5,9 @@ use Rattle.std.proofs.lemmas.Bool.{eqb-false, eqb-true}
 use Rattle.std.proofs.lemmas.List.{length-map}
 use Rattle.csv_tables.specs.Fields.{value_of_field}
 use Rattle.csv_tables.specs.Places.{Place, first_and_rest, in_place}
-use Rattle.csv_tables.specs.Records.{Gives}
-use Rattle.csv_tables.specs.Tables.{Adds, cells_from, differs_at, kinds, records_of, row_of}
+use Rattle.csv_tables.specs.Records.{GivesRecord}
+use Rattle.sql_values.specs.Columns.{kinds}
+use Rattle.csv_tables.specs.Tables.{Adds, cells_from, differs_at, records_of, row_of_record}
 use Rattle.csv_tables.proofs.FitLemmas.{field_fits, list_same, parts, read_in_place}
 use Rattle.csv_tables.proofs.RecordsLemmas.{records_some}
 use Rattle.csv_tables.proofs.RowLemmas.{after, goes_on}
@@ -52,7 +53,7 @@ cells_count row at (column ∷ columns) (field ∷ fields) vs l e =
     let p = parts (in_place row at (value_of_field column.kind field)) (cells_from row (at + 1) columns fields) vs e in
     length_of (length columns) vs p.others p.first p.all_is (cells_count row (at + 1) columns fields p.others (omega (arith, l)) p.later_is)
 
-pub row_is : (columns : List Column) (limit row : ℕ) (fields : List (List ℕ)) → row ≢ limit + 1 → length fields ≡ length columns → row_of columns limit row fields ≡ cells_from row 0 columns fields
+pub row_is : (columns : List Column) (limit row : ℕ) (fields : List (List ℕ)) → row ≢ limit + 1 → length fields ≡ length columns → row_of_record columns limit row fields ≡ cells_from row 0 columns fields
 row_is columns limit row fields within wide = by_tests (row == limit + 1) (length fields == length columns) _ _ refl refl
   where
     by_tests : (past same : Bool) (p q : Place) → (row == limit + 1) ≡ past → (length fields == length columns) ≡ same
@@ -76,7 +77,7 @@ put_whole before begun after none same is =
 pub row_added : (columns : List Column) (limit row : ℕ) (fields : List (List ℕ)) (before begun after : TypedRows) (ended : Bool) → row ≢ limit + 1 → length fields ≡ length columns
     → before.types ≡ kinds columns → before.begun ≡ [] → begun ≡ record before { begun = begun.begun } → cells_from row 0 columns fields ≡ Ok begun.begun
     → (IsTrue ended ↔ (length begun.types ≤ length begun.begun)) → after ≡ (if ended then record begun { rows = begun.rows ++ begun.begun ∷ []; begun = [] } else begun)
-    → Adds (row_of columns limit row fields) before after
+    → Adds (row_of_record columns limit row fields) before after
 row_added columns limit row fields before begun after ended within wide types none same cells full is =
     let typed : begun.types ≡ kinds columns = ap (λ (t : TypedRows). t.types) same ∙ types in
     let count : length begun.types ≡ length columns = ap length typed ∙ length-map columns (λ (column : Column). column.kind) in
@@ -102,6 +103,6 @@ same_names n (field ∷ fields) [] e h = cc e
 same_names n (field ∷ fields) (column ∷ columns) e h = omega arith
 
 -- a header that is the columns' names has a name
-pub names_some : (columns : List Column) (text : List ℕ) (fields : List (List ℕ)) (more : List (List (List ℕ))) → Gives true fields (records_of text) more → differs_at 0 fields columns ≡ None
+pub names_some : (columns : List Column) (text : List ℕ) (fields : List (List ℕ)) (more : List (List (List ℕ))) → GivesRecord true fields (records_of text) more → differs_at 0 fields columns ≡ None
     → 0 < length columns
 names_some columns text fields more e same = same_names 0 fields columns same (records_some _ _ _ _ fields more e)

@@ -20,7 +20,8 @@ use Rattle.sql_values.proofs.BlockLemmas.{typed_fits}
 use Rattle.text_type_laws.proofs.TextLemmas.{parsed_has_type}
 use Rattle.csv_tables.specs.Fields.{is_null, text_in, value_of_field, value_or_malformed}
 use Rattle.csv_tables.specs.Places.{Place, first_and_rest, in_place}
-use Rattle.csv_tables.specs.Tables.{cells_from, differs_at, kinds, row_of, rows_from, rows_under, table_of}
+use Rattle.sql_values.specs.Columns.{kinds}
+use Rattle.csv_tables.specs.Tables.{cells_from, differs_at, row_of_record, rows_from, rows_under, table_of}
 
 decimal_fits : (p s : ℕ) (o : Option ℤ) (v : Value) → option_map value.Decimal o ≡ Some v → fits (Decimal p s) v ≡ true
 decimal_fits p s None v e = cc
@@ -112,7 +113,7 @@ pub record RowRead (columns : List Column) (limit row : ℕ) (fields : List (Lis
   pub wide : (length fields == length columns) ≡ true
   pub cells : cells_from row 0 columns fields ≡ Ok vs
 
-pub row_read : (columns : List Column) (limit row : ℕ) (fields : List (List ℕ)) (vs : List Value) → row_of columns limit row fields ≡ Ok vs → RowRead columns limit row fields vs
+pub row_read : (columns : List Column) (limit row : ℕ) (fields : List (List ℕ)) (vs : List Value) → row_of_record columns limit row fields ≡ Ok vs → RowRead columns limit row fields vs
 row_read columns limit row fields vs e = by_tests (row == limit + 1) (length fields == length columns) _ _ refl refl e
   where
     by_tests : (past same : Bool) (p q : Place) → (row == limit + 1) ≡ past → (length fields == length columns) ≡ same
@@ -128,7 +129,7 @@ rows_pass : (Q : SqlType → Type 0) (t : RowTest Q) (columns : List Column) (li
     → rows_from columns limit row records ≡ Ok rows → All (Passes t columns) rows
 rows_pass Q t columns limit row [] rows are e = let none : rows ≡ [] = list_same (Ok rows) rows [] refl (sym e) in subst (All (Passes t columns)) (sym none) (All-nil (Passes t columns))
 rows_pass Q t columns limit row (fields ∷ more) rows are e =
-    let p = parts (row_of columns limit row fields) (rows_from columns limit (row + 1) more) rows e in
+    let p = parts (row_of_record columns limit row fields) (rows_from columns limit (row + 1) more) rows e in
     let read = row_read columns limit row fields p.first p.here_is in
     let here = cells_pass Q t row 0 columns fields p.first are (eqb-true (length fields) (length columns) read.wide) read.cells in
     subst (All (Passes t columns)) (sym p.all_is)
@@ -165,11 +166,11 @@ pub table_has_types : (columns : List Column) (limit : ℕ) (records : List (Lis
     → table_of columns limit records ≡ Ok rows → IsTrue (rows_have_types (kinds columns) rows)
 table_has_types columns limit records rows are e = list_all-from_AllPass (row_has_types (kinds columns)) rows (table_passes IsType type_test columns limit records rows are e)
 
-rows_few : (columns : List Column) (limit row : ℕ) (records : List (List (List ℕ))) (rows : List (List Value)) → row ≤ limit + 1
+pub rows_few : (columns : List Column) (limit row : ℕ) (records : List (List (List ℕ))) (rows : List (List Value)) → row ≤ limit + 1
     → rows_from columns limit row records ≡ Ok rows → row + length rows ≤ limit + 1
 rows_few columns limit row [] rows h e = let none : rows ≡ [] = list_same (Ok rows) rows [] refl (sym e) in omega (arith, h, ap length none)
 rows_few columns limit row (fields ∷ more) rows h e =
-    let p = parts (row_of columns limit row fields) (rows_from columns limit (row + 1) more) rows e in
+    let p = parts (row_of_record columns limit row fields) (rows_from columns limit (row + 1) more) rows e in
     let read = row_read columns limit row fields p.first p.here_is in
     let before : row + 1 ≤ limit + 1 = omega (arith, h, eqb-false row (limit + 1) read.within) in
     let later = rows_few columns limit (row + 1) more p.others before p.later_is in

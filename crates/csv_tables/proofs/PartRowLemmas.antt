@@ -4,7 +4,7 @@ use Rattle.std.proofs.lemmas.Bool.{eqb-true}
 use Rattle.csv_tables.specs.Fields.{value_of_field}
 use Rattle.csv_tables.specs.Places.{Place, first_and_rest, in_place}
 use Rattle.csv_tables.specs.Parts.{IsCut}
-use Rattle.csv_tables.specs.Tables.{IsTable, cells_from, differs_at, records_of, row_of, rows_from, rows_under, table_of}
+use Rattle.csv_tables.specs.Tables.{IsTable, cells_from, differs_at, records_of, row_of_record, rows_from, rows_under, table_of}
 use Rattle.csv_tables.proofs.PartLemmas.{records_cut}
 use Rattle.csv_tables.proofs.BuildLemmas.{row_is}
 use Rattle.csv_tables.proofs.FitLemmas.{list_same, parts, read_in_place, row_read}
@@ -31,7 +31,7 @@ rows_moved : (columns : List Column) (limit row other : ℕ) (records : List Rec
     → rows_from columns limit other records ≡ Ok rows
 rows_moved columns limit row other [] rows e few = e
 rows_moved columns limit row other (fields ∷ more) rows e few =
-    let p = parts (row_of columns limit row fields) (rows_from columns limit (row + 1) more) rows e in
+    let p = parts (row_of_record columns limit row fields) (rows_from columns limit (row + 1) more) rows e in
     let read = row_read columns limit row fields p.first p.here_is in
     let size : length rows ≡ suc (length p.others) = ap length p.all_is in
     let within : other ≢ limit + 1 = λ same. absurd (omega (arith, size, few, same)) in
@@ -47,7 +47,7 @@ rows_behind columns limit row next [] later rows more e n f =
     let same : next ≡ row = n ∙ rw none (omega arith) in
     rw (none, ← same) f
 rows_behind columns limit row next (fields ∷ records) later rows more e n f =
-    let p = parts (row_of columns limit row fields) (rows_from columns limit (row + 1) records) rows e in
+    let p = parts (row_of_record columns limit row fields) (rows_from columns limit (row + 1) records) rows e in
     let size : length rows ≡ suc (length p.others) = ap length p.all_is in
     both_read _ _ p.first (p.others ++ more) (rows ++ more) p.here_is
     (rows_behind columns limit (row + 1) next records later p.others more p.later_is (omega (arith, size, n)) f)

@@ -9,7 +9,7 @@ use Rattle.csv.specs.declared.parser.State.TheVariants as st
 use Rattle.csv.specs.declared.parser.Action.{Action}
 use Rattle.csv.specs.declared.parser.Action.TheVariants as act
 use Rattle.csv.specs.declared.reader.Reader.{Reader}
-use Rattle.csv_tables.specs.Records.{Gives, Reads, left_from, records_left}
+use Rattle.csv_tables.specs.Records.{GivesRecord, Reads, left_from, records_left}
 
 -- a record that was read leaves fewer bytes, or nothing at all
 abbrev pub Progress : List ℕ → Read → Type 0
@@ -80,12 +80,12 @@ left_end cfg s bytes e = rw (add-one (length bytes), e) refl
 
 next_gives : (s s2 : State) (bytes rest : List ℕ) (found : Bool) (fields : List (List ℕ)) (o : Option Read) → next_record default_config s [] [] bytes ≡ o
     → NextIs o found fields s2 rest
-    → Gives found fields (records_from default_config (length bytes + 1) s bytes) (records_from default_config (length rest + 1) s2 rest)
+    → GivesRecord found fields (records_from default_config (length bytes + 1) s bytes) (records_from default_config (length rest + 1) s2 rest)
 next_gives s s2 bytes rest found fields None e h = rw h (left_end default_config s bytes e)
 next_gives s s2 bytes rest found fields (Some read) e h = rw (h.0, h.1, h.2, h.3) (left_step default_config s bytes read e)
 
 reads_give : (s s2 : State) (old new : Option (List ℕ)) (found : Bool) (fields : List (List ℕ)) → IsSome old → ReadsNext default_config s old new found fields s2
-    → Gives found fields (left_from s old) (left_from s2 new)
+    → GivesRecord found fields (left_from s old) (left_from s2 new)
 reads_give s s2 None new found fields known r = cc known
 reads_give s s2 (Some bytes) None found fields known r = absurd r
 reads_give s s2 (Some bytes) (Some rest) found fields known r =
@@ -93,13 +93,13 @@ reads_give s s2 (Some bytes) (Some rest) found fields known r =
 
 -- what a read gives is the first of the records that were left
 pub read_gives : {R : Type 0} (rem : R → Option (List ℕ)) (a b : Reader R) (found : Bool) (fields : List (List ℕ)) → Reads rem a → ReadRecord rem a b found fields
-    → Gives found fields (records_left rem a) (records_left rem b)
+    → GivesRecord found fields (records_left rem a) (records_left rem b)
 read_gives rem a b found fields reads r =
     rw r.1 (reads_give a.state b.state (source_of rem a) (pending_of (rem b.rdr) b) found fields reads.known (rw reads.config at r.0))
 
 -- a reader that has failed has none
 pub failed_gives : {R E : Type 0} (rem : R → Option (List ℕ)) (a b : Reader R) (found : Bool) (fields : List (List ℕ)) (r : Result Bool E) → has_failed a ≡ true → r ≡ Ok found → r ≡ Ok false
-    → Gives found fields (records_left rem a) (records_left rem b)
+    → GivesRecord found fields (records_left rem a) (records_left rem b)
 failed_gives rem a b false fields r failed is e = rw failed refl
 failed_gives rem a b true fields r failed is e = cc (is, e)
 

@@ -28,9 +28,9 @@ abbrev pub IsReading : {R : Type 0} → (R → Option (List ℕ)) → Reader R �
 IsReading rem r = Reads rem r ⊎ (has_failed r ≡ true)
 
 -- the first of the records that were left, if there was one, and then the others are left
-abbrev pub Gives : Bool → List (List ℕ) → List (List (List ℕ)) → List (List (List ℕ)) → Type 0
-Gives true fields before after = before ≡ fields ∷ after
-Gives false fields before after = before ≡ []
+abbrev pub GivesRecord : Bool → List (List ℕ) → List (List (List ℕ)) → List (List (List ℕ)) → Type 0
+GivesRecord true fields before after = before ≡ fields ∷ after
+GivesRecord false fields before after = before ≡ []
 
 -- whether a field, if there is one, is the name of the column
 abbrev pub names_column : Column → Option (List ℕ) → Bool

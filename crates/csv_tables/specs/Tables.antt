@@ -1,6 +1,7 @@
 -- The table that a text in CSV stands for.
 use Rattle.std.specs.Prelude.{ℕ, ◌+◌, ◌-◌, ◌^◌, ◌==◌, min, if◌then◌else◌, List, [], ◌∷◌, ◌++◌, length, map, Option, Some, None, Result, Ok, Err, ◌≡◌}
 use Rattle.csv.specs.Reading.{default_config, records, strip_bom}
+use Rattle.sql_values.specs.Columns.{kinds}
 use Rattle.sql_values.specs.ColumnRows.{TypedRows}
 use Rattle.sql_values.specs.declared.types.Column.{Column}
 use Rattle.sql_values.specs.declared.types.SqlType.{SqlType}
@@ -8,10 +9,6 @@ use Rattle.sql_values.specs.declared.value.Value.{Value}
 use Rattle.csv_tables.specs.declared.fault.TableFault.{TableFault}
 use Rattle.csv_tables.specs.Fields.{same_bytes, value_of_field}
 use Rattle.csv_tables.specs.Places.{Place, place, wrong_header, wrong_width, too_many_rows, first_and_rest, in_place, IsFaultOf}
-
--- the types of columns
-abbrev pub kinds : List Column → List SqlType
-kinds columns = map (λ column. column.kind) columns
 
 -- the records of a text as `csv` reads it with its default settings, the header being the first
 abbrev pub records_of : List ℕ → List (List (List ℕ))
@@ -37,8 +34,8 @@ abbrev pub held : ℕ → ℕ
 held n = min n (2 ^ 32 - 1)
 
 -- the cells of a record
-abbrev pub row_of : List Column → ℕ → ℕ → List (List ℕ) → Result (List Value) Place
-row_of columns limit row fields =
+abbrev pub row_of_record : List Column → ℕ → ℕ → List (List ℕ) → Result (List Value) Place
+row_of_record columns limit row fields =
     if row == limit + 1 then Err (place row 0 too_many_rows)
     else if length fields == length columns then cells_from row 0 columns fields
     else Err (place row (held (length fields)) wrong_width)
@@ -52,7 +49,7 @@ Adds (Err e) before after = ⊥
 abbrev pub rows_from : List Column → ℕ → ℕ → List (List (List ℕ)) → Result (List (List Value)) Place
 rows_from columns limit row [] = Ok []
 rows_from columns limit row (fields ∷ more) =
-    first_and_rest (row_of columns limit row fields) (rows_from columns limit (row + 1) more)
+    first_and_rest (row_of_record columns limit row fields) (rows_from columns limit (row + 1) more)
 
 -- rows that were read, in columns of these types
 pub record IsReadInto (read : Result (List (List Value)) Place) (types : List SqlType) (found : TypedRows) : Type 0 where

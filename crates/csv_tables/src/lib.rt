@@ -7,7 +7,7 @@
 //!
 //! - `fault`: why a text is refused
 //! - `records`: the records of a text, one after the other
-//! - `header`, `field`, `rows`, `table`: the parts of `read_table`
+//! - `header`, `field`, `rows`, `table`: the parts of `read_table`, and `read_part`, which reads records behind a header
 //! - `laws`: what follows from the definitions
 //! - `result_text`: `text_of`
 #![tactic(auto)]
@@ -27,4 +27,4 @@ pub use laws::{
     rows_of_a_table_fit, rows_of_a_table_have_types, rows_of_parts,
 };
 pub use result_text::text_of;
-pub use table::read_table;
+pub use table::{read_part, read_table};

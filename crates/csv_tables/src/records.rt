@@ -1,6 +1,6 @@
 ghost use Rattle.std.specs.Prelude.{◌≡◌, ◌∷◌, ◌⊎◌, Bool, true, false, [], IfOk};
 ghost use Rattle.csv.specs.Records.{fields_of};
-ghost use Rattle.csv_tables.specs.Records.{Gives};
+ghost use Rattle.csv_tables.specs.Records.{GivesRecord};
 ghost use Rattle.csv_tables.specs.Tables.{records_of};
 
 use csv::{ByteRecord, Reader, ReaderBuilder};
@@ -39,7 +39,7 @@ impl<'a> Records<'a> {
 
     /// The next record into `line`, and whether there was one. After a failure there is none.
     pub(crate) fn next(&mut self, line: &mut ByteRecord) -> Result<bool, Memory>
-        ensures { IfOk result (λ found. Gives found (fields_of line.new) self.old self.new) }
+        ensures { IfOk result (λ found. GivesRecord found (fields_of line.new) self.old self.new) }
     {
         let Ok(found) = self.reader.read_byte_record(line) else {
             return Err(Memory);

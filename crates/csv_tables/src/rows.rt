@@ -2,7 +2,8 @@ ghost use Rattle.std.specs.Prelude.{◌≡◌, ◌≢◌, [], ◌∷◌, ◌++�
 ghost use Rattle.csv.specs.Records.{fields_of};
 ghost use Rattle.csv_tables.specs.Places.{in_place, IsFaultOf};
 ghost use Rattle.csv_tables.specs.Fields.{value_of_field};
-ghost use Rattle.csv_tables.specs.Tables.{Adds, IsReadInto, cells_from, held, kinds, row_of, rows_from};
+ghost use Rattle.sql_values.specs.Columns.{kinds};
+ghost use Rattle.csv_tables.specs.Tables.{Adds, IsReadInto, cells_from, held, row_of_record, rows_from};
 ghost use Rattle.sql_values.specs.Cells.{lent_value};
 ghost use Rattle.sql_values.specs.ColumnRows.{fits_at};
 
@@ -82,8 +83,8 @@ fn read_row(
     requires begun { rows.old.begun ≡ [] }
     ensures within { OnOk result (row ≢ limit + 1) }
     ensures row { MatchResult result
-        (λ _. Adds (row_of columns.now limit row (fields_of line.now)) rows.old rows.new)
-        (IsFaultOf (row_of columns.now limit row (fields_of line.now))) }
+        (λ _. Adds (row_of_record columns.now limit row (fields_of line.now)) rows.old rows.new)
+        (IsFaultOf (row_of_record columns.now limit row (fields_of line.now))) }
 {
     if row == limit + 1 {
         return Err(TableFault::Refused {

@@ -1,12 +1,14 @@
-ghost use Rattle.std.specs.Prelude.{◌≡◌, ◌<◌, ◌-◌, ◌^◌, MatchResult, IfOk};
-ghost use Rattle.csv_tables.specs.Tables.{IsTable, TableRefusedFor};
+ghost use Rattle.std.specs.Prelude.{◌≡◌, ◌<◌, ◌-◌, ◌^◌, length, MatchResult, IfOk};
+ghost use Rattle.csv_tables.specs.Places.{IsFaultOf};
+ghost use Rattle.sql_values.specs.Columns.{kinds};
+ghost use Rattle.csv_tables.specs.Tables.{IsReadInto, IsTable, TableRefusedFor, records_of, rows_from};
 
 use crate::fault::{TableFault, WRONG_HEADER};
 use crate::header::header_difference;
 use crate::records::Records;
 use crate::rows::{empty_rows, read_rows};
 use csv::ByteRecord;
-use sql_values::{Column, Columns, Memory, RowList, Table};
+use sql_values::{Column, ColumnRows, Columns, Memory, RowList, Table};
 use std::alloc::Global;
 
 fn copy_columns(alloc: Global, columns: &[Column]) -> Result<Columns, Memory>
@@ -61,4 +63,28 @@ pub fn read_table(
         columns: copy_columns(alloc, columns)?,
         rows: RowList::of_columns(alloc, rows),
     })
+}
+
+/// The rows of a part of a text that stands behind the header: its first record is row 1.
+pub fn read_part(
+    alloc: Global,
+    columns: &[Column],
+    limit: u32,
+    bytes: &[u8],
+) -> Result<ColumnRows, TableFault>
+    requires limit { limit < 2 ^ 32 - 1 }
+    requires some { 0 < length columns.now }
+    requires columns { length columns.now < 2 ^ 32 }
+    ensures { MatchResult result
+        (λ rows. IsReadInto (rows_from columns.now limit 1 (records_of bytes.now)) (kinds columns.now) rows)
+        (IsFaultOf (rows_from columns.now limit 1 (records_of bytes.now))) }
+{
+    let empty = empty_rows(alloc, columns)?;
+    read_rows(
+        columns,
+        limit,
+        Records::of(alloc, bytes),
+        ByteRecord::new(alloc),
+        empty,
+    )
 }

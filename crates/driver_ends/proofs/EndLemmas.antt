@@ -71,11 +71,6 @@ finished_where t ends may d =
     let last = (and_decides t.is_told (is_none t.waiting) (λ e. e, λ e. e) (none_decides t.waiting)).0 may in
     (λ e. record { told = last.0; none = last.1; through = d.0 e }, λ f. d.1 f.through)
 
-pub finished_not : (t : TargetState) → may_end t ≡ false → Decides false (IsFinished t)
-finished_not t may =
-    let last = and_decides t.is_told (is_none t.waiting) (λ e. e, λ e. e) (none_decides t.waiting) in
-    (λ e. absurd (true≢false (sym e)), λ f. absurd (true≢false (sym (last.1 (f.told, f.none)) ∙ may)))
-
 -- ---- what a target tells
 
 -- a target is as it was made where its outlets are

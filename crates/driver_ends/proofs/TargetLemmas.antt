@@ -4,7 +4,7 @@ use Rattle.std.specs.Prelude.{◌&&◌, All, filter, is_none, nat_eq, replicate,
 use Rattle.std.specs.List.{range_with_len}
 use Rattle.std.proofs.Math.ListN.{get_or-map}
 use Rattle.std.proofs.lemmas.List.{get_or-map as get_or-map-within}
-use Rattle.std.proofs.lemmas.List.{append-nil, append_assoc, get_or-replicate, get_or-set_other, length-map, length-replicate, map-append, map-set, replicate_more}
+use Rattle.std.proofs.lemmas.List.{append-nil, append_assoc, get_or-replicate, get_or-set_other, length-map, length-replicate, map-append, map-set}
 use Rattle.std.proofs.lemmas.List.Elements.{All-map, All-nil, All-tail, filter-append}
 use Rattle.std.proofs.lemmas.List.FromFn.{get_or-map-range_with_len, length-map-range_with_len, length-range_with_len}
 use Rattle.std.proofs.lemmas.Bool.{cond-true, eq-eqb, true≢false}
@@ -151,24 +151,6 @@ only_sent by page pages one is =
 pub copies_sent : (n : ℕ) (page : TypedPage) (pages : List TypedPage) → pages ≡ replicate n page → map (λ (p : TypedPage). p.rows) pages ≡ replicate n page.rows
 copies_sent n page pages is = ap (map (λ (p : TypedPage). p.rows)) is ∙ map_replicate (λ (p : TypedPage). p.rows) n page
 
--- one copy more, and the page itself
-pub copied : (n : ℕ) (pages : List TypedPage) (page x : TypedPage) → 1 ≤ n → pages ≡ replicate (n - 1) page → x ≡ page → pages ++ x ∷ [] ≡ replicate (n + 1 - 1) page
-copied n pages page x some is same =
-    (λ i. is i ++ same i ∷ []) ∙ replicate_more (n - 1) page ∙ ap (λ m. replicate m page) (omega (arith, some))
-
-pub all_copied : (n count : ℕ) (pages : List TypedPage) (page : TypedPage) → 1 ≤ n → n ≡ count → pages ≡ replicate (n - 1) page → pages ++ page ∷ [] ≡ replicate count page
-all_copied n count pages page some all is =
-    ap (λ l. l ++ page ∷ []) is ∙ replicate_more (n - 1) page ∙ ap (λ m. replicate m page) (omega (arith, some, all))
-
--- the outlets hold their parts of a page
-pub put_sent : (kind : PutKind) (old new : List OutletState) (pages : List TypedPage) (rows given : List (List Value)) →
-    map (λ (p : TypedPage). p.rows) pages ≡ sent_to kind (length old) rows → map rows_sent new ≡ add_each (map rows_sent old) (map (λ (p : TypedPage). p.rows) pages) →
-    map (λ (l : OutletState). l.seat) new ≡ map (λ (l : OutletState). l.seat) old → map rows_sent old ≡ sent_to kind (length old) given →
-    map rows_sent new ≡ sent_to kind (length new) (given ++ rows)
-put_sent kind old new pages rows given parts holds seats sent =
-    holds ∙ (λ i. add_each (sent i) (parts i)) ∙ sym (sent_more kind (length old) given rows)
-    ∙ ap (λ n. sent_to kind n (given ++ rows)) (sym (length_same (λ (l : OutletState). l.seat) new old seats))
-
 -- what is kept while outlets put
 pub kept_sent : (told : Bool) (kind : PutKind) (old new : List OutletState) → map (outlet_kept told) new ≡ map (outlet_kept told) old → (given : List (List Value)) →
     map rows_sent old ≡ sent_to kind (length old) given → map rows_sent new ≡ sent_to kind (length new) given
@@ -285,19 +267,6 @@ puts_first kind outlets seats given is sent place seat within there =
     sent_at outlets place d less = get_or-map-within rows_sent outlets place d [] less
 
 -- ---- with the rows that wait
-
--- of what was given before more, the rows that wait are still the last
-behind : {X : Type 0} (given spread waits more : List X) → given ≡ spread ++ waits → given ++ more ≡ spread ++ (waits ++ more)
-behind given spread waits more whole = ap (λ l. l ++ more) whole ∙ append_assoc spread waits more
-
--- rows that wait come to those that were given
-pub waits_more : (old new : TargetState) (given rows : List (List Value)) → map rows_sent new.outlets ≡ map rows_sent old.outlets → length new.outlets ≡ length old.outlets →
-    new.kind ≡ old.kind → rows_of_held new.waiting ≡ rows_of_held old.waiting ++ rows → HasSent old given → HasSent new (given ++ rows)
-waits_more old new given rows sent long kind waits h = record {
-  spread = h.spread;
-  whole = behind given h.spread (rows_of_held old.waiting) rows h.whole ∙ ap (λ l. h.spread ++ l) (sym waits);
-  sent = sent ∙ h.sent ∙ (λ i. sent_to (sym kind i) (sym long i) h.spread);
-}
 
 -- the rows that waited are spread
 pub spreads_all : (old new : TargetState) (given : List (List Value)) → map rows_sent new.outlets ≡ add_each (map rows_sent old.outlets) (sent_to old.kind (length old.outlets) (rows_of_held old.waiting)) →

@@ -2,7 +2,7 @@
 use Rattle.std.specs.Prelude.{◌≡◌, ℕ, ◌+◌, ◌-◌, ◌⊎◌, List, [], ◌∷◌, ◌++◌, false, Option, None, IsSome, length, cond, nat_eq, take}
 use Rattle.sql_values.specs.declared.value.Value.{Value}
 use Rattle.col_pages.specs.Pages.{TypedPage}
-use Rattle.blocked.specs.Counts.{Rose, next_count}
+use Rattle.count_laws.specs.Counts.{Rose, next_count}
 use Rattle.blocked.specs.declared.blocked_on.BlockedOn.{BlockedOn}
 use Rattle.output_buffer.specs.declared.piece.Piece.{Piece}
 use Rattle.output_buffer.specs.Seats.{GatherTakeState, HasEnded, HasTakenEnd, SpreadTakeState, rows_of_pieces}

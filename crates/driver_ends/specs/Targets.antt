@@ -2,7 +2,7 @@
 use Rattle.std.specs.Prelude.{◌≡◌, ℕ, ◌<◌, ◌⊎◌, ◌++◌, ◌&&◌, List, [], ◌∷◌, Bool, true, false, All, Option, Some, None, get_or, is_none, length, map, nat_lt, replicate, slice_index_or, sum_by, take}
 use Rattle.std.specs.List.{range_with_len}
 use Rattle.sql_values.specs.declared.value.Value.{Value}
-use Rattle.blocked.specs.Counts.{Rose}
+use Rattle.count_laws.specs.Counts.{Rose}
 use Rattle.blocked.specs.declared.blocked_on.BlockedOn.{BlockedOn}
 use Rattle.bag_laws.specs.Buckets.{key_bucket, of_bucket}
 use Rattle.col_pages.specs.Pages.{TypedPage}

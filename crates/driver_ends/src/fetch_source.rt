@@ -1,7 +1,7 @@
 //! What a driver takes its pages from where a courier stands between it and an edge of one taker.
 ghost use Rattle.std.specs.Prelude.{◌≡◌, ℕ, ◌+◌, ◌<◌, ◌≤◌, ◌++◌, ◌∷◌, ◌↔◌, List, [], true, false, IsTrue, IfOk, OnOk, OnErr, IfSome, MatchOption, None};
 ghost use Rattle.sql_values.specs.declared.value.Value.{Value};
-ghost use Rattle.blocked.specs.Counts.{Rose};
+ghost use Rattle.count_laws.specs.Counts.{Rose};
 ghost use Rattle.exchange_client.specs.Fetches.{HasRoom, rest};
 ghost use Rattle.driver_ends.specs.Sources.{IsLocalStarved};
 ghost use Rattle.driver_ends.specs.Fetching.{HasFetchTaken, IsBehind, IsFetchEnded, fetch_as_made, fetch_dues, fetch_ended, fetch_taken, new_fetching, rows_left};

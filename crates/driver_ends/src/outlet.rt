@@ -1,6 +1,6 @@
 //! One edge of a target: its seat, and the page that it did not take yet.
 ghost use Rattle.std.specs.Prelude.{◌≡◌, ℕ, ◌+◌, ◌<◌, ◌≤◌, ◌↔◌, ◌++◌, [], true, false, IsTrue, IfOk, OnOk, OnErr, IfErr, IfNone, IfSome, MatchOption};
-ghost use Rattle.blocked.specs.Counts.{Rose};
+ghost use Rattle.count_laws.specs.Counts.{Rose};
 ghost use Rattle.output_buffer.specs.Edges.{end_count};
 ghost use Rattle.output_buffer.specs.Seats.{MayPut};
 ghost use Rattle.driver_ends.specs.Outlets.{HasPutEnd, HasRows, IsClear, IsStuck, IsThrough, MayPutNow, outlet_dues, outlet_full, outlet_kept, OutletInOrder, outlet_put, new_outlet, page_back, rows_sent};

@@ -1,18 +1,20 @@
 //! Pages behind each other as one page.
-ghost use Rattle.std.specs.Prelude.{◌≡◌, ◌+◌, ◌≤◌, ◌++◌, ◌↔◌, IfErr, IfNone, IfOk, IfSome, IsNone, IsSome, IsTrue, OnErr, Some, length};
+ghost use Rattle.std.specs.Prelude.{◌≡◌, [], ◌+◌, ◌≤◌, ◌++◌, ◌↔◌, IfErr, IfNone, IfOk, IfSome, IsNone, IsSome, IsTrue, OnErr, Some, length};
 ghost use Rattle.col_pages.specs.Pages.{most_rows};
 ghost use Rattle.driver_ends.specs.Outlets.{rows_of_held};
 ghost use Rattle.driver_ends.specs.Joins.{FitTogether};
 
 use col_pages::{MOST_ROWS, Page};
 use column_moves::append_each;
-use sql_values::Memory;
+use sql_values::{ColumnRows, Memory};
 use std::alloc::Global;
 
-/// Puts a page behind the rows that wait. It is handed back where they cannot be one page.
+/// Puts a page behind the rows that wait; where none wait, into the memory of a page that waited before. It is handed back
+/// where they cannot be one page.
 pub(crate) fn join_behind(
     alloc: Global,
     waiting: &mut Option<Page>,
+    spare: &mut Option<Page>,
     page: Page,
 ) -> Result<Option<Page>, Memory>
     ensures joined { IfOk result (λ back. IfNone back
@@ -23,7 +25,7 @@ pub(crate) fn join_behind(
 {
     match waiting.take() {
         None => {
-            *waiting = Some(page);
+            *waiting = Some(in_memory_of(alloc, spare.take(), page)?);
             Ok(None)
         }
         Some(first) if fit_together(&first, &page) => join_to(alloc, waiting, first, page),
@@ -32,6 +34,33 @@ pub(crate) fn join_behind(
             Ok(Some(page))
         }
     }
+}
+
+/// The page's rows in the memory of another, whose rows are let go; the page itself where there is none of its types.
+fn in_memory_of(alloc: Global, spare: Option<Page>, page: Page) -> Result<Page, Memory>
+    ensures { IfOk result (λ p. p.rows ≡ page.rows) }
+{
+    let Some(spare) = spare else {
+        return Ok(page);
+    };
+    let spare = cleared(alloc, spare)?;
+    if !fit_together(&spare, &page) {
+        return Ok(page);
+    }
+    match joined(alloc, spare, page) {
+        Ok(all) => Ok(all),
+        Err(_) => Err(Memory),
+    }
+}
+
+/// A page without rows in the memory of another.
+fn cleared(alloc: Global, page: Page) -> Result<Page, Memory>
+    ensures { IfOk result (λ p. p ≡ record page { rows = [] }) }
+{
+    let types = Vec::from_slice(alloc, page.types())?;
+    let mut rows = ColumnRows::of_columns(types, page.into_blocks());
+    rows.truncate(0);
+    Ok(Page::of_columns(rows))
 }
 
 /// Lets two pages wait as one.

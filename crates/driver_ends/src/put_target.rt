@@ -43,6 +43,8 @@ pub struct PutTarget<'w> {
     outlets: Vec<Outlet<'w>>,
     /// The rows that wait.
     waiting: Option<Page>,
+    /// The page that waited before, for its memory.
+    spare: Option<Page>,
     /// So many of them wait for no more.
     enough: usize,
     is_told: bool,
@@ -86,6 +88,7 @@ impl<'w> PutTarget<'w> {
             kind,
             outlets,
             waiting: None,
+            spare: None,
             enough: 0,
             is_told: false,
             seats: room,
@@ -138,7 +141,7 @@ impl<'w> PutTarget<'w> {
     {
         let wanted = (page.len() as usize).saturating_mul(self.outlets.len());
         self.enough = self.enough.max(wanted.min(MOST_ROWS as usize));
-        if let Some(page) = join_behind(self.alloc, &mut self.waiting, page)? {
+        if let Some(page) = join_behind(self.alloc, &mut self.waiting, &mut self.spare, page)? {
             self.spread()?;
             self.waiting = Some(page);
         }
@@ -169,7 +172,7 @@ impl<'w> PutTarget<'w> {
     {
         if let Some(page) = &self.waiting {
             let pages = shares_of(self.alloc, &self.kind, self.outlets.len(), page)?;
-            self.waiting = None;
+            self.spare = self.waiting.take();
             hold_all(&mut self.outlets, pages);
         }
         Ok(())
@@ -300,10 +303,20 @@ fn outlets_of<'w>(alloc: Global, seats: Vec<GatherPut<'w>>) -> Result<Vec<Outlet
     ensures { IfOk result (λ outlets. outlets.items ≡ map new_outlet seats.entry.items) }
 {
     let mut outlets = Vec::with_capacity(alloc, seats.len())?;
-    for seat in seats {
-        outlets.push(Outlet::new(seat))?;
-    }
+    put_outlets(seats, &mut outlets);
     Ok(outlets)
+}
+
+/// Puts an outlet for each seat, where there is room for them.
+fn put_outlets<'w>(seats: Vec<GatherPut<'w>>, outlets: &mut Vec<Outlet<'w>>)
+    requires fresh { All (λ seat. seat.put ≡ []) seats.items }
+    requires none { outlets.old.items ≡ [] }
+    requires room { length seats.items ≤ vec_capacity outlets.old }
+    ensures { outlets.new.items ≡ map new_outlet seats.entry.items }
+{
+    for seat in seats {
+        outlets.push_reserved(Outlet::new(seat));
+    }
 }
 
 fn give_back<'w>(outlets: Vec<Outlet<'w>>, seats: &mut Vec<GatherPut<'w>>)
@@ -394,12 +407,22 @@ fn copies_of(alloc: Global, page: Page, count: usize) -> Result<Vec<Page>, Memor
     ensures { IfOk result (λ pages. pages.items ≡ replicate count page) }
 {
     let mut pages = Vec::with_capacity(alloc, count)?;
-    for _copy in 1..count {
-        let copy = page.copy(alloc)?;
-        pages.push(copy)?;
-    }
-    pages.push(page)?;
+    put_copies(alloc, &page, count - 1, &mut pages)?;
+    pages.push_reserved(page);
     Ok(pages)
+}
+
+/// Puts so many copies of the page, where there is room for more.
+fn put_copies(alloc: Global, page: &Page, count: usize, pages: &mut Vec<Page>) -> Result<(), Memory>
+    requires none { pages.old.items ≡ [] }
+    requires room { count < vec_capacity pages.old }
+    ensures copies { OnOk result (pages.new.items ≡ replicate count page.now) }
+    ensures room { vec_capacity pages.new ≡ vec_capacity pages.old }
+{
+    for _copy in 0..count {
+        pages.push_reserved(page.copy(alloc)?);
+    }
+    Ok(())
 }
 
 /// Gives each outlet its page.

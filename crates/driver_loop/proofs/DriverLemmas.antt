@@ -13,7 +13,7 @@ use Rattle.operator_core.proofs.ChainLemmas.{finished, could_go_on, failure}
 use Rattle.operator_core.proofs.LinkLemmas.{Linked-made}
 use Rattle.operator_core.proofs.StageLemmas.{Steps-made}
 use Rattle.operator_core.proofs.TurnLemmas.{Turns-made}
-use Rattle.blocked.specs.Counts.{most_count}
+use Rattle.count_laws.specs.Counts.{most_count}
 use Rattle.stage_moves.specs.Counts.{LinkedBy}
 use Rattle.stage_moves.specs.Moves.{SomeFails}
 use Rattle.stage_moves.specs.Places.{AllLater, IsLater}

@@ -3,7 +3,7 @@ use Rattle.std.proofs.Common.{◌≡◌, ◌⊎◌, inl, inr, ◌<◌, ℕ, min,
 use Rattle.operator_core.specs.Rows.{Row}
 use Rattle.operator_core.specs.Stages.{Linked}
 use Rattle.blocked.specs.declared.blocked_on.BlockedOn.{BlockedOn}
-use Rattle.blocked.specs.Counts.{most_count}
+use Rattle.count_laws.specs.Counts.{most_count}
 use Rattle.stage_moves.specs.Counts.{Counted, LinkedBy}
 use Rattle.stage_moves.specs.Looks.{HasWaited, no_looks}
 use Rattle.driver_turns.specs.Turns.{StageBlocked, WentOn}

@@ -7,7 +7,7 @@ use Rattle.col_pages.specs.Pages.{TypedPage}
 use Rattle.operator_core.specs.Answers.{gave}
 use Rattle.operator_core.specs.Rows.{Row, Coming}
 use Rattle.operator_core.proofs.StageLemmas.{Coming-none}
-use Rattle.row_ops.specs.ValueRows.{ValuesState, rows_left}
+use Rattle.row_ops.specs.ValueRows.{ValuesState, rows_to_give}
 
 -- a page of the rows that were left was given
 pub given_next : (n m : ℕ) (rows more P : List Row) → more ≡ rows → P ++ drop m more ≡ drop n rows → take m more ≡ take n rows ++ P
@@ -21,21 +21,21 @@ given_all n rows none = sym (append-nil (take n rows)) ∙ ap (λ x. take n rows
 
 -- what an operator of rows gave, with what it has left, is what it had left
 pub left_next : (old new : ValuesState) (o : Option TypedPage)
-    → ((Z B : List Row) → Coming old.is_told Z → B ≡ rows_left new → gave (Ok o) ++ B ≡ rows_left old) → gave (Ok o) ++ rows_left new ≡ rows_left old
-left_next old new o gives = gives [] (rows_left new) (Coming-none old.is_told) refl
+    → ((Z B : List Row) → Coming old.is_told Z → B ≡ rows_to_give new → gave (Ok o) ++ B ≡ rows_to_give old) → gave (Ok o) ++ rows_to_give new ≡ rows_to_give old
+left_next old new o gives = gives [] (rows_to_give new) (Coming-none old.is_told) refl
 
-pub some_next : (old new : ValuesState) (o : Option TypedPage) (page : TypedPage) → o ≡ Some page → new.rows ≡ old.rows → gave (Ok o) ++ rows_left new ≡ rows_left old
+pub some_next : (old new : ValuesState) (o : Option TypedPage) (page : TypedPage) → o ≡ Some page → new.rows ≡ old.rows → gave (Ok o) ++ rows_to_give new ≡ rows_to_give old
     → take new.given new.rows ≡ take old.given old.rows ++ page.rows
 some_next old new o page e same left =
-    given_next old.given new.given old.rows new.rows page.rows same (subst (λ (o : Option TypedPage). gave (Ok o) ++ rows_left new ≡ rows_left old) e left)
+    given_next old.given new.given old.rows new.rows page.rows same (subst (λ (o : Option TypedPage). gave (Ok o) ++ rows_to_give new ≡ rows_to_give old) e left)
 
-pub none_next : (old new : ValuesState) (o : Option TypedPage) → o ≡ None → new.rows ≡ old.rows → gave (Ok o) ++ rows_left new ≡ rows_left old
+pub none_next : (old new : ValuesState) (o : Option TypedPage) → o ≡ None → new.rows ≡ old.rows → gave (Ok o) ++ rows_to_give new ≡ rows_to_give old
     → take new.given new.rows ≡ take old.given old.rows
 none_next old new o e same left =
-    given_next old.given new.given old.rows new.rows [] same (subst (λ (o : Option TypedPage). gave (Ok o) ++ rows_left new ≡ rows_left old) e left)
+    given_next old.given new.given old.rows new.rows [] same (subst (λ (o : Option TypedPage). gave (Ok o) ++ rows_to_give new ≡ rows_to_give old) e left)
     ∙ append-nil (take old.given old.rows)
 
-pub none_left : (old new : ValuesState) (o : Option TypedPage) → o ≡ None → nat_lt old.given (length old.rows) ≡ false → gave (Ok o) ++ rows_left new ≡ rows_left old
-    → rows_left new ≡ []
+pub none_left : (old new : ValuesState) (o : Option TypedPage) → o ≡ None → nat_lt old.given (length old.rows) ≡ false → gave (Ok o) ++ rows_to_give new ≡ rows_to_give old
+    → rows_to_give new ≡ []
 none_left old new o e held left =
-    subst (λ (o : Option TypedPage). gave (Ok o) ++ rows_left new ≡ rows_left old) e left ∙ drop_all old.given old.rows (ltb-false old.given (length old.rows) held)
+    subst (λ (o : Option TypedPage). gave (Ok o) ++ rows_to_give new ≡ rows_to_give old) e left ∙ drop_all old.given old.rows (ltb-false old.given (length old.rows) held)

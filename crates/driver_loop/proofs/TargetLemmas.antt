@@ -4,8 +4,8 @@ use Rattle.std.specs.List.{range_with_len}
 use Rattle.std.proofs.lemmas.List.{length-map}
 use Rattle.std.proofs.lemmas.List.FromFn.{length-range_with_len}
 use Rattle.bag_laws.specs.Buckets.{key_bucket, of_bucket}
-use Rattle.blocked.specs.Counts.{rings_at}
-use Rattle.key_index.specs.Keys.{IndexedRows}
+use Rattle.blocked.specs.Rings.{rings_at}
+use Rattle.join_index.specs.Keys.{IndexedRows}
 use Rattle.driver_loop.specs.declared.target.Target.{Target}
 use Rattle.driver_loop.specs.declared.target.Target.TheVariants.{Result, Build, Put, Deal}
 use Rattle.driver_ends.specs.declared.put_target.PutKind.{PutKind}

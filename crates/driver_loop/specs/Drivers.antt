@@ -1,13 +1,13 @@
 -- A driver as it is seen, and what it keeps over its turns.
 use Rattle.std.specs.Prelude.{◌≡◌, ◌+◌, ◌<◌, ◌≤◌, ℕ, List, Bool, true, false, Option, Some, None, map, min}
 use Rattle.sql_values.specs.declared.fail.Fail.{Fail}
-use Rattle.blocked.specs.Counts.{most_count}
+use Rattle.count_laws.specs.Counts.{most_count}
 use Rattle.operator_core.specs.Rows.{Row, Coming}
 use Rattle.operator_core.specs.Stages.{Linked, ToldInTurn, AllCameFrom, Chain, AreMadeOf, GoesOn, last_finished}
 use Rattle.stage_moves.specs.Counts.{LinkedBy}
 use Rattle.stage_moves.specs.Moves.{SomeFails}
 use Rattle.driver_turns.specs.Turns.{StageFailed, WorkedTo}
-use Rattle.key_index.specs.Keys.{IndexedRows}
+use Rattle.join_index.specs.Keys.{IndexedRows}
 use Rattle.driver_ends.specs.Deals.{IsDealt}
 use Rattle.driver_ends.specs.Targets.{IsFinished}
 use Rattle.driver_loop.specs.declared.run_fault.RunFault.{RunFault}
@@ -89,7 +89,7 @@ IsBuiltAs is_finished (Deal deal) = (target_finished (Deal deal) ≡ is_finished
 abbrev pub IsBuilt : DriverState → Type 0
 IsBuilt d = IsBuiltAs d.is_finished d.target
 
--- one of its stages, as it was made, fails so on what the stages before it gave, whatever rows still come
+-- one of its stages, as it was made, fails with this kind on what the stages before it gave, whatever rows still come
 abbrev pub HasFailed : DriverState → ℕ → Fail → Type 0
 HasFailed d node kind = StageFailed ghosts d.stages (has_ended d.source) (rows_taken d.source) node kind
 

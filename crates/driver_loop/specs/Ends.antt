@@ -1,6 +1,6 @@
 -- What the sources of drivers gave, and their targets were given.
 use Rattle.std.specs.Prelude.{◌≡◌, ◌+◌, ℕ, List, [], Bool, true, false, not, Option, Some, None}
-use Rattle.relations.specs.Sorts.{IsBeginning}
+use Rattle.relation_laws.specs.Sorts.{IsBeginning}
 use Rattle.operator_core.specs.Rows.{Row}
 use Rattle.stage_moves.specs.Looks.{Looks, no_looks}
 use Rattle.split_source.specs.Scans.{given}

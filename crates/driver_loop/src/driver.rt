@@ -1,10 +1,12 @@
 //! A driver: one source, stages in order, one target.
-ghost use Rattle.std.specs.Prelude.{◌≡◌, ◌+◌, ◌<◌, ◌≤◌, ℕ, [], true, false, IfOk, Some, None, map, min};
+ghost use Rattle.std.specs.Prelude.{◌≡◌, ◌+◌, ◌<◌, ◌≤◌, ℕ, [], true, false, IfOk, Some, None, length, map, min};
+ghost use Rattle.std.specs.Vec.{vec_capacity};
 ghost use Rattle.sql_values.specs.declared.fail.Fail.{Fail as Kind};
-ghost use Rattle.blocked.specs.Counts.{most_count};
+ghost use Rattle.count_laws.specs.Counts.{most_count};
 ghost use Rattle.col_pages.specs.Pages.{most_rows};
 ghost use Rattle.futures.specs.Task.{Covers, Keeps};
 ghost use Rattle.operator_core.specs.Stages.{last_finished};
+ghost use Rattle.driver_loop.specs.Faults.{run_fault};
 ghost use Rattle.driver_loop.specs.Ends.{is_build, is_told, rows_taken, has_ended, source_made, target_made, IsBegun, IsDrained};
 ghost use Rattle.driver_turns.specs.Turns.{RangDues};
 ghost use Rattle.driver_loop.specs.Drivers.{IsDriver, IsOver, HasFailed, HasWorked, CanGoOn, IsBuilt, IsBuiltAs, IsWhole, driver_dues};
@@ -23,7 +25,7 @@ use blocked::{Bells, BlockedOn};
 use driver_turns::{Turned, Turning};
 use futures::Future;
 use futures::task::Context;
-use operator_core::{Operator, laws};
+use operator_core::{OpFault, Operator, laws};
 use run_ports::Courier;
 use sql_values::Memory;
 use std::alloc::Global;
@@ -85,18 +87,26 @@ impl<'w, C: Courier> Driver<'w, C> {
         }) }
     {
         laws::laws::<Stage<'w>>(PhantomData);
-        let lookups = Vec::with_capacity(alloc, stages.len() + 1)?;
-        Ok(Driver {
-            number,
-            source,
-            stages,
-            target,
-            work: 0,
-            is_finished: false,
-            fault: None,
-            lookups,
-            alloc,
-        })
+        match room_for_notes(alloc, &stages) {
+            Ok(lookups) => Ok(Driver {
+                number,
+                source,
+                stages,
+                target,
+                work: 0,
+                is_finished: false,
+                fault: None,
+                lookups,
+                alloc,
+            }),
+            // Each is let go by a call: to drop three such values in place takes long to prove.
+            Err(memory) => {
+                drop(source);
+                drop(stages);
+                drop(target);
+                Err(memory)
+            }
+        }
     }
 
     pub fn number(&self) -> u32
@@ -189,7 +199,7 @@ impl<'w, C: Courier> Driver<'w, C> {
             (driver_dues self.old) (driver_dues self.new) }
     {
         laws::laws::<Stage<'w>>(PhantomData);
-        let Turning { units, outcome } = take_turn(
+        let turning = take_turn(
             rt,
             &mut self.source,
             &mut self.stages,
@@ -197,19 +207,16 @@ impl<'w, C: Courier> Driver<'w, C> {
             quantum,
             bells,
         );
-        self.work = self.work.saturating_add(units);
+        self.work = work_after(self.work, &turning);
+        let outcome = turning.outcome;
         match outcome {
             Ok(Turned::Yield) => Turn::Yield,
-            Ok(Turned::Blocked(on)) => Turn::Blocked(hear(on, cx)),
+            Ok(Turned::Blocked(on)) => Turn::waiting(hear(on, cx)),
             Ok(Turned::Finished) => {
                 self.is_finished = true;
                 Turn::Finished
             }
-            Err(fault) => {
-                let fault = RunFault::of(fault);
-                self.fault = Some(fault);
-                Turn::Failed(fault)
-            }
+            Err(fault) => Turn::Failed(keep_fault(&mut self.fault, fault)),
         }
     }
 
@@ -271,4 +278,29 @@ impl<'w, C: Courier> Driver<'w, C> {
             lookups,
         }
     }
+}
+
+/// An empty list with room for a note of each stage and one of the target.
+fn room_for_notes(alloc: Global, stages: &[Stage<'_>]) -> Result<Vec<CellNote>, Memory>
+    ensures { IfOk result (λ notes. (notes.items ≡ []) × (length stages.now < vec_capacity notes)) }
+{
+    let notes = Vec::with_capacity(alloc, stages.len() + 1)?;
+    Ok(notes)
+}
+
+/// The work after a turn, also after one that failed.
+fn work_after(work: u64, turning: &Turning) -> u64
+    ensures { result ≡ min (work + turning.now.units) most_count }
+{
+    work.saturating_add(turning.units)
+}
+
+/// Keeps why a turn failed, and answers it.
+fn keep_fault(kept: &mut Option<RunFault>, fault: OpFault) -> RunFault
+    ensures fault { result ≡ run_fault fault }
+    ensures kept { kept.new ≡ Some result }
+{
+    let fault = RunFault::of(fault);
+    *kept = Some(fault);
+    fault
 }

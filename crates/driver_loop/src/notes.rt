@@ -24,7 +24,7 @@ fn put_note_of(notes: &mut Vec<CellNote>, stage: Stage<'_>)
     ensures room { vec_capacity notes.new ≡ vec_capacity notes.old }
 {
     match stage {
-        Stage::Probe(op, _) => {
+        Stage::Probe(op, _types) => {
             let bell = op.bell();
             put_note(
                 notes,
@@ -34,13 +34,13 @@ fn put_note_of(notes: &mut Vec<CellNote>, stage: Stage<'_>)
                 },
             );
         }
-        Stage::Filter(_)
+        other @ (Stage::Filter(_)
         | Stage::Limit(_, _)
         | Stage::Sort(_)
         | Stage::TopN(_)
         | Stage::Single(_)
         | Stage::Partial(_)
-        | Stage::Final(_) => {}
+        | Stage::Final(_)) => drop(other),
     }
 }
 

@@ -1,5 +1,5 @@
 ghost use Rattle.std.specs.Prelude.{◌≡◌, ◌++◌, [], true, false, IfOk, OnErr, MatchOption};
-ghost use Rattle.relations.specs.Sorts.{IsBeginning};
+ghost use Rattle.relation_laws.specs.Sorts.{IsBeginning};
 
 use col_pages::Page;
 use operator_core::Operator;

@@ -18,6 +18,15 @@ pub enum Turn {
     Failed(RunFault),
 }
 
+impl Turn {
+    /// That of one who waits, by the future that was polled.
+    pub(crate) fn waiting(on: BlockedOn) -> Turn
+        ensures { result ≡ Turn.Blocked on }
+    {
+        Turn::Blocked(on)
+    }
+}
+
 /// Polls the future of one who waits, which registers with the context, and hands it back.
 pub(crate) fn hear(mut on: BlockedOn, cx: &mut Context<'_>) -> BlockedOn
     requires { on.rung ≡ false }

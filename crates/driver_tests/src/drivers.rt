@@ -1,7 +1,5 @@
 //! Drivers over a table of one column of whole numbers, from 0 up.
-ghost use Rattle.std.specs.Prelude.{◌≡◌, ◌^◌, ◌<◌, ◌≤◌, [], ◌∷◌, false, true, None, map, All, IsTrue, IfOk, IfSome, length};
-ghost use Rattle.sql_values.specs.Cells.{cut};
-ghost use Rattle.sql_values.specs.ColumnRows.{fits_row};
+ghost use Rattle.std.specs.Prelude.{◌≡◌, ◌^◌, ◌<◌, ◌≤◌, [], ◌∷◌, false, None, map, IfOk, IfSome, length};
 ghost use Rattle.sql_values.specs.declared.types.SqlType.TheVariants.{Bigint};
 ghost use Rattle.split_source.specs.Scans.{AreReadable};
 ghost use Rattle.split_source.specs.Splits.{split_count};
@@ -10,55 +8,19 @@ ghost use Rattle.driver_loop.specs.Ends.{rows_taken, target_made};
 
 use crate::fixtures::Rung;
 use col_pages::Page;
-use driver_loop::{Driver, ResultTarget, Source, Stage, Target, Turn};
+use driver_loop::{Driver, Pieces, ResultTarget, RunFault, Source, Stage, Target, Turn};
 use futures::task::{Doorbell, Solo};
 use operator_core::{HeldPages, Operator};
 use row_ops::{FilterProject, LimitOp, are_typed};
 use run_ports::ReplayCourier;
 use split_source::{ClaimSeat, Claims, ScanSource, split_count};
 use sql_exprs::{CallName, Expr};
-use sql_values::{
-    Column, Items, Memory, Row, RowList, SqlType, Table, Text, Types, Value, ValueRef,
-};
+use sql_values::{Column, Memory, SqlType, Table, Types, Value, ValueRef};
 use std::alloc::Global;
 use std::sync::Wait;
 use std::test::Fail;
 use std::thread::Threads;
-
-fn row_of(alloc: Global, number: u32) -> Result<Row, Memory>
-    ensures { IfOk result (λ row. IsTrue (fits_row (Bigint ∷ []) (cut (0 ∷ []) row))) }
-{
-    let mut values = Vec::new(alloc);
-    values.push(Value::Bigint(i64::from(number)))?;
-    Ok(Row::of(values))
-}
-
-/// Rows of one number each, from 0 up.
-fn numbers(alloc: Global, count: u32) -> Result<RowList, Memory>
-    ensures len { IfOk result (λ rows. length rows ≡ count) }
-    ensures fits { IfOk result (λ rows. All (λ row. IsTrue (fits_row (Bigint ∷ []) (cut (0 ∷ []) row))) rows) }
-{
-    let mut rows = RowList::new(alloc);
-    for number in 0..count {
-        rows.push(row_of(alloc, number)?)?;
-    }
-    Ok(rows)
-}
-
-/// A table of one column.
-fn table_of(alloc: Global, count: u32) -> Result<Table, Memory>
-    ensures len { IfOk result (λ t. length t.rows ≡ count) }
-    ensures columns { IfOk result (λ t. length t.columns ≡ 1) }
-    ensures fits { IfOk result (λ t. AreReadable t.columns (0 ∷ []) t.rows) }
-{
-    let mut columns = Items::new(alloc);
-    columns.push(Column {
-        name: Text::copy_of(alloc, "n")?,
-        kind: SqlType::Bigint,
-    })?;
-    let rows = numbers(alloc, count)?;
-    Ok(Table { columns, rows })
-}
+use test_fixtures::number_table;
 
 fn number(n: i64) -> Expr {
     Expr::Literal {
@@ -230,16 +192,23 @@ pub(crate) fn run<R: Threads + Wait + Sync>(
     requires { (driver.is_finished ≡ false) × (driver.fault ≡ None) }
 {
     match turns(rt, alloc, &mut driver, quantum, solo) {
-        Some((yields, Turn::Finished)) => {
-            let mut pieces = driver.into_pieces();
-            told(alloc, &mut pieces.rows, yields)
-        }
-        Some((_, Turn::Failed(fault))) => {
-            let work = driver.work();
-            Ok(format!(in alloc; "{fault} after {work} rows")?)
-        }
-        _ => Ok(String::from_str(alloc, "no end")?),
+        Some((yields, Turn::Finished)) => gave(alloc, driver.into_pieces(), yields),
+        Some((_, Turn::Failed(fault))) => failed(alloc, fault, driver.work()),
+        _ => said(alloc, "no end"),
     }
+}
+
+/// What a finished driver gave, and how often it yielded.
+fn gave(alloc: Global, mut pieces: Pieces<'_>, yields: u32) -> Result<String, Memory> {
+    told(alloc, &mut pieces.rows, yields)
+}
+
+fn failed(alloc: Global, fault: RunFault, work: u64) -> Result<String, Memory> {
+    Ok(format!(in alloc; "{fault} after {work} rows")?)
+}
+
+fn said(alloc: Global, text: &str) -> Result<String, Memory> {
+    Ok(String::from_str(alloc, text)?)
 }
 
 fn write_page(text: &mut String, page: &Page) -> Result<(), Memory> {
@@ -288,7 +257,7 @@ fn driven<'w, R: Threads + Wait + Sync>(
     requires fits { AreReadable table.now.columns (0 ∷ []) table.now.rows }
 {
     let Some(stages) = stages(alloc, at)? else {
-        return Ok(String::from_str(alloc, "no type")?);
+        return said(alloc, "no type");
     };
     let driver = driver(alloc, table, sizes, seat, stages)?;
     run(rt, alloc, driver, quantum, solo)
@@ -305,11 +274,11 @@ fn filtered<R: Threads + Wait + Sync>(
 ) -> Result<String, Memory>
     requires sizes { (0 < sizes.0) × (0 < sizes.1) × (sizes.1 ≤ 8192) }
 {
-    let table = table_of(alloc, 10)?;
+    let table = number_table(alloc, 10)?;
     let mut claims = Claims::new(alloc, split_count(table.rows.len() as u32, sizes.0), 1)?;
     let mut seats = claims.seats()?;
     let Some(seat) = seats.pop() else {
-        return Ok(String::from_str(alloc, "no seat")?);
+        return said(alloc, "no seat");
     };
     driven(rt, alloc, at, &table, sizes, seat, quantum, solo)
 }

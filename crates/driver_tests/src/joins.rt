@@ -1,5 +1,5 @@
 //! A driver that builds the right side of a join, and one that probes it.
-ghost use Rattle.std.specs.Prelude.{◌≡◌, [], ◌∷◌, All, IfOk, IfSome, IsOk, IsTrue, map, false, None};
+ghost use Rattle.std.specs.Prelude.{◌≡◌, [], ◌∷◌, All, IfOk, IfSome, IsTrue, map, false, None};
 ghost use Rattle.sql_values.specs.ColumnRows.{fits_row};
 ghost use Rattle.sql_values.specs.declared.types.SqlType.TheVariants.{Bigint};
 ghost use Rattle.driver_loop.specs.Ends.{rows_taken, target_made};
@@ -12,39 +12,20 @@ use hash_join::{LookupBuilder, LookupCell, ProbeOp};
 use operator_core::Operator;
 use row_ops::ValuesOp;
 use run_ports::ReplayCourier;
-use sql_values::{JoinKind, Memory, Row, RowList, SqlType, Types, Value};
+use sql_values::{JoinKind, Memory, RowList, SqlType, Types};
 use std::alloc::Global;
 use std::sync::Wait;
 use std::test::Fail;
 use std::thread::Threads;
-
-/// A row of one number.
-fn row(alloc: Global, number: i64) -> Result<Row, Memory>
-    ensures { IfOk result (λ r. IsTrue (fits_row (Bigint ∷ []) r)) }
-{
-    let mut values = Vec::new(alloc);
-    values.push(Value::Bigint(number))?;
-    Ok(Row::of(values))
-}
-
-/// Puts a row of this number behind the others.
-#[tactic(auto, using(crate::proofs::RowLemmas::row_more))]
-fn push(alloc: Global, rows: &mut RowList, number: i64) -> Result<(), Memory>
-    requires { All (λ row. IsTrue (fits_row (Bigint ∷ []) row)) rows.old }
-    ensures { IsOk result → All (λ row. IsTrue (fits_row (Bigint ∷ []) row)) rows.new }
-{
-    let row = row(alloc, number)?;
-    rows.push(row)?;
-    Ok(())
-}
+use test_fixtures::push_number;
 
 /// Two rows of the plan.
 pub(crate) fn rows(alloc: Global, first: i64, second: i64) -> Result<RowList, Memory>
     ensures { IfOk result (λ rows. All (λ row. IsTrue (fits_row (Bigint ∷ []) row)) rows) }
 {
     let mut rows = RowList::new(alloc);
-    push(alloc, &mut rows, first)?;
-    push(alloc, &mut rows, second)?;
+    push_number(alloc, &mut rows, first)?;
+    push_number(alloc, &mut rows, second)?;
     Ok(rows)
 }
 

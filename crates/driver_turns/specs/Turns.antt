@@ -1,7 +1,7 @@
 -- What a turn of a driver leaves, and why it ends.
 use Rattle.std.specs.Prelude.{◌≡◌, ◌⊎◌, ◌+◌, ◌<◌, ◌≤◌, ℕ, List, length, get_or, take, Bool, true, false}
 use Rattle.sql_values.specs.declared.fail.Fail.{Fail}
-use Rattle.blocked.specs.Counts.{Rose, most_count}
+use Rattle.count_laws.specs.Counts.{Rose, most_count}
 use Rattle.blocked.specs.declared.blocked_on.BlockedOn.{BlockedOn}
 use Rattle.operator_core.specs.declared.operator.Operator.{Ghosts}
 use Rattle.operator_core.specs.Rows.{Row}
@@ -81,7 +81,7 @@ WhereBlocked holds Finished = Unit {0}
 abbrev pub RangDues : (old new : ℕ → ℕ → Type 0) (was is : ℕ → ℕ) → Type 0
 RangDues old new was is = (bell times : ℕ) → old bell (times + was bell) → new bell (times + is bell)
 
--- one of the stages, as it was made, fails so on what the ones before it gave of X, whatever rows still come to it
+-- one of the stages, as it was made, fails with this kind on what the ones before it gave of X, whatever rows still come to it
 pub record StageFailed {S : Type 0} (g : Ghosts S) (stages : List S) (ended : Bool) (X : List Row) (node : ℕ) (kind : Fail) : Type 0 where
   pub place : ℕ
   pub stage : S

@@ -1,6 +1,6 @@
 //! Looks at the source and the stages of a driver, for what they wait for.
 ghost use Rattle.std.specs.Prelude.{◌≡◌, ◌+◌, ◌<◌, ◌≤◌, ℕ, List, Bool, length, IsOk, IfOk, IfSome};
-ghost use Rattle.blocked.specs.Counts.{most_count};
+ghost use Rattle.count_laws.specs.Counts.{most_count};
 ghost use Rattle.operator_core.specs.Rows.{Row};
 ghost use Rattle.stage_moves.specs.Counts.{Counted};
 ghost use Rattle.driver_turns.specs.Turns.{WentOn, StageBlocked, IsHeldUp};

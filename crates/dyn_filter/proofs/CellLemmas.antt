@@ -4,7 +4,7 @@ use Rattle.std.specs.Prelude.{IfNone, IfSome}
 use Rattle.std.specs.Borrow.{Bor}
 use Rattle.std.proofs.lemmas.Bool.{cases_lt}
 use Rattle.std.proofs.lemmas.List.{get_or-append_right, get_or-set_other, get_or-set_same, get_or_append_left, get_or_default, get_or-map, length-append, length-map, length-set, map-append, map-set, set-get_or, take_all}
-use Rattle.set_once.specs.Counts.{next_count}
+use Rattle.count_laws.specs.Counts.{next_count}
 use Rattle.set_once.specs.Notes.{NoteState, new_note}
 use Rattle.set_once.specs.Answers.{IsSet, MayLearn}
 use Rattle.set_once.specs.declared.fault.SetFault.{SetFault}
@@ -13,7 +13,7 @@ use Rattle.sql_values.specs.declared.value.Value.{Value}
 use Rattle.dyn_filter.specs.declared.domain.Domain.{Domain}
 use Rattle.dyn_filter.specs.declared.domain.Domain.TheVariants.{Nothing}
 use Rattle.dyn_filter.specs.Domains.{IsDomainOf}
-use Rattle.dyn_filter.specs.Cells.{AreDomainsOf, AreFound, AreKnown, FoundAll, IsOf, IsUnion, NotesState, all_of, domain_at, note_at}
+use Rattle.dyn_filter.specs.Cells.{AreDomainsOf, AreFound, AreKnown, FoundAll, IsNoteOf, IsUnion, NotesState, all_of, domain_at, note_at}
 
 -- a part that was found
 learned : NoteState Domain → Domain → NoteState Domain
@@ -111,7 +111,7 @@ first_all domains i domain le first lists are =
     subst (λ all. IsDomainOf (all_of all) domain) (take_all i lists (rw (as_many lists domains are) le)) (first lists are)
 
 -- over references, as a loop has them
-pub as_long : (notes : NotesState) (parts : List ℕ) → IsOf parts notes → length notes.parts ≡ length parts
+pub as_long : (notes : NotesState) (parts : List ℕ) → IsNoteOf parts notes → length notes.parts ≡ length parts
 as_long notes parts e = sym (length-map notes.parts (λ (n : NoteState Domain). n.cell)) ∙ ap length e
 
 pub found_next : (old mid new : List (NoteState Domain)) (refs refs' : List (Bor Domain)) (r : Bor Domain) (part : ℕ) → AreFound old mid (map (λ (x : Bor Domain). x.now) refs)
@@ -122,7 +122,7 @@ found_next old mid new refs refs' r part found many more may is longer =
     subst (AreFound old new) (sym (ap (map (λ (x : Bor Domain). x.now)) longer ∙ map-append (λ (x : Bor Domain). x.now) refs (r ∷ [])))
     (one_found old mid new (map (λ (x : Bor Domain). x.now) refs) r.now found (rw own more) (rw own may) (rw own is))
 
-pub found_all : (old new : NotesState) (refs slice : List (Bor Domain)) (domain : Domain) (parts : List ℕ) (part : ℕ) → IsOf parts old
+pub found_all : (old new : NotesState) (refs slice : List (Bor Domain)) (domain : Domain) (parts : List ℕ) (part : ℕ) → IsNoteOf parts old
     → AreFound old.parts new.parts (map (λ (x : Bor Domain). x.now) refs) → length refs ≡ part → length parts ≤ part → slice ≡ refs
     → IsUnion (map (λ (x : Bor Domain). x.now) slice) domain → new.empties ≡ old.empties → new.looked_at ≡ old.looked_at → FoundAll old new domain
 found_all old new refs slice domain parts part of found many le same union empties looked_at =
@@ -159,7 +159,7 @@ pub look_cell : (old new : NoteState Domain) (seen : ℕ) (r : Option (Bor Domai
 look_cell old new seen (Some x) some none = ap (λ (n : NoteState Domain). n.cell) some.1
 look_cell old new seen None some none = ap (λ (n : NoteState Domain). n.cell) none.1
 
-pub cells_kept : (old : NotesState) (notes : List (NoteState Domain)) (parts : List ℕ) (part : ℕ) (own new : NoteState Domain) → IsOf parts old → notes ≡ old.parts
+pub cells_kept : (old : NotesState) (notes : List (NoteState Domain)) (parts : List ℕ) (part : ℕ) (own new : NoteState Domain) → IsNoteOf parts old → notes ≡ old.parts
     → part < length parts → own ≡ get_or notes part own → new.cell ≡ own.cell → map (λ n. n.cell) (set notes part new) ≡ parts
 cells_kept old notes parts part own new of is lt at same =
     let all : map (λ (n : NoteState Domain). n.cell) notes ≡ parts = ap (map (λ (n : NoteState Domain). n.cell)) is ∙ of in

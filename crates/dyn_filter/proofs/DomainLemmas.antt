@@ -12,8 +12,8 @@ use Rattle.sql_values.specs.declared.value.Value.{Value}
 use Rattle.sql_values.specs.declared.value.Value.TheVariants.{Null}
 use Rattle.sql_values.specs.Cells.{cell}
 use Rattle.sql_values.specs.Order.{value_cmp}
-use Rattle.relations.specs.Joins.{are_equal, are_partners}
-use Rattle.relations.specs.Equality.{is_present, same_value}
+use Rattle.relation_laws.specs.Joins.{are_equal, are_partners}
+use Rattle.relation_laws.specs.Equality.{is_present, same_value}
 use Rattle.dyn_filter.specs.declared.domain.Domain.{Domain}
 use Rattle.dyn_filter.specs.declared.domain.Domain.TheVariants.{Nothing, Values, Range}
 use Rattle.dyn_filter.specs.Lists.{AreAscending, IsValueList, is_in, most_values}

@@ -6,7 +6,7 @@ use Rattle.std.proofs.lemmas.List.{get_or-set_other, get_or-set_same, length-map
 use Rattle.col_pages.specs.Pages.{TypedPage}
 use Rattle.columns.specs.Present.{gather}
 use Rattle.sql_values.specs.declared.value.Value.{Value}
-use Rattle.relations.specs.Equality.{same_value}
+use Rattle.relation_laws.specs.Equality.{same_value}
 use Rattle.dyn_filter.specs.Lists.{is_in}
 use Rattle.dyn_filter.specs.Slots.{AreSlotsOf, slot_count, slot_of}
 use Rattle.dyn_filter.proofs.ListLemmas.{is_in-append, is_same}

@@ -16,8 +16,8 @@ use Rattle.sql_values.specs.declared.value.Value.{Value}
 use Rattle.sql_values.specs.declared.value.Value.TheVariants.{Null}
 use Rattle.sql_values.specs.Order.{value_cmp}
 use Rattle.sql_values.proofs.OrderLemmas.{value_cmp_total}
-use Rattle.relations.specs.Equality.{same_value}
-use Rattle.relations.proofs.EqualityLemmas.{same_value_decides}
+use Rattle.relation_laws.specs.Equality.{same_value}
+use Rattle.relation_laws.proofs.EqualityLemmas.{same_value_decides}
 use Rattle.dyn_filter.specs.Lists.{AreAscending, IsGapFor, is_in}
 use Rattle.dyn_filter.specs.Spans.{first_of, last_of}
 

@@ -1,7 +1,7 @@
 -- Cells of several parts, each of which comes to hold a domain.
 use Rattle.std.specs.Prelude.{◌≡◌, ℕ, ◌<◌, ◌≤◌, List, [], ◌∷◌, ◌++◌, length, map, slice_index_or, slice_set, None, Some, Result, Ok, Err}
 use Rattle.blocked.specs.declared.due.Due.{Due}
-use Rattle.set_once.specs.Counts.{next_count}
+use Rattle.count_laws.specs.Counts.{next_count}
 use Rattle.set_once.specs.Notes.{NoteState, new_note}
 use Rattle.set_once.specs.Answers.{MayLearn}
 use Rattle.sql_values.specs.declared.value.Value.{Value}
@@ -24,8 +24,8 @@ pub record NotesState : Type 0 where
   pub looked_at : ℕ
 
 -- the note is one of the cell that has these parts
-abbrev pub IsOf : List ℕ → NotesState → Type 0
-IsOf parts note = map (λ n. n.cell) note.parts ≡ parts
+abbrev pub IsNoteOf : List ℕ → NotesState → Type 0
+IsNoteOf parts note = map (λ n. n.cell) note.parts ≡ parts
 
 -- a note of that cell that knows nothing
 abbrev pub new_notes : List ℕ → NotesState

@@ -3,7 +3,7 @@ use Rattle.std.specs.Prelude.{◌≡◌, ◌<◌, List, length, Bool, true, fals
 use Rattle.std.specs.Ordering.{is_le}
 use Rattle.sql_values.specs.declared.value.Value.{Value}
 use Rattle.sql_values.specs.Order.{value_cmp}
-use Rattle.relations.specs.Equality.{is_present}
+use Rattle.relation_laws.specs.Equality.{is_present}
 use Rattle.dyn_filter.specs.declared.domain.Domain.{Domain}
 use Rattle.dyn_filter.specs.declared.domain.Domain.TheVariants.{Nothing, Values, Range}
 use Rattle.dyn_filter.specs.Lists.{AreAscending, IsValueList, is_in, most_values}

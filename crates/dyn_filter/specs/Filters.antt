@@ -1,12 +1,12 @@
 -- What `FilterOp` keeps, and what it may give.
 use Rattle.std.specs.Prelude.{◌≡◌, ◌⊎◌, ℕ, ◌+◌, ◌<◌, ◌≤◌, List, length, min, [], ◌∷◌, ◌++◌, Bool, true, false, Option, Some, None, map, filter, IfSome}
-use Rattle.blocked.specs.Counts.{most_count}
+use Rattle.count_laws.specs.Counts.{most_count}
 use Rattle.col_pages.specs.Pages.{TypedPage, most_rows}
 use Rattle.set_once.specs.Notes.{NoteState, new_note}
 use Rattle.operator_core.specs.Rows.{Row}
 use Rattle.dyn_filter.specs.declared.domain.Domain.{Domain}
 use Rattle.dyn_filter.specs.Rows.{row_passes}
-use Rattle.dyn_filter.specs.Cells.{AreKnown, IsOf, IsUnion, NotesState}
+use Rattle.dyn_filter.specs.Cells.{AreKnown, IsNoteOf, IsUnion, NotesState}
 
 -- some of the rows in their order: all that pass, and maybe others
 abbrev pub AreKept : (Row → Bool) → List Row → List Row → Type 0
@@ -30,9 +30,9 @@ abbrev pub WentBy : Bool → List Row → List Row → List Row → Type 0
 WentBy waits held T G = (G ++ held ≡ T) × (waits ≡ true → T ≡ [])
 
 -- a page was taken in: the rows of it that pass, or all where the domain is not known
-abbrev pub IsTaken : ℕ → Option Domain → List Row → List Row → List Row → Type 0
-IsTaken column (Some domain) held rows new = new ≡ held ++ filter (row_passes domain column) rows
-IsTaken column None held rows new = new ≡ held ++ rows
+abbrev pub TookPage : ℕ → Option Domain → List Row → List Row → List Row → Type 0
+TookPage column (Some domain) held rows new = new ≡ held ++ filter (row_passes domain column) rows
+TookPage column None held rows new = new ≡ held ++ rows
 
 -- its column, whether it waits, its cell's parts and bell, its note, the domain that it knows, the rows that it holds, how
 -- many rows it gave, and whether it was told to finish
@@ -56,7 +56,7 @@ abbrev pub KnowsAll : List (NoteState Domain) → Domain → Type 0
 KnowsAll notes domain = (domains : List Domain) × AreKnown notes domains × IsUnion domains domain
 
 pub record IsFiltering (parts : List ℕ) (note : NotesState) (known : Option Domain) : Type 0 where
-  pub of_cell : IsOf parts note
+  pub of_cell : IsNoteOf parts note
   pub knows : IfSome known (KnowsAll note.parts)
 
 -- a page of what is held was given, and its rows are counted

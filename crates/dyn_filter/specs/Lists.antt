@@ -4,7 +4,7 @@ use Rattle.std.specs.declared.cmp.Ordering.TheVariants.{Less}
 use Rattle.std.specs.List.{AllByRecursion, list_any}
 use Rattle.sql_values.specs.declared.value.Value.{Value}
 use Rattle.sql_values.specs.Order.{value_cmp}
-use Rattle.relations.specs.Equality.{same_value}
+use Rattle.relation_laws.specs.Equality.{same_value}
 
 -- the most values that are kept one by one
 abbrev pub most_values : ℕ

@@ -1,7 +1,7 @@
 ghost use Rattle.std.specs.Prelude.{◌≡◌, ◌<◌, ◌≤◌, Some, None, length, map, slice_set, IfOk, IfSome, IfNone, MatchOption};
-ghost use Rattle.blocked.specs.Counts.{next_count};
+ghost use Rattle.count_laws.specs.Counts.{next_count};
 ghost use Rattle.set_once.specs.Answers.{MayLearn};
-ghost use Rattle.dyn_filter.specs.Cells.{FoundAll, FoundNone, IsOf, IsPublished, IsUnion, new_notes, note_at};
+ghost use Rattle.dyn_filter.specs.Cells.{FoundAll, FoundNone, IsNoteOf, IsPublished, IsUnion, new_notes, note_at};
 
 use crate::domain::Domain;
 use crate::fault::FilterPublishFault;
@@ -58,7 +58,7 @@ impl FilterCell {
     /// A note of this cell that knows nothing.
     pub fn note(&self, alloc: Global) -> Result<FilterNote, Memory>
         ensures fresh { IfOk result (λ n. n ≡ new_notes self.now.parts) }
-        ensures cell { IfOk result (IsOf self.now.parts) }
+        ensures cell { IfOk result (IsNoteOf self.now.parts) }
     {
         let mut parts = Vec::with_capacity(alloc, self.parts.len())?;
         for part in &self.parts {
@@ -80,12 +80,12 @@ impl FilterCell {
         domain: Domain,
         seen: Seen,
     ) -> Result<Due, FilterPublishFault>
-        requires cell { IsOf self.now.parts note.old }
+        requires cell { IsNoteOf self.now.parts note.old }
         requires part { part < length self.now.parts }
         requires bell { seen.bell ≡ self.now.bell }
         ensures published { IsPublished self.now.bell (note_at note.old.parts part)
             (note_at note.new.parts part) domain seen.count result }
-        ensures cell { IsOf self.now.parts note.new }
+        ensures cell { IsNoteOf self.now.parts note.new }
         ensures others { note.new
             ≡ record note.old { parts = slice_set note.old.parts part (note_at note.new.parts part) } }
     {
@@ -105,9 +105,9 @@ impl FilterCell {
         note: &mut FilterNote,
         seen: Seen,
     ) -> Result<Option<Domain>, Memory>
-        requires cell { IsOf self.now.parts note.old }
+        requires cell { IsNoteOf self.now.parts note.old }
         requires bell { seen.bell ≡ self.now.bell }
-        ensures cell { IsOf self.now.parts note.new }
+        ensures cell { IsNoteOf self.now.parts note.new }
         ensures looks { note.old.empties ≤ note.new.empties }
         ensures found { IfOk result (λ found. MatchOption found
             (FoundNone note.old note.new seen.count) (FoundAll note.old note.new)) }
@@ -124,9 +124,9 @@ impl FilterCell {
 
     /// Looks for the domain of a part.
     fn look_at<'c>(&'c self, note: &mut FilterNote, part: usize, seen: Seen) -> Option<&'c Domain>
-        requires cell { IsOf self.now.parts note.old }
+        requires cell { IsNoteOf self.now.parts note.old }
         requires part { part < length self.now.parts }
-        ensures cell { IsOf self.now.parts note.new }
+        ensures cell { IsNoteOf self.now.parts note.new }
         ensures looks { note.old.empties ≤ note.new.empties }
         ensures some { IfSome result (λ r. MayLearn (note_at note.old.parts part) r.now
             × (note.new

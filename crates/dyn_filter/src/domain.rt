@@ -1,7 +1,7 @@
 ghost use Rattle.std.specs.Prelude.{◌≡◌, List, ◌∷◌, ◌++◌, [], true, IfOk};
 ghost use Rattle.sql_values.specs.declared.value.Value.{Value as Cell};
 ghost use Rattle.sql_values.specs.Cells.{lent_value};
-ghost use Rattle.relations.specs.Equality.{is_present};
+ghost use Rattle.relation_laws.specs.Equality.{is_present};
 ghost use Rattle.dyn_filter.specs.Domains.{AreEndsOf, AreMany, IsDomainOf, is_between, is_held, passes};
 
 use crate::spans::spanning;

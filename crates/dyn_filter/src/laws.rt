@@ -2,7 +2,7 @@
 ghost use Rattle.std.specs.Prelude.{◌≡◌, ◌<◌, List, [], true, false, filter, length, map, slice_index_or};
 ghost use Rattle.sql_values.specs.declared.value.Value.{Value as Cell};
 ghost use Rattle.sql_values.specs.Cells.{cell};
-ghost use Rattle.relations.specs.Joins.{are_partners};
+ghost use Rattle.relation_laws.specs.Joins.{are_partners};
 ghost use Rattle.dyn_filter.specs.Domains.{IsDomainOf, is_among, passes};
 
 use crate::domain::Domain;

@@ -1,7 +1,7 @@
 ghost use Rattle.std.specs.Prelude.{◌≡◌, ◌<◌, ◌≤◌, List, ◌∷◌, ◌++◌, [], true, length, IfOk, IfErr, IsTrue};
 ghost use Rattle.sql_values.specs.declared.value.Value.{Value as Cell};
 ghost use Rattle.sql_values.specs.Cells.{lent_value};
-ghost use Rattle.relations.specs.Equality.{is_present};
+ghost use Rattle.relation_laws.specs.Equality.{is_present};
 ghost use Rattle.dyn_filter.specs.Lists.{AreAscending, IsGapFor, is_in};
 ghost use Rattle.dyn_filter.specs.Domains.{IsDomainOf, is_among};
 ghost use Rattle.dyn_filter.specs.Spans.{first_of, last_of};

@@ -4,12 +4,13 @@ ghost use Rattle.std.specs.Prelude.{◌≡◌, [], All, false};
 use crate::counted::{CountingBells, page_of, write_page, write_rings, write_wait};
 use driver_ends::{EdgeEnd, FetchSource, PutKind, PutTarget};
 use output_buffer::{Gather, GatherPut};
-use run_ports::{Courier, Delivery, ReplayCourier};
+use run_ports::{Courier, ReplayCourier};
 use sql_values::Memory;
 use stage_moves::{PageSource, Ready};
 use std::alloc::Global;
 use std::sync::Wait;
 use std::thread::Threads;
+use test_fixtures::Script;
 
 /// The courier's turns; then calls. `a:1,2` and `b:3` put a page to the edge, `enda` and `endb` an End. `look` says what
 /// the source found, and `feed` does not. `run` takes what comes, for a while. A word may stand for several, as `feed*9`.
@@ -24,61 +25,6 @@ F0FF1F|a:1 look look look take a:2 look look look take|now missed now 1, now mis
 N|a:1 a:2 look look*3 a:3 enda endb run over|now missed missed missed 1, 2, 3, y";
 
 const REPLAYS: &str = "a:1 a:2 run b:3 a:4 endb a:5 enda run over|1, 2, 3, 4, 5, y";
-
-/// A courier that goes round a text: `F` delivers the fresh reply, `N` none, and a digit an earlier one.
-#[derive(Drop)]
-struct Script<'a> {
-    words: &'a [u8],
-    at: usize,
-    missed: u64,
-}
-
-impl<'a> Script<'a> {
-    fn of(words: &'a str) -> Script<'a> {
-        Script {
-            words: words.as_bytes(),
-            at: 0,
-            missed: 0,
-        }
-    }
-
-    fn next_word(&mut self) -> u8
-        ensures { self.new.missed ≡ self.old.missed }
-    {
-        let word = self.words.get(self.at).copied().unwrap_or(b'F');
-        let next = self.at.saturating_add(1);
-        self.at = if next < self.words.len() { next } else { 0 };
-        word
-    }
-}
-
-fn delivery_of(word: u8) -> Delivery {
-    match word {
-        b'F' => Delivery::Fresh,
-        b'N' => Delivery::Nothing,
-        _ => Delivery::Again(u32::from(word.saturating_sub(b'0'))),
-    }
-}
-
-impl<'a> Courier for Script<'a> {
-    ghost missed = { λ s. s.missed };
-
-    fn for_edge(&self, _number: u64, _edge: u32) -> Script<'a> {
-        Script {
-            words: self.words,
-            at: 0,
-            missed: 0,
-        }
-    }
-
-    fn turn(&mut self) -> Delivery {
-        let delivery = delivery_of(self.next_word());
-        if !matches!(delivery, Delivery::Fresh) {
-            self.missed = self.missed.saturating_add(1);
-        }
-        delivery
-    }
-}
 
 /// A source, and the targets that share its edge.
 #[derive(Drop)]

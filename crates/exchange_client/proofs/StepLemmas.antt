@@ -6,7 +6,7 @@ use Rattle.std.proofs.lemmas.Bool.{and_parts, and_from, eq-eqb, eqb-true, cond-t
 use Rattle.col_pages.specs.Pages.{TypedPage}
 use Rattle.page_window.specs.Windows.{end_of}
 use Rattle.page_window.specs.declared.reply.Reply.{Reply}
-use Rattle.run_ports.specs.Counts.{Rose}
+use Rattle.count_laws.specs.Counts.{Rose}
 use Rattle.run_ports.specs.declared.courier.Delivery.{Delivery}
 use Rattle.run_ports.specs.declared.courier.Delivery.TheVariants.{Fresh, Again, Nothing}
 use Rattle.exchange_client.specs.Clients.{ClientState, KeptValue, kept_as, accepted, pages_given, client_after, unless_stale}

@@ -1,7 +1,7 @@
 -- What a step of a fetch gives.
 use Rattle.std.specs.Prelude.{◌≡◌, ℕ, ◌+◌, ◌-◌, ◌%◌, ◌<◌, ◌≤◌, ◌++◌, ◌∷◌, List, [], length, drop, min, nat_le, true, Bool, Option, Some, None, slice_get, if◌then◌else◌}
 use Rattle.col_pages.specs.Pages.{TypedPage}
-use Rattle.run_ports.specs.Counts.{Rose}
+use Rattle.count_laws.specs.Counts.{Rose}
 use Rattle.run_ports.specs.Delivering.{IfMissed}
 use Rattle.run_ports.specs.declared.courier.Delivery.{Delivery}
 use Rattle.run_ports.specs.declared.courier.Delivery.TheVariants.{Fresh, Again, Nothing}

@@ -1,66 +1,10 @@
-ghost use Rattle.std.specs.Prelude.{◌≡◌};
-
 use crate::numbered::{number_behind, numbered};
 use exchange_client::Fetch;
 use page_window::PushMemory;
-use run_ports::{Courier, Delivery, ReplayCourier};
+use run_ports::{Courier, ReplayCourier};
 use sql_values::Memory;
 use std::alloc::Global;
-
-/// A courier that goes round a text: `F` delivers the fresh reply, `N` none, and a digit an earlier one.
-#[derive(Drop)]
-struct Script<'a> {
-    words: &'a [u8],
-    at: usize,
-    missed: u64,
-}
-
-impl<'a> Script<'a> {
-    fn of(words: &'a str) -> Script<'a> {
-        Script {
-            words: words.as_bytes(),
-            at: 0,
-            missed: 0,
-        }
-    }
-
-    fn next_word(&mut self) -> u8
-        ensures { self.new.missed ≡ self.old.missed }
-    {
-        let word = self.words.get(self.at).copied().unwrap_or(b'F');
-        let next = self.at.saturating_add(1);
-        self.at = if next < self.words.len() { next } else { 0 };
-        word
-    }
-}
-
-fn delivery_of(word: u8) -> Delivery {
-    match word {
-        b'F' => Delivery::Fresh,
-        b'N' => Delivery::Nothing,
-        _ => Delivery::Again(u32::from(word.saturating_sub(b'0'))),
-    }
-}
-
-impl<'a> Courier for Script<'a> {
-    ghost missed = { λ s. s.missed };
-
-    fn for_edge(&self, _number: u64, _edge: u32) -> Script<'a> {
-        Script {
-            words: self.words,
-            at: 0,
-            missed: 0,
-        }
-    }
-
-    fn turn(&mut self) -> Delivery {
-        let delivery = delivery_of(self.next_word());
-        if !matches!(delivery, Delivery::Fresh) {
-            self.missed = self.missed.saturating_add(1);
-        }
-        delivery
-    }
-}
+use test_fixtures::Script;
 
 /// Puts the page of this number where there is room, and says whether there was.
 fn put<C: Courier>(fetch: &mut Fetch<C>, alloc: Global, number: u32) -> Result<bool, Memory> {

@@ -7,7 +7,7 @@ use Rattle.feedback_queue.specs.declared.level.Entry.{Entry}
 use Rattle.feedback_queue.specs.Levels.{LevelState, level_of, weight, weight_if, weight_waited, work_of}
 use Rattle.feedback_queue.specs.Picks.{IsFirstOfLeast}
 use Rattle.feedback_queue.specs.Queue.{FeedbackState, IsFirstOfAll, IsTaken, LevelPlace, changed_at, gave_turn, most_turns, next_in, next_level, pick_of, after_offer, offered_to, turns_for, waiting_at, with_entry}
-use Rattle.feedback_queue.specs.Shares.{AllWait, AreLow, IsWithin, OneIsEmpty}
+use Rattle.feedback_queue.specs.Shares.{AllWait, AreLow, WeighsWithin, OneIsEmpty}
 use Rattle.feedback_queue.proofs.PickLemmas.{best_is_first}
 
 module _ {X : Type 0} where
@@ -146,7 +146,7 @@ module _ {W : Type 0} where
 
   -- a take where somebody waits in each level
   pub take_within : (old new : FeedbackState W) (taken : ℕ × W) (gap i j : ℕ) → AreLow old.levels → AllWait old.levels → IsTaken old taken new
-      → IsWithin gap i j old.levels → IsWithin (max gap 16) i j new.levels
+      → WeighsWithin gap i j old.levels → WeighsWithin (max gap 16) i j new.levels
   take_within old new taken gap i j low all t within k l at_i at_j =
       pair (changed_get f old.levels t.pick.level i k (subst (λ ls. slice_get ls i ≡ Some k) t.is_given at_i))
       (changed_get f old.levels t.pick.level j l (subst (λ ls. slice_get ls j ≡ Some l) t.is_given at_j))
@@ -181,7 +181,7 @@ module _ {W : Type 0} where
   offer_weighs best entry level (first ∷ entries) is few = inl refl
 
   pub offer_within : (old : FeedbackState W) (work : ℕ) (waiter : W) (gap i j : ℕ) → AreLow old.levels → OneIsEmpty old.levels
-      → IsWithin gap i j old.levels → IsWithin (max gap 16) i j (after_offer work waiter old).levels
+      → WeighsWithin gap i j old.levels → WeighsWithin (max gap 16) i j (after_offer work waiter old).levels
   offer_within old work waiter gap i j low one within k l at_i at_j =
       pair (changed_get f old.levels (level_of work) i k at_i) (changed_get f old.levels (level_of work) j l at_j)
     where

@@ -3,8 +3,8 @@ use Rattle.std.specs.Prelude.{◌≡◌, ℕ, ◌+◌, ◌≤◌, List, [], Some
 use Rattle.feedback_queue.specs.Levels.{LevelState, weight}
 
 -- the weight of the level at i is at most so much above that of the level at j
-abbrev pub IsWithin : {W : Type 0} → ℕ → ℕ → ℕ → List (LevelState W) → Type 0
-IsWithin {W} gap i j levels = (k l : LevelState W) → slice_get levels i ≡ Some k → slice_get levels j ≡ Some l → weight k ≤ weight l + gap
+abbrev pub WeighsWithin : {W : Type 0} → ℕ → ℕ → ℕ → List (LevelState W) → Type 0
+WeighsWithin {W} gap i j levels = (k l : LevelState W) → slice_get levels i ≡ Some k → slice_get levels j ≡ Some l → weight k ≤ weight l + gap
 
 -- somebody waits in each level
 abbrev pub AllWait : {W : Type 0} → List (LevelState W) → Type 0

@@ -4,7 +4,7 @@ ghost use Rattle.feedback_queue.specs.declared.best.Best.{Best};
 ghost use Rattle.feedback_queue.specs.Levels.{weight_waited, work_of};
 ghost use Rattle.feedback_queue.specs.Picks.{IsFirstOfLeast};
 ghost use Rattle.feedback_queue.specs.Queue.{FeedbackState, IsFirstOfAll, IsTaken, LevelPlace, next_in, next_level, after_offer, pick_of, waiting_at};
-ghost use Rattle.feedback_queue.specs.Shares.{AllWait, IsWithin, OneIsEmpty};
+ghost use Rattle.feedback_queue.specs.Shares.{AllWait, WeighsWithin, OneIsEmpty};
 
 use crate::queue::Feedback;
 
@@ -30,7 +30,7 @@ pub fn the_pick_is_the_first_of_the_least<W>(queue: &Feedback<W>)
 pub fn a_take_keeps_the_shares<W>(queue: &Feedback<W>)
     requires { AllWait queue.now.levels }
     ensures { (taken : ℕ × W) (new : FeedbackState W) → IsTaken queue.now taken new → (gap i j : ℕ)
-        → IsWithin gap i j queue.now.levels → IsWithin (max gap 16) i j new.levels }
+        → WeighsWithin gap i j queue.now.levels → WeighsWithin (max gap 16) i j new.levels }
 {
     queue.levels_are_numbered();
 }
@@ -40,7 +40,7 @@ pub fn a_take_keeps_the_shares<W>(queue: &Feedback<W>)
 pub fn an_offer_keeps_the_shares<W>(queue: &Feedback<W>, work: u64, waiter: &W)
     requires { OneIsEmpty queue.now.levels }
     ensures { (gap i j : ℕ)
-        → IsWithin gap i j queue.now.levels → IsWithin (max gap 16) i j (after_offer work waiter.now queue.now).levels }
+        → WeighsWithin gap i j queue.now.levels → WeighsWithin (max gap 16) i j (after_offer work waiter.now queue.now).levels }
 {
     queue.levels_are_numbered();
 }

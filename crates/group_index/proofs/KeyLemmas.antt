@@ -1,16 +1,19 @@
 -- Where a key stands, by the places of its hash.
-use Rattle.std.proofs.Common.{◌≡◌, ◌≢◌, ℕ, ◌+◌, ◌<◌, ◌≤◌, zero, suc, List, [], ◌∷◌, Bool, ◌&&◌, length, get_or, drop, refl, ap, sym, subst, ◌∙◌, arith, true, false, ◌⊎◌, inl, inr}
+use Rattle.std.proofs.Common.{◌≡◌, ◌≢◌, ℕ, ◌+◌, ◌<◌, ◌≤◌, zero, suc, List, [], ◌∷◌, ◌++◌, Bool, ◌&&◌, length, get_or, drop, refl, ap, sym, subst, ◌∙◌, arith, true, false, ◌⊎◌, inl, inr}
 use Rattle.std.specs.Prelude.{All, Option, Some, None, IfSome}
 use Rattle.std.proofs.lemmas.Bool.{cases_lt, eq-eqb, eqb-true}
-use Rattle.std.proofs.lemmas.List.{get_or-map, length-map}
-use Rattle.std.proofs.lemmas.List.Elements.{All-from_get_or}
+use Rattle.std.proofs.lemmas.List.{get_or-map, get_or_default, length-map}
+use Rattle.std.proofs.lemmas.List.Elements.{All-append, All-cons, All-from_get_or, All-get_or, All-nil}
+use Rattle.std.proofs.lemmas.Option.{unwrap_or-slice_get}
 use Rattle.sql_values.specs.declared.value.Value.{Value}
-use Rattle.relations.specs.Equality.{same_row, same_value}
-use Rattle.relations.proofs.EqualityLemmas.{same_row_decides}
+use Rattle.sql_values.specs.declared.value.Value.TheVariants as value
+use Rattle.sql_values.specs.Cells.{cell}
+use Rattle.relation_laws.specs.Equality.{same_row, same_value}
+use Rattle.relation_laws.proofs.EqualityLemmas.{same_row_decides}
 use Rattle.group_index.specs.Places.{last_below, place_before}
 use Rattle.group_index.specs.Chains.{has_hash, hash_at, last_of_hash}
 use Rattle.cell_hashes.specs.Hashes.{hash_of}
-use Rattle.group_index.specs.Keys.{AreHashed, has_key, key_at, place_of}
+use Rattle.group_index.specs.Keys.{AreHashed, AreWide, stands_at, key_at, place_of}
 use Rattle.group_index.proofs.PlaceLemmas.{last_below-at, last_below-over, last_below-passes, last_below-skip, last_below-within}
 
 -- one more than a place, 0 for none
@@ -28,7 +31,7 @@ IsPlaceOf hashes hash place = (place < length hashes) × (hash_at hashes place �
 
 -- keys further up are passed over
 pub record IsAt (keys : List (List Value)) (hashes : List ℕ) (key : List Value) (found : Option ℕ) : Type 0 where
-  pub same : last_below (has_key keys key) (length keys) ≡ last_below (has_key keys key) (number_of found)
+  pub same : last_below (stands_at keys key) (length keys) ≡ last_below (stands_at keys key) (number_of found)
   pub at : IfSome found (IsPlaceOf hashes (hash_of key))
 
 -- going on ends
@@ -44,11 +47,11 @@ module _ (keys : List (List Value)) (hashes : List ℕ) (key : List Value) (hash
   hash-key place lt = ap (λ hs. hash_at hs place) hashed ∙ get_or-map hash_of keys place [] 0 lt
 
   -- a key's hash stands where it stands
-  pub skipped : (n : ℕ) → n ≤ length keys → last_below (has_key keys key) n ≡ last_below (has_key keys key) (number_of (last_of_hash hashes (hash_of key) n))
+  pub skipped : (n : ℕ) → n ≤ length keys → last_below (stands_at keys key) n ≡ last_below (stands_at keys key) (number_of (last_of_hash hashes (hash_of key) n))
   skipped n le =
-      last_below-skip (has_hash hashes (hash_of key)) (has_key keys key) n
+      last_below-skip (has_hash hashes (hash_of key)) (stands_at keys key) n
       (λ k lt is. eq-eqb (hash_at hashes k) (hash_of key) (hash-key k (omega (arith, lt, le)) ∙ ap hash_of ((same_row_decides (key_at keys k) key).0 is)))
-      ∙ ap (last_below (has_key keys key)) (sym (number-before (last_below (has_hash hashes (hash_of key)) n)))
+      ∙ ap (last_below (stands_at keys key)) (sym (number-before (last_below (has_hash hashes (hash_of key)) n)))
 
   place-at : (n m : ℕ) → m ≡ last_below (has_hash hashes (hash_of key)) n → n ≤ length keys → IfSome (place_before m) (IsPlaceOf hashes (hash_of key))
   place-at n zero e le = tt
@@ -57,7 +60,7 @@ module _ (keys : List (List Value)) (hashes : List ℕ) (key : List Value) (hash
     eqb-true (hash_at hashes place) (hash_of key) (last_below-passes (has_hash hashes (hash_of key)) n place (sym e)),
   )
 
-  pub is-at : (n : ℕ) → n ≤ length keys → last_below (has_key keys key) (length keys) ≡ last_below (has_key keys key) n → IsAt keys hashes key (last_of_hash hashes (hash_of key) n)
+  pub is-at : (n : ℕ) → n ≤ length keys → last_below (stands_at keys key) (length keys) ≡ last_below (stands_at keys key) n → IsAt keys hashes key (last_of_hash hashes (hash_of key) n)
   is-at n le same = record {
     same = same ∙ skipped n le;
     at = place-at n (last_below (has_hash hashes (hash_of key)) n) refl le;
@@ -74,15 +77,27 @@ module _ (keys : List (List Value)) (hashes : List ℕ) (key : List Value) (hash
   goes-on place at other =
       let within : place ≤ length keys = omega (arith, at.at.0, long) in
       subst (λ (h : ℕ). IsAt keys hashes key (last_of_hash hashes h place)) (sym at.at.1)
-      (is-at place within (at.same ∙ last_below-over (has_key keys key) place other))
+      (is-at place within (at.same ∙ last_below-over (stands_at keys key) place other))
 
   pub stands-at : (place : ℕ) → IsAt keys hashes key (Some place) → same_row (key_at keys place) key ≡ true → Some place ≡ place_of keys key
-  stands-at place at is = sym (ap place_before (at.same ∙ last_below-at (has_key keys key) place is))
+  stands-at place at is = sym (ap place_before (at.same ∙ last_below-at (stands_at keys key) place is))
 
   pub stands-nowhere : IsAt keys hashes key None → None ≡ place_of keys key
   stands-nowhere at = sym (ap place_before at.same)
 
+-- the width of a key, and of one more
+pub key-wide : (width : ℕ) (held keys : List (List Value)) (place : ℕ) → held ≡ keys → place < length keys → AreWide width held → length (key_at keys place) ≡ width
+key-wide width held keys place same lt wide =
+    ap (λ ks. length (key_at ks place)) (sym same) ∙ All-get_or (λ key. length key ≡ width) held place [] (omega (arith, lt, ap length same)) wide
+
+pub wide-more : (width : ℕ) (keys : List (List Value)) (key : List Value) → AreWide width keys → length key ≡ width → AreWide width (keys ++ key ∷ [])
+wide-more width keys key wide is =
+    All-append (λ k. length k ≡ width) keys (key ∷ []) wide (All-cons (λ k. length k ≡ width) key [] is (All-nil (λ k. length k ≡ width)))
+
 -- keys compared cell by cell
+pub cell-there : (key : List Value) (i : ℕ) (v : Value) → v ≡ cell key i → i < length key → v ≡ get_or key i v
+cell-there key i v is lt = is ∙ unwrap_or-slice_get key i value.Null ∙ get_or_default key i value.Null v lt
+
 pub cells-same : (key other : List Value) (i : ℕ) (v w d : Value) → i < length key → length key ≡ length other → v ≡ get_or key i v → w ≡ get_or other i d → same_value v w ≡ true
     → same_row (drop i key) (drop i other) ≡ same_row (drop (i + 1) key) (drop (i + 1) other)
 cells-same [] other i v w d lt level e f is = absurd (omega (arith, lt))
@@ -131,11 +146,11 @@ number-of_some (suc n) place e = ap number_of (sym e)
 pub none-stands : (keys : List (List Value)) (key : List Value) → None ≡ place_of keys key → All (λ other. same_row other key ≡ false) keys
 none-stands keys key none =
     All-from_get_or (λ other. same_row other key ≡ false) keys []
-    (λ k lt. none-below (has_key keys key) (length keys) k (number-of_none (last_below (has_key keys key) (length keys)) none) lt)
+    (λ k lt. none-below (stands_at keys key) (length keys) k (number-of_none (last_below (stands_at keys key) (length keys)) none) lt)
 
 pub stands-there : (keys : List (List Value)) (key : List Value) (place : ℕ) → Some place ≡ place_of keys key → (place < length keys) × (key_at keys place ≡ key)
 stands-there keys key place is =
-    let e : last_below (has_key keys key) (length keys) ≡ suc place = number-of_some (last_below (has_key keys key) (length keys)) place is in (
-      omega (arith, e, last_below-within (has_key keys key) (length keys)),
-      (same_row_decides (key_at keys place) key).0 (last_below-passes (has_key keys key) (length keys) place e),
+    let e : last_below (stands_at keys key) (length keys) ≡ suc place = number-of_some (last_below (stands_at keys key) (length keys)) place is in (
+      omega (arith, e, last_below-within (stands_at keys key) (length keys)),
+      (same_row_decides (key_at keys place) key).0 (last_below-passes (stands_at keys key) (length keys) place e),
     )

@@ -1,7 +1,7 @@
 -- Keys, each at a place, and where one stands.
-use Rattle.std.specs.Prelude.{◌≡◌, ℕ, List, [], length, map, slice_index_or, Bool, Option}
+use Rattle.std.specs.Prelude.{◌≡◌, ℕ, List, [], length, map, slice_index_or, All, Bool, Option}
 use Rattle.sql_values.specs.declared.value.Value.{Value}
-use Rattle.relations.specs.Equality.{same_row}
+use Rattle.relation_laws.specs.Equality.{same_row}
 use Rattle.cell_hashes.specs.Hashes.{hash_of}
 use Rattle.group_index.specs.Places.{last_below, place_before}
 
@@ -9,13 +9,17 @@ abbrev pub key_at : List (List Value) → ℕ → List Value
 key_at keys place = slice_index_or keys place []
 
 -- the key stands at the place
-abbrev pub has_key : List (List Value) → List Value → ℕ → Bool
-has_key keys key place = same_row (key_at keys place) key
+abbrev pub stands_at : List (List Value) → List Value → ℕ → Bool
+stands_at keys key place = same_row (key_at keys place) key
 
 -- the last place of a key, if it has one
 abbrev pub place_of : List (List Value) → List Value → Option ℕ
-place_of keys key = place_before (last_below (has_key keys key) (length keys))
+place_of keys key = place_before (last_below (stands_at keys key) (length keys))
 
 -- each key has its hash at its place
 abbrev pub AreHashed : List (List Value) → List ℕ → Type 0
 AreHashed keys hashes = hashes ≡ map hash_of keys
+
+-- each key has so many cells
+abbrev pub AreWide : ℕ → List (List Value) → Type 0
+AreWide width keys = All (λ key. length key ≡ width) keys

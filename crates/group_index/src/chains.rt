@@ -1,7 +1,7 @@
 ghost use Rattle.std.specs.Prelude.{◌≡◌, ◌<◌, ◌≤◌, ◌++◌, ◌∷◌, [], ◌^◌, length, IfOk, OnOk, OnErr};
 ghost use Rattle.group_index.specs.Chains.{IsOnChain, hash_at, hashes_of, last_of_hash};
 
-use sql_values::Memory;
+use sql_values::{Memory, Row, RowList};
 use std::alloc::Global;
 use std::marker::Model;
 
@@ -77,15 +77,34 @@ impl HashChains {
         go_along(&self.links, link.hash, link.before)
     }
 
-    /// Appends a hash.
-    pub fn push(&mut self, hash: u64) -> Result<(), Memory>
+    /// Appends a hash, and beside it a key to the keys. Where memory is wanting both are as they were.
+    pub fn push(&mut self, hash: u64, keys: &mut RowList, key: Row) -> Result<(), Memory>
         ensures ok { OnOk result (self.new ≡ self.old ++ hash ∷ []) }
-        ensures err { OnErr result (self.new ≡ self.old) }
+        ensures key { OnOk result (keys.new ≡ keys.old ++ key ∷ []) }
+        ensures err { OnErr result ((self.new ≡ self.old) × (keys.new ≡ keys.old)) }
     {
         if self.links.len() == self.heads.len() {
             self.grow()?;
         }
-        self.link(hash)
+        self.link_beside(hash, keys, key)
+    }
+
+    /// Appends a hash to the chain of its bucket, and a key to the keys. There are fewer than 2^32 places.
+    fn link_beside(&mut self, hash: u64, keys: &mut RowList, key: Row) -> Result<(), Memory>
+        ensures ok { OnOk result (self.new ≡ self.old ++ hash ∷ []) }
+        ensures key { OnOk result (keys.new ≡ keys.old ++ key ∷ []) }
+        ensures err { OnErr result ((self.new ≡ self.old) × (keys.new ≡ keys.old)) }
+    {
+        if self.links.len() >= 4_294_967_295 {
+            return Err(Memory);
+        }
+        self.links.reserve(1)?;
+        keys.push(key)?;
+        let bucket = (hash & self.mask) as usize;
+        let before = self.heads[bucket];
+        self.links.push_reserved(Link { hash, before });
+        self.heads[bucket] = self.links.len() as u32;
+        Ok(())
     }
 
     /// Makes twice as many buckets.

@@ -1,12 +1,12 @@
-ghost use Rattle.std.specs.Prelude.{◌≡◌, ◌<◌, ◌++◌, ◌∷◌, [], length, IfOk, OnOk, OnErr};
-ghost use Rattle.sql_values.specs.Cells.{cut, lent_value};
-ghost use Rattle.relations.specs.Equality.{same_row, same_value};
-ghost use Rattle.group_index.specs.Keys.{key_at, place_of};
+ghost use Rattle.std.specs.Prelude.{◌≡◌, ◌<◌, ◌++◌, ◌∷◌, [], length, slice_index_or, IfOk, OnOk, OnErr};
+ghost use Rattle.sql_values.specs.Cells.{cell, cut, lent_value};
+ghost use Rattle.relation_laws.specs.Equality.{same_row, same_value};
+ghost use Rattle.group_index.specs.Keys.{AreWide, key_at, place_of};
 
 use crate::chains::HashChains;
 use crate::hashes::hash_cells;
 use sql_exprs::Cells;
-use sql_values::{Memory, Row, Value, ValueRef, compare_values};
+use sql_values::{Memory, Row, RowList, SqlType, ValueRef, compare_values};
 use std::alloc::Global;
 use std::marker::Model;
 
@@ -14,20 +14,22 @@ use std::marker::Model;
 #[derive(Debug, Drop)]
 pub struct GroupIndex {
     alloc: Global,
-    keys: Vec<Row>,
+    /// How many cells each key has.
+    width: u32,
+    keys: RowList,
     chains: HashChains,
 }
 
 impl Model for GroupIndex {
     ghost use Rattle.std.specs.Prelude.{List};
     ghost use Rattle.sql_values.specs.declared.value.Value.{Value as Cell};
-    ghost use Rattle.group_index.specs.Keys.{AreHashed};
+    ghost use Rattle.group_index.specs.Keys.{AreHashed, AreWide};
 
     ghost Value = { List (List Cell) };
 
-    ghost view = { λ g. g.keys.items };
+    ghost view = { λ g. g.keys };
 
-    ghost invariant = { λ g. AreHashed g.keys.items g.chains };
+    ghost invariant = { λ g. AreHashed g.keys g.chains × AreWide g.width g.keys };
 }
 
 impl GroupIndex {
@@ -37,9 +39,20 @@ impl GroupIndex {
     {
         Ok(GroupIndex {
             alloc,
-            keys: Vec::new(alloc),
+            width: 0,
+            keys: RowList::new(alloc),
             chains: HashChains::new(alloc)?,
         })
+    }
+
+    /// Keeps the keys in columns of these types, where there is none yet. Other keys are taken all the same.
+    pub fn keep_in(&mut self, types: &[SqlType]) -> Result<(), Memory>
+        ensures { self.new ≡ self.old }
+    {
+        if self.keys.is_empty() {
+            self.keys = RowList::of_types(self.alloc, types)?;
+        }
+        Ok(())
     }
 
     pub fn len(&self) -> usize
@@ -48,12 +61,12 @@ impl GroupIndex {
         self.keys.len()
     }
 
-    /// The key at a place.
-    pub fn key(&self, place: usize) -> &Row
+    /// The cell in a column of the key at a place: NULL past the key's last one.
+    pub fn cell(&self, place: usize, column: u32) -> ValueRef<'_>
         requires { place < length self.now }
-        ensures { result.now ≡ key_at self.now place }
+        ensures { lent_value result ≡ cell (key_at self.now place) column }
     {
-        &self.keys[place]
+        self.keys.cell(place, column)
     }
 
     /// The last place at which the key of a row stands.
@@ -62,7 +75,7 @@ impl GroupIndex {
     {
         let mut found = self.chains.last_of(hash_cells(columns, cells));
         while let Some(place) = found {
-            if is_key_of(self.keys[place].as_slice(), columns, cells) {
+            if self.is_key_of(place, columns, cells) {
                 return Some(place);
             }
             found = self.chains.before(place);
@@ -70,17 +83,57 @@ impl GroupIndex {
         None
     }
 
-    /// Appends the key of a row.
+    /// Whether the key at a place is that of a row.
+    fn is_key_of<C: Cells>(&self, place: usize, columns: &[u32], cells: &C) -> bool
+        requires { place < length self.now }
+        ensures { result ≡ same_row (key_at self.now place) (cut columns.now (C.values cells.now)) }
+    {
+        if self.width as usize != columns.len() {
+            return false;
+        }
+        for column in 0..self.width {
+            if !self.is_cell_of(place, column, columns, cells) {
+                return false;
+            }
+        }
+        true
+    }
+
+    /// Whether the cell in a column of the key at a place is that of a row.
+    fn is_cell_of<C: Cells>(&self, place: usize, column: u32, columns: &[u32], cells: &C) -> bool
+        requires place { place < length self.now }
+        requires column { column < length columns.now }
+        ensures { result ≡ same_value (cell (key_at self.now place) column)
+            (cell (C.values cells.now) (slice_index_or columns.now column 0)) }
+    {
+        let given = cells.cell(columns[column as usize]);
+        is_same(self.keys.cell(place, column), given)
+    }
+
+    /// Appends the key of a row. One that has not as many cells as the first is refused as `Memory`.
     pub fn push<C: Cells>(&mut self, columns: &[u32], cells: &C) -> Result<(), Memory>
         ensures ok { OnOk result (self.new ≡ self.old ++ cut columns.now (C.values cells.now) ∷ []) }
         ensures err { OnErr result (self.new ≡ self.old) }
     {
+        self.width = width_beside(&self.keys, self.width, columns)?;
         let key = key_of(self.alloc, columns, cells)?;
-        self.keys.reserve(1)?;
-        self.chains.push(hash_cells(columns, cells))?;
-        self.keys.push_reserved(key);
-        Ok(())
+        let hash = hash_cells(columns, cells);
+        self.chains.push(hash, &mut self.keys, key)
     }
+}
+
+/// The number of cells of a key in these columns, where all keys have as many.
+fn width_beside(keys: &RowList, width: u32, columns: &[u32]) -> Result<u32, Memory>
+    requires { AreWide width keys.now }
+    ensures { IfOk result (λ n. (n ≡ length columns.now) × AreWide n keys.now) }
+{
+    if keys.is_empty() && columns.len() <= 2_147_483_648 {
+        return Ok(columns.len() as u32);
+    }
+    if columns.len() == width as usize {
+        return Ok(width);
+    }
+    Err(Memory)
 }
 
 /// A copy of the key of a row.
@@ -92,21 +145,6 @@ fn key_of<C: Cells>(alloc: Global, columns: &[u32], cells: &C) -> Result<Row, Me
         values.push(cells.cell(*column).to_value(alloc)?)?;
     }
     Ok(Row::of(values))
-}
-
-/// Whether a key is that of a row.
-fn is_key_of<C: Cells>(key: &[Value], columns: &[u32], cells: &C) -> bool
-    ensures { result ≡ same_row key.now (cut columns.now (C.values cells.now)) }
-{
-    if key.len() != columns.len() {
-        return false;
-    }
-    for place in 0..columns.len() {
-        if !is_same(key[place].as_ref(), cells.cell(columns[place])) {
-            return false;
-        }
-    }
-    true
 }
 
 fn is_same(a: ValueRef<'_>, b: ValueRef<'_>) -> bool

@@ -5,7 +5,7 @@
 //! - `chains`: `HashChains`, places of one hash behind one another, from the last to the first
 //! - `hashes`: hashes of the cells of a row
 //!
-//! No row is made and no text is copied to find a key; a key that is new is copied once.
+//! No row is made and no text is copied to find a key; a key that is new is copied. Keys can stand in columns.
 #![tactic(auto)]
 
 mod chains;

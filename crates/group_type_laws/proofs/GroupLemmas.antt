@@ -23,11 +23,11 @@ use Rattle.sql_values.specs.Types.{row_has_types, rows_have_types}
 use Rattle.sql_functions.specs.CallTypes.{type_at}
 use Rattle.sql_functions.specs.Outcomes.{Outcome}
 use Rattle.plan_trees.specs.TreeTypes.{call_kind}
-use Rattle.relations.specs.Aggregates.{aggregates_of, all_values, call_result, first_by, most_rows, values_in, with_first, within_rows}
-use Rattle.relations.specs.Equality.{is_present, same_row}
-use Rattle.relations.specs.Groups.{group_of, grouped_row, groups_of, keys_of}
-use Rattle.relations.specs.Verdicts.{Verdict, kept}
-use Rattle.relations.proofs.WidthLemmas.{All-distinct, All-each, All-flat}
+use Rattle.relation_laws.specs.Aggregates.{aggregates_of, all_values, call_result, first_by, most_group_rows, values_in, with_first, within_rows}
+use Rattle.relation_laws.specs.Equality.{is_present, same_row}
+use Rattle.relation_laws.specs.Groups.{group_of, grouped_row, groups_of, keys_of}
+use Rattle.relation_laws.specs.Verdicts.{Verdict, kept}
+use Rattle.relation_laws.proofs.WidthLemmas.{All-distinct, All-each, All-flat}
 use Rattle.accumulators.specs.Columns.{column_of}
 use Rattle.accumulators.specs.Limits.{are_allowed, can_add}
 use Rattle.group_type_laws.proofs.TypeLemmas.{AreOf, IsOf, append-are_of, cell-is_of, cut-are_of, next-are_of, null-is_of}
@@ -72,11 +72,11 @@ first-is_of kind order [] h = null-is_of kind
 first-is_of kind order (v ∷ vs) h =
     either-is_of kind (is_le (cell_cmp order v (first_by order vs))) v (first_by order vs) (All-head (IsOf kind) v vs h) (first-is_of kind order vs (All-tail (IsOf kind) v vs h))
 
-pub count-is_of : (n : ℕ) → n ≤ most_rows → IsOf type.Bigint (Bigint (pos n))
+pub count-is_of : (n : ℕ) → n ≤ most_group_rows → IsOf type.Bigint (Bigint (pos n))
 count-is_of n few = lt-ltb n (2 ^ 63) (omega (arith, few))
 
 -- the results of the calls over a group that has not too many rows
-call-is_of : (types : List SqlType) (call : Call) (rows : List (List Value)) → IsTrue (can_add (type_at types (column_of call)) call) → RowsAreOf types rows → length rows ≤ most_rows
+call-is_of : (types : List SqlType) (call : Call) (rows : List (List Value)) → IsTrue (can_add (type_at types (column_of call)) call) → RowsAreOf types rows → length rows ≤ most_group_rows
     → IfOk (call_result types rows call) (IsOf (call_kind types call))
 call-is_of types CountAll rows can h few = count-is_of (length rows) few
 call-is_of types (Count column) rows can h few = count-is_of (length (values_in column rows)) (omega (arith, few, values-few column rows))
@@ -86,8 +86,8 @@ call-is_of types (Min column) rows can h few = first-is_of (type_at types column
 call-is_of types (Max column) rows can h few = first-is_of (type_at types column) Descending (values_in column rows) (values-are_of types column rows h)
 call-is_of types (Avg column) rows can h few = average-is_of (type_at types column) (values_in column rows) can (values-are_of types column rows h) (values-present column rows)
 
-within-is_of : (kind : SqlType) (rows : ℕ) (o : Outcome) (b : Bool) → nat_le rows most_rows ≡ b → (rows ≤ most_rows → IfOk o (IsOf kind)) → IfOk {T = Value} {E = Fail} (if b then o else Err OutOfRange) (IsOf kind)
-within-is_of kind rows o true e each = each (leb-true rows most_rows e)
+within-is_of : (kind : SqlType) (rows : ℕ) (o : Outcome) (b : Bool) → nat_le rows most_group_rows ≡ b → (rows ≤ most_group_rows → IfOk o (IsOf kind)) → IfOk {T = Value} {E = Fail} (if b then o else Err OutOfRange) (IsOf kind)
+within-is_of kind rows o true e each = each (leb-true rows most_group_rows e)
 within-is_of kind rows o false e each = tt
 
 with-are_of : (kind : SqlType) (kinds : List SqlType) (v : Value) (rest : Result (List Value) Fail) → IsOf kind v → IfOk rest (AreOf kinds) → IfOk (with_first v rest) (AreOf (kind ∷ kinds))
@@ -106,7 +106,7 @@ results-are_of types (call ∷ calls) rows can h =
     let parts = and_parts (can_add (type_at types (column_of call)) call) (are_allowed types calls) can in
     outcomes-are_of (call_kind types call) (map (call_kind types) calls) (within_rows (length rows) (call_result types rows call))
     (map (λ c. within_rows (length rows) (call_result types rows c)) calls)
-    (within-is_of (call_kind types call) (length rows) (call_result types rows call) (nat_le (length rows) most_rows) refl (call-is_of types call rows parts.0 h))
+    (within-is_of (call_kind types call) (length rows) (call_result types rows call) (nat_le (length rows) most_group_rows) refl (call-is_of types call rows parts.0 h))
     (results-are_of types calls rows parts.1 h)
 
 -- the rows of the groups

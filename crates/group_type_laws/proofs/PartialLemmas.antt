@@ -13,10 +13,10 @@ use Rattle.sql_values.specs.declared.relational.Call.{Call}
 use Rattle.sql_values.specs.declared.relational.Call.TheVariants.{CountAll, Count, Sum, Min, Max, Avg}
 use Rattle.sql_values.specs.Types.{row_has_types, rows_have_types}
 use Rattle.sql_functions.specs.CallTypes.{is_decimal, type_at}
-use Rattle.relations.specs.Aggregates.{count_of, first_by, most_rows, values_in}
-use Rattle.relations.specs.Groups.{group_of, keys_of}
-use Rattle.relations.specs.Partials.{call_columns, call_width, overfull, partial_of, partial_sum}
-use Rattle.relations.proofs.WidthLemmas.{All-each}
+use Rattle.relation_laws.specs.Aggregates.{count_of, first_by, most_group_rows, values_in}
+use Rattle.relation_laws.specs.Groups.{group_of, keys_of}
+use Rattle.relation_laws.specs.Partials.{call_columns, call_width, overfull, partial_of, partial_sum}
+use Rattle.relation_laws.proofs.WidthLemmas.{All-each}
 use Rattle.bag_laws.specs.Pieces.{partials_of}
 use Rattle.accumulators.specs.Columns.{column_of}
 use Rattle.accumulators.specs.Limits.{are_allowed, can_add, is_short}
@@ -51,11 +51,11 @@ columns-width types (call ∷ calls) =
 one-is_of : (kind : SqlType) (v : Value) → IsOf kind v → AreOf (kind ∷ []) (v ∷ [])
 one-is_of kind v h = next-are_of kind [] v [] h refl
 
-sum-column : (kind : SqlType) (vs : List Value) → IsTrue (is_short kind) → length vs ≤ most_rows → AllOf kind vs → AllPresent vs → IsOf (sum_layout kind) (partial_sum vs)
+sum-column : (kind : SqlType) (vs : List Value) → IsTrue (is_short kind) → length vs ≤ most_group_rows → AllOf kind vs → AllPresent vs → IsOf (sum_layout kind) (partial_sum vs)
 sum-column kind [] short few h present = null-is_of (sum_layout kind)
 sum-column kind (v ∷ vs) short few h present = total-is_of kind v vs short few h present
 
-module _ (types : List SqlType) (rows : List (List Value)) (h : RowsAreOf types rows) (few : length rows ≤ most_rows) where
+module _ (types : List SqlType) (rows : List (List Value)) (h : RowsAreOf types rows) (few : length rows ≤ most_group_rows) where
   sum-of : (column : ℕ) → IsTrue (is_short (type_at types column)) → IsOf (sum_layout (type_at types column)) (partial_sum (values_in column rows))
   sum-of column short =
       let vs = values_in column rows in
@@ -95,11 +95,11 @@ overfull-is_of types calls =
     (subst (λ (n : ℕ). AreOf (columns_types types calls) (replicate n Null)) (columns-width types calls) (nulls-are_of (columns_types types calls)))
 
 partial-is_of : (types : List SqlType) (calls : List Call) (rows : List (List Value)) → IsTrue (are_allowed types calls) → RowsAreOf types rows → AreOf (part_types types calls) (partial_of calls rows)
-partial-is_of types calls rows can h = by_rows (nat_le (length rows) most_rows) refl
+partial-is_of types calls rows can h = by_rows (nat_le (length rows) most_group_rows) refl
   where
-    by_rows : (b : Bool) → nat_le (length rows) most_rows ≡ b → AreOf (part_types types calls) (if b then Decimal (pos (length rows)) ∷ flat_map (call_columns rows) calls else overfull calls)
+    by_rows : (b : Bool) → nat_le (length rows) most_group_rows ≡ b → AreOf (part_types types calls) (if b then Decimal (pos (length rows)) ∷ flat_map (call_columns rows) calls else overfull calls)
     by_rows true e =
-        let few : length rows ≤ most_rows = leb-true (length rows) most_rows e in
+        let few : length rows ≤ most_group_rows = leb-true (length rows) most_group_rows e in
         next-are_of (type.Decimal 38 0) (columns_types types calls) (Decimal (pos (length rows))) (flat_map (call_columns rows) calls) (rows-is_of (length rows) (omega (arith, few)))
         (all_columns-are_of types rows h few calls can)
     by_rows false e = overfull-is_of types calls

@@ -14,8 +14,8 @@ use Rattle.sql_values.specs.declared.fail.Fail.TheVariants.{OutOfRange}
 use Rattle.sql_values.specs.Order.{number_in}
 use Rattle.sql_values.specs.Texts.{scale_of}
 use Rattle.sql_functions.specs.CallTypes.{is_decimal}
-use Rattle.relations.specs.Aggregates.{average, average_of, most_rows, sum_of, total_of}
-use Rattle.relations.specs.Equality.{is_present}
+use Rattle.relation_laws.specs.Aggregates.{average, average_of, most_group_rows, sum_of, total_of}
+use Rattle.relation_laws.specs.Equality.{is_present}
 use Rattle.plan_trees.specs.TreeTypes.{sum_kind}
 use Rattle.accumulators.specs.Limits.{greatest, is_short}
 use Rattle.accumulators.proofs.LimitLemmas.{greatest_small, room}
@@ -51,11 +51,11 @@ total_within kind (v ∷ vs) h =
     omega arith
 
 -- sums of so many short numbers have at most 38 digits
-pub total_small : (kind : SqlType) (vs : List Value) → IsTrue (is_short kind) → length vs ≤ most_rows → AllOf kind vs → nat_abs (total_of vs) < 10 ^ 38
+pub total_small : (kind : SqlType) (vs : List Value) → IsTrue (is_short kind) → length vs ≤ most_group_rows → AllOf kind vs → nat_abs (total_of vs) < 10 ^ 38
 total_small kind vs short few h =
     let g = greatest kind in
     let none : 0 ≤ 0 * g = omega arith in
-    let all : length vs + 0 ≤ most_rows = omega (arith, few) in
+    let all : length vs + 0 ≤ most_group_rows = omega (arith, few) in
     let small : nat_abs (total_of vs) + 0 < 2 ^ 126 = room (length vs) 0 g (nat_abs (total_of vs)) 0 (total_within kind vs h) none all (greatest_small kind short) in
     let top : 2 ^ 126 < 10 ^ 38 = lit< tt in
     omega arith
@@ -73,7 +73,7 @@ present_scale type.Bigint v present h = omega arith
 present_scale type.Varchar v present h = omega arith
 present_scale type.Date v present h = omega arith
 
-pub total-is_of : (kind : SqlType) (v : Value) (vs : List Value) → IsTrue (is_short kind) → length (v ∷ vs) ≤ most_rows → AllOf kind (v ∷ vs) → AllPresent (v ∷ vs)
+pub total-is_of : (kind : SqlType) (v : Value) (vs : List Value) → IsTrue (is_short kind) → length (v ∷ vs) ≤ most_group_rows → AllOf kind (v ∷ vs) → AllPresent (v ∷ vs)
     → IsOf (type.Decimal 38 (scale_of kind)) (Decimal (total_of (v ∷ vs)))
 total-is_of kind v vs short few h present =
     let scale = present_scale kind v (All-head (λ w. is_present w ≡ true) v vs present) (All-head (IsOf kind) v vs h) in
@@ -83,7 +83,7 @@ within_bits : (total : ℤ) (b : Bool) → has_64_bits total ≡ b → IfOk {T =
 within_bits total true e = e
 within_bits total false e = tt
 
-pub sum-is_of : (kind : SqlType) (vs : List Value) → IsTrue (is_short kind) → length vs ≤ most_rows → AllOf kind vs → AllPresent vs → IfOk (sum_of kind vs) (IsOf (sum_kind kind))
+pub sum-is_of : (kind : SqlType) (vs : List Value) → IsTrue (is_short kind) → length vs ≤ most_group_rows → AllOf kind vs → AllPresent vs → IfOk (sum_of kind vs) (IsOf (sum_kind kind))
 sum-is_of kind [] short few h present = null-is_of (sum_kind kind)
 sum-is_of (type.Decimal p s) (v ∷ vs) short few h present = total-is_of (type.Decimal p s) v vs short few h present
 sum-is_of type.Bigint (v ∷ vs) short few h present = within_bits (total_of (v ∷ vs)) (has_64_bits (total_of (v ∷ vs))) refl

@@ -13,11 +13,11 @@ use Rattle.sql_values.specs.Cells.{cell}
 use Rattle.sql_values.specs.Order.{number_in}
 use Rattle.sql_values.specs.Types.{row_has_types, rows_have_types}
 use Rattle.sql_functions.specs.CallTypes.{type_at}
-use Rattle.relations.specs.Aggregates.{count_of, most_rows, total_of, values_in}
-use Rattle.relations.specs.Groups.{group_of, keys_of}
-use Rattle.relations.specs.Partials.{call_columns, call_width, partial_of, partial_sum}
-use Rattle.relations.proofs.PartialLemmas.{beyond_most, within_most}
-use Rattle.relations.proofs.WidthLemmas.{All-each}
+use Rattle.relation_laws.specs.Aggregates.{count_of, most_group_rows, total_of, values_in}
+use Rattle.relation_laws.specs.Groups.{group_of, keys_of}
+use Rattle.relation_laws.specs.Partials.{call_columns, call_width, partial_of, partial_sum}
+use Rattle.relation_laws.proofs.PartialLemmas.{beyond_most, within_most}
+use Rattle.relation_laws.proofs.WidthLemmas.{All-each}
 use Rattle.bag_laws.specs.Pieces.{partials_of}
 use Rattle.accumulators.specs.Columns.{column_of, count_in, kind_in, summand}
 use Rattle.accumulators.specs.Limits.{are_all_columns, are_columns, are_null, counts_sum, greatest, is_count, is_partial, is_sum, takes_cell, takes_row}
@@ -95,18 +95,18 @@ module _ (types : List SqlType) (rows : List (List Value)) (h : RowsAreOf types 
       (columns-taken call more) (ap (are_all_columns (length rows) calls kinds) (behind call more) ∙ all_columns-taken calls)
 
   partial-taken : (calls : List Call) → IsTrue (is_partial calls (map (kind_in types) calls) (partial_of calls rows))
-  partial-taken calls = by_rows (cases_lt most_rows (length rows))
+  partial-taken calls = by_rows (cases_lt most_group_rows (length rows))
     where
-      by_rows : (most_rows < length rows) ⊎ (length rows ≤ most_rows) → IsTrue (is_partial calls (map (kind_in types) calls) (partial_of calls rows))
+      by_rows : (most_group_rows < length rows) ⊎ (length rows ≤ most_group_rows) → IsTrue (is_partial calls (map (kind_in types) calls) (partial_of calls rows))
       by_rows (inl many) = ap (is_partial calls (map (kind_in types) calls)) (beyond_most calls (length rows) (flat_map (call_columns rows) calls) many) ∙ overfull-null calls
       by_rows (inr few) =
           let n = length rows in
           let kinds = map (kind_in types) calls in
           let columns = flat_map (call_columns rows) calls in
           ap (is_partial calls kinds) (within_most calls n columns few)
-          ∙ and_from (int_le (pos 0) (pos n) && nat_le n (2 ^ 63)) (if nat_le n most_rows then are_all_columns n calls kinds columns else are_null calls columns)
+          ∙ and_from (int_le (pos 0) (pos n) && nat_le n (2 ^ 63)) (if nat_le n most_group_rows then are_all_columns n calls kinds columns else are_null calls columns)
           (and_from (int_le (pos 0) (pos n)) (nat_le n (2 ^ 63)) (le-leb 0 n (omega arith)) (le-leb n (2 ^ 63) (omega (arith, few))))
-          (ap (λ b. if b then are_all_columns n calls kinds columns else are_null calls columns) (le-leb n most_rows few) ∙ all_columns-taken calls)
+          (ap (λ b. if b then are_all_columns n calls kinds columns else are_null calls columns) (le-leb n most_group_rows few) ∙ all_columns-taken calls)
 
 pub typed_partials_are_taken : (types : List SqlType) (calls : List Call) (rows : List (List Value)) → IsTrue (rows_have_types types rows)
     → IsTrue (is_partial calls (map (kind_in types) calls) (partial_of calls rows))

@@ -2,7 +2,7 @@
 ghost use Rattle.std.specs.Prelude.{◌≡◌, ◌<◌, length, IfOk};
 
 use col_pages::{MOST_ROWS, Page};
-use key_index::{Key, KeyIndex};
+use join_index::{Key, KeyIndex};
 use sql_values::{ColumnRows, Memory, ParseFault, SqlType, ValueRef, parse_value};
 use std::alloc::Global;
 

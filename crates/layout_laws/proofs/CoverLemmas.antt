@@ -5,8 +5,8 @@ use Rattle.plan_docs.specs.declared.node.NodeStep.TheVariants.{Single, Partial}
 use Rattle.plan_docs.specs.Nodes.{NodeForm}
 use Rattle.plan_docs.specs.Nodes as node
 use Rattle.plan_docs.specs.Plans.{FragmentForm}
-use Rattle.plan_runs.specs.RunPlans.{RunPlan}
-use Rattle.plan_runs.specs.RunPlans as plan
+use Rattle.plan_run_laws.specs.RunPlans.{RunPlan}
+use Rattle.plan_run_laws.specs.RunPlans as plan
 use Rattle.plan_spreads.specs.Halves.{aggregates, top_ns, limits, half}
 use Rattle.plan_spreads.specs.Runs.{Part, node_run, one_over}
 use Rattle.plan_layout.specs.declared.pipe.Parallelism.{Parallelism}

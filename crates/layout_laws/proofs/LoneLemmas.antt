@@ -11,7 +11,7 @@ use Rattle.plan_spreads.specs.Nodes.{over}
 use Rattle.plan_spreads.specs.Plans.{is_single}
 use Rattle.plan_spreads.specs.Runs.{tasks_of}
 use Rattle.plan_layout.specs.Pipes.{SourceForm, StepForm, TargetForm}
-use Rattle.plan_layout.specs.Steps.{builds, drivers_of, groups_rows, is_shared}
+use Rattle.plan_layout.specs.Steps.{builds, drivers_in_task, groups_rows, is_shared}
 
 -- why a pipe of w drivers has one
 pub record Lone (placement : Placement) (w : ℕ) (source : SourceForm) (steps : List StepForm) : Type 0 where
@@ -44,7 +44,7 @@ by_tasks true false false d h = h
 by_tasks false groups built d h = refl
 
 pub lone_of : (placement : Placement) (d w : ℕ) (source : SourceForm) (steps : List StepForm) (target : TargetForm)
-    → w ≡ drivers_of (tasks_of d placement) source steps target → Lone placement w source steps
+    → w ≡ drivers_in_task (tasks_of d placement) source steps target → Lone placement w source steps
 lone_of placement d w source steps target is =
     let shared = is_shared source in
     let groups = list_any groups_rows steps in
@@ -57,7 +57,7 @@ lone_of placement d w source steps target is =
     }
 
 pub builder_alone : (placement : Placement) (d w : ℕ) (source : SourceForm) (steps : List StepForm) (target : TargetForm)
-    → w ≡ drivers_of (tasks_of d placement) source steps target → builds target ≡ true → w ≡ 1
+    → w ≡ drivers_in_task (tasks_of d placement) source steps target → builds target ≡ true → w ≡ 1
 builder_alone placement d w source steps target is h = is ∙ by_target (is_shared source) (list_any groups_rows steps) (builds target) (tasks_of d placement) h
 
 either_first : (a b : Bool) → a ≡ true → a || b ≡ true

@@ -8,7 +8,7 @@ use Rattle.plan_docs.specs.Nodes.{NodeForm}
 use Rattle.plan_docs.specs.Nodes as node
 use Rattle.plan_docs.specs.Plans.{FragmentForm, PlanForm}
 use Rattle.plan_types.specs.Plans.{root_path}
-use Rattle.plan_runs.specs.RunPlans.{RunPlan}
+use Rattle.plan_run_laws.specs.RunPlans.{RunPlan}
 use Rattle.plan_spreads.specs.declared.spread.RowSpread.{RowSpread}
 use Rattle.plan_spreads.specs.declared.spread.RowSpread.TheVariants.{Whole}
 use Rattle.plan_spreads.specs.Halves.{AllMeet, HalvesMeet, Meets, half}

@@ -8,8 +8,8 @@ use Rattle.plan_layout.specs.Edges.{reader_of}
 use Rattle.plan_layout.specs.Layouts.{layout_of}
 use Rattle.plan_layout.specs.Pipes.{result}
 use Rattle.plan_layout.proofs.LayoutLemmas.{plan_laid}
-use Rattle.plan_links.specs.Consistent.{IsConsistent}
-use Rattle.plan_links.proofs.DocumentLemmas.{judged_plan, plan_meets, plan_read_once, plan_reads}
+use Rattle.plan_link_laws.specs.Consistent.{IsConsistent}
+use Rattle.plan_link_laws.proofs.DocumentLemmas.{judged_plan, plan_meets, plan_read_once, plan_reads}
 use Rattle.layout_laws.specs.Readers.{IsReader, IsRootAt}
 use Rattle.layout_laws.specs.Reached.{AreReached}
 use Rattle.layout_laws.specs.RunPipes.{PipeIn, RunsAs}

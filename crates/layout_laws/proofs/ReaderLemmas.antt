@@ -17,7 +17,7 @@ use Rattle.plan_layout.specs.Pipes.{PipeForm, SourceForm, TargetForm, cell, edge
 use Rattle.layout_laws.specs.Readers.{IsReader, IsRootAt}
 use Rattle.plan_layout.specs.Runs.{IsLaid}
 use Rattle.plan_layout.specs.Sides.{Site, pipes_of, sides_of}
-use Rattle.plan_layout.specs.Steps.{drivers_of, side_count, source_of}
+use Rattle.plan_layout.specs.Steps.{drivers_in_task, side_count, source_of}
 use Rattle.plan_spreads.proofs.EachLemmas.{Each, each_at, each_join}
 use Rattle.plan_layout.proofs.FetchLemmas.{in_either}
 use Rattle.plan_layout.proofs.PipeLemmas.{each_block, each_fetch, each_numbered}
@@ -317,7 +317,7 @@ root_at p plan n f reader l =
         is = l.root.is;
         part = l.root.part;
         tasks = l.root.tasks;
-        drivers = l.root.drivers ∙ ap (drivers_of (tasks_of p.drivers f.placement) l.root.pipe.source l.root.pipe.steps) same;
+        drivers = l.root.drivers ∙ ap (drivers_in_task (tasks_of p.drivers f.placement) l.root.pipe.source l.root.pipe.steps) same;
         has = l.root.has ∙ same;
         below = l.root.below;
       },

@@ -12,9 +12,9 @@ use Rattle.sql_exprs.specs.Typing.{Path}
 use Rattle.plan_layout.specs.declared.pipe.Parallelism.{Parallelism}
 use Rattle.plan_layout.specs.Layouts.{layout_of}
 use Rattle.plan_layout.specs.Pipes.{PipeForm, result}
-use Rattle.plan_layout.specs.Steps.{drivers_of}
-use Rattle.plan_links.specs.Consistent.{IsConsistent}
-use Rattle.plan_links.proofs.DocumentLemmas.{judged_plan}
+use Rattle.plan_layout.specs.Steps.{drivers_in_task}
+use Rattle.plan_link_laws.specs.Consistent.{IsConsistent}
+use Rattle.plan_link_laws.proofs.DocumentLemmas.{judged_plan}
 use Rattle.layout_laws.specs.Givers.{HasOneResult, HasTarget}
 use Rattle.layout_laws.proofs.GivenLemmas.{result_at}
 use Rattle.layout_laws.proofs.LaneLemmas.{plan_manned}

@@ -4,7 +4,7 @@ use Rattle.std.specs.Prelude.{slice_get}
 use Rattle.std.proofs.lemmas.Bool.{cases_lt, cases_order}
 use Rattle.std.proofs.lemmas.Nat.{div-add-mod', div_below, mod_below, row_fits}
 use Rattle.plan_layout.specs.declared.pipe.Series.{Series}
-use Rattle.plan_layout.specs.Pipes.{PipeForm, number_in}
+use Rattle.plan_layout.specs.Pipes.{PipeForm, number_in_task}
 use Rattle.layout_laws.specs.Numbers.{AreNumbered, Precedes, Seat, address, number_at}
 use Rattle.plan_layout.proofs.FetchLemmas.{in_either, is_below}
 use Rattle.plan_layout.proofs.SideLemmas.{get_left, get_right}
@@ -204,7 +204,7 @@ module _ (width : PipeForm → ℕ) (numbers : PipeForm → Series) where
         let some : 0 < width a.pipe = omega (arith, a.has_lane) in
         let starts = begins block (seats done) (widths block) h.k a.pipe follow h.is some in
         let mine = each_at (IsOf number n) block h.k a.pipe h.is each in
-        let plain = ap (λ s. number_in s a.task + a.lane) starts in
+        let plain = ap (λ s. number_in_task s a.task + a.lane) starts in
         let wide = within block h.k a.pipe h.is in
         let tasks : a.pipe.tasks ≡ n = mine.1 in
         record {

@@ -3,7 +3,7 @@
 use Rattle.std.specs.Prelude.{◌≡◌, ℕ, ◌+◌, ◌<◌, List, [], ◌∷◌, ◌⊎◌, slice_get, Some}
 use Rattle.plan_layout.specs.declared.pipe.Series.{Series}
 use Rattle.plan_layout.specs.Edges.{count_if, reads_edge}
-use Rattle.plan_layout.specs.Pipes.{PipeForm, SourceForm, edge, number_in}
+use Rattle.plan_layout.specs.Pipes.{PipeForm, SourceForm, edge, number_in_task}
 use Rattle.plan_layout.specs.Sides.{unnumbered}
 
 -- one of those that a pipe has in a task
@@ -27,7 +27,7 @@ module _ {width : PipeForm → ℕ} {layout : List PipeForm} where
   address s = s.pipe.fragment ∷ s.task ∷ s.at ∷ s.lane ∷ []
 
   abbrev pub number_at : (PipeForm → Series) → Seat width layout → ℕ
-  number_at numbers s = number_in (numbers s.pipe) s.task + s.lane
+  number_at numbers s = number_in_task (numbers s.pipe) s.task + s.lane
 
 -- the numbers are those below the count, each of one seat, in the order of the seats
 pub record AreNumbered (width : PipeForm → ℕ) (numbers : PipeForm → Series) (layout : List PipeForm) (count : ℕ) : Type 0 where

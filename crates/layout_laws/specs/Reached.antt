@@ -1,7 +1,7 @@
 -- Which pipes of a layout a plan runs in, besides that of its root: those that begin below its nodes.
 use Rattle.std.specs.Prelude.{◌≡◌, ◌⊎◌, ℕ, List, Bool, true, false, slice_get, Some}
-use Rattle.plan_runs.specs.RunPlans.{RunPlan}
-use Rattle.plan_runs.specs.RunPlans as plan
+use Rattle.plan_run_laws.specs.RunPlans.{RunPlan}
+use Rattle.plan_run_laws.specs.RunPlans as plan
 use Rattle.plan_layout.specs.Pipes.{PipeForm, SourceForm, StepForm, TargetForm, result, takers}
 use Rattle.layout_laws.specs.RunPipes.{PipeIn, RunsAs}
 

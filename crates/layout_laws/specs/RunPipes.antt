@@ -4,9 +4,9 @@ use Rattle.std.specs.Prelude.{◌≡◌, ◌<◌, ℕ, List, [], ◌∷◌, map,
 use Rattle.plan_docs.specs.declared.plan.Output.{Output}
 use Rattle.plan_trees.specs.declared.tree.Pair.{Pair}
 use Rattle.plan_trees.specs.TreeForms.{pair_view}
-use Rattle.plan_runs.specs.Nets.{IsAlone}
-use Rattle.plan_runs.specs.RunPlans.{RunPlan}
-use Rattle.plan_runs.specs.RunPlans as plan
+use Rattle.plan_run_laws.specs.Nets.{IsAlone}
+use Rattle.plan_run_laws.specs.RunPlans.{RunPlan}
+use Rattle.plan_run_laws.specs.RunPlans as plan
 use Rattle.plan_spreads.specs.Runs.{output_view}
 use Rattle.plan_layout.specs.Pipes.{PipeForm, SourceForm, StepForm, TargetForm, table, rows, sides, fragment, filter, project, probe, aggregate, partial, final, sort, top_n, limit, cell, side, readers}
 use Rattle.plan_layout.specs.Runs.{EndsWith}

@@ -5,7 +5,7 @@ ghost use Rattle.plan_layout.specs.declared.pipe.Parallelism.{Parallelism};
 ghost use Rattle.plan_layout.specs.Edges.{edges_in, reader_of};
 ghost use Rattle.plan_layout.specs.Layouts.{drivers_in, layout_of};
 ghost use Rattle.plan_layout.specs.Pipes as pipes;
-ghost use Rattle.plan_links.specs.Consistent.{IsConsistent};
+ghost use Rattle.plan_link_laws.specs.Consistent.{IsConsistent};
 ghost use Rattle.plan_spreads.specs.Runs.{plan_run};
 ghost use Rattle.layout_laws.specs.Givers.{GiveToReaders, GiveToUnions, HasOneResult};
 ghost use Rattle.layout_laws.specs.Lanes.{AreManned};

@@ -11,8 +11,8 @@ use Rattle.output_buffer.specs.Seats.{AreGatherPutsOf, AreSpreadTakesOf, GatherP
 use Rattle.source_laws.specs.Edges.{GatherCameBack, HavePutEnds, SpreadCameBack}
 use Rattle.driver_loop.specs.Drivers.{DriverState}
 use Rattle.plan_layout.specs.Pipes.{PipeForm, SourceForm, table, rows, sides, fragment, edge}
-use Rattle.driver_nets.specs.Nets.{AreDriversOf, NetForm}
-use Rattle.driver_nets.specs.Settled.{GatherIsBack, SourceIsBack, SpreadIsBack, claims_in, deals_into, gather_takes_in, in_pipe, in_task, listed, puts_into, spread_takes_in}
+use Rattle.driver_net_laws.specs.Nets.{AreDriversOf, NetForm}
+use Rattle.driver_net_laws.specs.Settled.{GatherIsBack, SourceIsBack, SpreadIsBack, claims_in, deals_into, gather_takes_in, in_pipe, in_task, listed, puts_into, spread_takes_in}
 use Rattle.net_closing.specs.Back.{CameBack, ClaimsAreBack, FetchHasTask, HasNet, IsOfNet, IsReading, IsScanning, IsTakingFrom, SideHasTask}
 use Rattle.net_closing.specs.Left.{StayParts, at_place}
 use Rattle.net_closing.specs.declared.parts.Parts.{Parts}

@@ -11,11 +11,11 @@ use Rattle.driver_loop.specs.declared.stage.Stage.{Stage}
 use Rattle.driver_loop.specs.declared.stage.Stage.TheVariants.{Filter, Final, Limit, Partial, Probe, Single, Sort, TopN}
 use Rattle.driver_loop.specs.declared.target.Target.{Target}
 use Rattle.driver_loop.specs.declared.target.Target.TheVariants.{Build, Deal, Put, Result}
-use Rattle.driver_laws.specs.Cells.{AreNamed, cell_of, cells_of, target_cell}
-use Rattle.driver_laws.specs.Stages.{ProbesFor}
+use Rattle.driver_net_laws.specs.Cells.{AreNamed, cell_of, cells_of, target_cell}
+use Rattle.driver_net_laws.specs.Stages.{ProbesFor}
 use Rattle.plan_layout.specs.Pipes.{PipeForm, StepForm, TargetForm, filter, project, probe, aggregate, partial, final, sort, top_n, limit, result, cell, side, readers, takers}
-use Rattle.driver_nets.specs.Nets.{AreDriversOf, AreStagesFor, IsDriverOf, IsResult, IsStageFor, IsTargetFor, NetForm}
-use Rattle.driver_nets.specs.Types.{types_after}
+use Rattle.driver_net_laws.specs.Nets.{AreDriversOf, AreStagesFor, IsDriverOf, IsResultTarget, IsStageFor, IsTargetFor, NetForm}
+use Rattle.driver_net_laws.specs.Types.{types_after}
 use Rattle.net_closing.specs.Covered.{IsCovered}
 use Rattle.net_closing.proofs.PipeLemmas.{all_flat}
 
@@ -61,7 +61,7 @@ module _ (net : NetForm) where
       All-append Holds (cell_of s) (flat_map cell_of stages) (stage_named task halved step between (types_after net.types halved step between) s are.0)
       (stages_named task halved steps (types_after net.types halved step between) stages are.1)
 
-  result_named : (target : Target) → IsResult target → All Holds (target_cell target)
+  result_named : (target : Target) → IsResultTarget target → All Holds (target_cell target)
   result_named (Build b) is = absurd is
   result_named (Put put) is = absurd is
   result_named (Deal deal) is = absurd is

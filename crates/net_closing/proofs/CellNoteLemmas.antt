@@ -11,8 +11,8 @@ use Rattle.driver_loop.specs.declared.stage.Stage.{Stage}
 use Rattle.driver_loop.specs.declared.stage.Stage.TheVariants.{Filter, Final, Limit, Partial, Probe, Single, Sort, TopN}
 use Rattle.driver_loop.specs.declared.target.Target.{Target}
 use Rattle.driver_loop.specs.declared.target.Target.TheVariants.{Build, Deal, Put, Result}
-use Rattle.driver_laws.specs.Cells.{AreNamed, AreOfCells, Names, cell_of, cells_of, target_cell}
-use Rattle.driver_nets.specs.Settled.{builds_of, looks_of}
+use Rattle.driver_net_laws.specs.Cells.{AreNamed, AreOfCells, Names, cell_of, cells_of, target_cell}
+use Rattle.driver_net_laws.specs.Settled.{builds_of, looks_of}
 use Rattle.net_closing.specs.Closing.{HaveKept}
 use Rattle.net_closing.specs.declared.notes.Notes.{Notes}
 

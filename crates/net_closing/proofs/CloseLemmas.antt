@@ -3,10 +3,10 @@ use Rattle.std.proofs.Common.{◌≡◌, ◌<◌, ◌++◌, ◌∙◌, ℕ, List
 use Rattle.std.specs.Prelude.{slice_get}
 use Rattle.driver_loop.specs.Drivers.{DriverState}
 use Rattle.driver_loop.specs.declared.pieces.CellNote.{CellNote}
-use Rattle.driver_laws.specs.Cells.{AllLearnedFrom, AreOfCells}
+use Rattle.driver_net_laws.specs.Cells.{AllLearnedFrom, AreOfCells}
 use Rattle.plan_layout.specs.Pipes.{PipeForm}
-use Rattle.driver_nets.specs.Nets.{AreDriversOf, NetForm}
-use Rattle.driver_nets.specs.Settled.{AreSettled, builds_of, looks_of}
+use Rattle.driver_net_laws.specs.Nets.{AreDriversOf, NetForm}
+use Rattle.driver_net_laws.specs.Settled.{AreSettled, builds_of, looks_of}
 use Rattle.net_closing.specs.Back.{CameBack, HasNet, IsOfNet}
 use Rattle.net_closing.specs.Covered.{IsCovered}
 use Rattle.net_closing.specs.Left.{WereTaken}

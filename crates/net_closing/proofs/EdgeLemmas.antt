@@ -10,14 +10,14 @@ use Rattle.sql_values.specs.declared.types.SqlType.{SqlType}
 use Rattle.split_source.specs.Seats.{AreAll, AreAllOf, ClaimsId, SeatState}
 use Rattle.output_buffer.specs.Seats.{EdgeId, GatherPutState, GatherTakeState, SpreadPutState, SpreadTakeState}
 use Rattle.driver_ends.specs.Outlets.{OutletState}
-use Rattle.plan_runs.specs.RunPlans.{Output}
+use Rattle.plan_run_laws.specs.RunPlans.{Output}
 use Rattle.driver_loop.specs.Drivers.{DriverState}
 use Rattle.driver_loop.specs.Ends.{claim_of}
 use Rattle.driver_loop.specs.Seats.{deal_of, gather_take_of, puts_of, spread_take_of}
 use Rattle.driver_loop.specs.Sources.{Source}
 use Rattle.driver_loop.specs.declared.target.Target.{Target}
-use Rattle.driver_nets.specs.Nets.{AreDriversOf, IsPutFor, IsSourceFor, IsTargetFor, NetForm, edges_to, tasks_at}
-use Rattle.driver_nets.specs.Settled.{claims_in, deals_from, deals_in, deals_into, gather_takes_in, in_pipe, in_task, listed, put_to, puts_from, puts_into, spread_takes_in}
+use Rattle.driver_net_laws.specs.Nets.{AreDriversOf, IsPutFor, IsSourceFor, IsTargetFor, NetForm, edges_to, tasks_at}
+use Rattle.driver_net_laws.specs.Settled.{claims_in, deals_from, deals_in, deals_into, gather_takes_in, in_pipe, in_task, listed, put_to, puts_from, puts_into, spread_takes_in}
 use Rattle.plan_layout.specs.Pipes.{PipeForm, SourceForm, TargetForm, table, rows, sides, fragment, edge, result, cell, side, readers, takers}
 use Rattle.net_closing.specs.Back.{FetchHasTask, FetchesInTask, HasTask, IsFrom, SideHasTask}
 use Rattle.net_closing.proofs.PipeLemmas.{all_at, all_flat}

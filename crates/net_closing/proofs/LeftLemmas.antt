@@ -5,7 +5,7 @@ use Rattle.std.proofs.lemmas.List.{map-append}
 use Rattle.std.specs.declared.alloc.Global.{Global}
 use Rattle.std.specs.declared.vec.Vec.{Vec}
 use Rattle.driver_loop.specs.Drivers.{DriverState}
-use Rattle.driver_nets.specs.Settled.{claims_in, deals_in, gather_takes_in, listed, of_number, spread_takes_in}
+use Rattle.driver_net_laws.specs.Settled.{claims_in, deals_in, gather_takes_in, listed, of_number, spread_takes_in}
 use Rattle.net_closing.specs.Held.{HoldsNoMore, held, seat_at, seat_in}
 use Rattle.net_closing.specs.Left.{AreAllOf, AreLeft, ArePartsOf, HasGained, HasMore, HoldsAll, at_place, handed_in, outlets_of}
 use Rattle.net_closing.specs.declared.parts.Parts.{Parts}

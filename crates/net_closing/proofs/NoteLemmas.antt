@@ -4,7 +4,7 @@ use Rattle.std.specs.Prelude.{All, slice_set}
 use Rattle.std.proofs.lemmas.List.{set-get_or}
 use Rattle.std.proofs.lemmas.List.Elements.{All-cons, All-head, All-nil, All-tail}
 use Rattle.driver_loop.specs.declared.pieces.CellNote.{CellNote}
-use Rattle.driver_laws.specs.Cells.{LearnedFrom}
+use Rattle.driver_net_laws.specs.Cells.{LearnedFrom}
 
 -- a note that stays in its place
 pub same_at : (notes : List CellNote) (k : ℕ) (old new : CellNote) → new ≡ old → old ≡ get_or notes k old → slice_set notes k new ≡ notes

@@ -5,8 +5,8 @@ use Rattle.std.proofs.lemmas.List.{length-append}
 use Rattle.std.proofs.lemmas.List.Elements.{All-append, All-cons, All-nil}
 use Rattle.bag_laws.specs.Gather.{gather}
 use Rattle.driver_loop.specs.Drivers.{DriverState}
-use Rattle.driver_nets.specs.Nets.{AreDriversOf, HasDriver, IsDriverOf, NetForm}
-use Rattle.driver_nets.specs.Settled.{in_pipe, in_task, listed, of_lane}
+use Rattle.driver_net_laws.specs.Nets.{AreDriversOf, HasDriver, IsDriverOf, NetForm}
+use Rattle.driver_net_laws.specs.Settled.{in_pipe, in_task, listed, of_lane}
 use Rattle.plan_layout.specs.Pipes.{PipeForm, driver_number}
 use Rattle.net_closing.specs.Left.{at_place}
 

@@ -6,9 +6,9 @@ use Rattle.std.proofs.lemmas.List.Elements.{All-append, All-cons, All-nil}
 use Rattle.driver_loop.specs.Drivers.{DriverState}
 use Rattle.driver_loop.specs.Turns.{note_of_stage, note_of_target}
 use Rattle.driver_loop.specs.declared.pieces.CellNote.{CellNote}
-use Rattle.driver_nets.specs.Settled.{IsStill, builds_of, looks_of}
+use Rattle.driver_net_laws.specs.Settled.{WasTakenApart, builds_of, looks_of}
 use Rattle.net_closing.specs.Closing.{HaveKept}
-use Rattle.net_closing.specs.Held.{items_of}
+use Rattle.net_closing.specs.Held.{lists_of}
 use Rattle.net_closing.specs.Left.{HasGained, WereTaken}
 use Rattle.net_closing.specs.declared.notes.Notes.{Notes}
 use Rattle.net_closing.specs.declared.parts.Parts.{Parts}
@@ -17,9 +17,9 @@ use Rattle.net_closing.proofs.LeftLemmas.{parts_more}
 pub none_taken : (notes : Notes) (parts : Parts) → parts.claims.items ≡ [] → parts.gather_takes.items ≡ [] → parts.spread_takes.items ≡ [] → parts.puts.items ≡ [] → parts.deals.items ≡ []
     → parts.rows.items ≡ [] → WereTaken [] notes notes parts
 none_taken notes parts claims gather_takes spread_takes puts deals rows = record {
-  each = All-nil IsStill;
+  each = All-nil WasTakenApart;
   kept = record { looks = sym (append-nil notes.looks.items); builds = sym (append-nil notes.builds.items) };
-  all = record { claims = ap items_of claims; gather_takes = ap items_of gather_takes; spread_takes = ap items_of spread_takes; puts = ap items_of puts; deals = ap items_of deals; rows = ap items_of rows };
+  all = record { claims = ap lists_of claims; gather_takes = ap lists_of gather_takes; spread_takes = ap lists_of spread_takes; puts = ap lists_of puts; deals = ap lists_of deals; rows = ap lists_of rows };
 }
 
 kept_more : (of : DriverState → List CellNote) (done : List DriverState) (d : DriverState) (old mid new : List CellNote) → mid ≡ old ++ flat_map of done → new ≡ mid ++ flat_map of (d ∷ [])
@@ -28,10 +28,10 @@ kept_more of done d old mid new before came =
     came ∙ ap (λ (l : List CellNote). l ++ flat_map of (d ∷ [])) before ∙ append_assoc old (flat_map of done) (flat_map of (d ∷ []))
     ∙ ap (λ (l : List CellNote). old ++ l) (sym (flat_map-append of done (d ∷ [])))
 
-pub taken_more : (done : List DriverState) (d : DriverState) (old mid new : Notes) (parts next : Parts) → WereTaken done old mid parts → IsStill d
+pub taken_more : (done : List DriverState) (d : DriverState) (old mid new : Notes) (parts next : Parts) → WereTaken done old mid parts → WasTakenApart d
     → HaveKept mid new (looks_of (d ∷ [])) (builds_of (d ∷ [])) → HasGained parts d next → WereTaken (done ++ d ∷ []) old new next
 taken_more done d old mid new parts next taken still kept gained = record {
-  each = All-append IsStill done (d ∷ []) taken.each (All-cons IsStill d [] still (All-nil IsStill));
+  each = All-append WasTakenApart done (d ∷ []) taken.each (All-cons WasTakenApart d [] still (All-nil WasTakenApart));
   kept = record {
     looks = kept_more (λ (x : DriverState). flat_map note_of_stage x.stages) done d old.looks.items mid.looks.items new.looks.items taken.kept.looks kept.looks;
     builds = kept_more (λ (x : DriverState). note_of_target x.target) done d old.builds.items mid.builds.items new.builds.items taken.kept.builds kept.builds;

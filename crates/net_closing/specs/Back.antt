@@ -5,8 +5,8 @@ use Rattle.split_source.specs.Gathered.{AreDistinct, AreWhole}
 use Rattle.split_source.specs.Seats.{AreAll}
 use Rattle.driver_loop.specs.Drivers.{DriverState}
 use Rattle.plan_layout.specs.Pipes.{PipeForm, SourceForm, TargetForm, table, rows, sides, fragment, edge, result, cell, side, readers, takers}
-use Rattle.driver_nets.specs.Nets.{AreDriversOf, NetForm}
-use Rattle.driver_nets.specs.Settled.{GatherIsBack, SpreadIsBack, claims_in, gather_takes_in, in_pipe, in_task, spread_takes_in}
+use Rattle.driver_net_laws.specs.Nets.{AreDriversOf, NetForm}
+use Rattle.driver_net_laws.specs.Settled.{GatherIsBack, SpreadIsBack, claims_in, gather_takes_in, in_pipe, in_task, spread_takes_in}
 use Rattle.net_closing.specs.Left.{ArePartsOf}
 use Rattle.net_closing.specs.declared.parts.Parts.{Parts}
 

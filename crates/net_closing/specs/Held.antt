@@ -8,14 +8,14 @@ abbrev pub held : {X : Type 0} → Option (Option X) → Option X
 held None = None
 held (Some seat) = seat
 
-abbrev pub items_of : {X : Type 0} → List (Vec (Option X) Global) → List (List (Option X))
-items_of rows = map (λ row. row.items) rows
+abbrev pub lists_of : {X : Type 0} → List (Vec (Option X) Global) → List (List (Option X))
+lists_of rows = map (λ row. row.items) rows
 
 abbrev pub seat_in : {X : Type 0} → List (List (Option X)) → ℕ → ℕ → Option X
 seat_in rows number place = held (slice_get (unwrap_or (slice_get rows number) []) place)
 
 abbrev pub seat_at : {X : Type 0} → List (Vec (Option X) Global) → ℕ → ℕ → Option X
-seat_at rows number place = seat_in (items_of rows) number place
+seat_at rows number place = seat_in (lists_of rows) number place
 
 -- what is held was held before
 pub record HoldsNoMore {X : Type 0} (old new : List (Vec (Option X) Global)) : Type 0 where

@@ -7,9 +7,9 @@ use Rattle.output_buffer.specs.Seats.{GatherPutState}
 use Rattle.driver_loop.specs.Drivers.{DriverState}
 use Rattle.driver_loop.specs.Ends.{rows_handed}
 use Rattle.driver_loop.specs.Seats.{puts_of}
-use Rattle.driver_nets.specs.Settled.{IsStill, builds_of, claims_in, deals_in, gather_takes_in, listed, looks_of, of_number, spread_takes_in}
+use Rattle.driver_net_laws.specs.Settled.{WasTakenApart, builds_of, claims_in, deals_in, gather_takes_in, listed, looks_of, of_number, spread_takes_in}
 use Rattle.net_closing.specs.Closing.{HaveKept}
-use Rattle.net_closing.specs.Held.{items_of, seat_at}
+use Rattle.net_closing.specs.Held.{lists_of, seat_at}
 use Rattle.net_closing.specs.declared.notes.Notes.{Notes}
 use Rattle.net_closing.specs.declared.parts.Parts.{Parts}
 
@@ -41,7 +41,7 @@ StayParts old new = (drivers : List DriverState) → ArePartsOf drivers old → 
 
 -- all is there that the drivers have, in their order
 abbrev pub HoldsAll : {X : Type 0} → (DriverState → List X) → List DriverState → List (Vec (Option X) Global) → Type 0
-HoldsAll of drivers rows = items_of rows ≡ map (λ (d : DriverState). map Some (of d)) drivers
+HoldsAll of drivers rows = lists_of rows ≡ map (λ (d : DriverState). map Some (of d)) drivers
 
 pub record AreAllOf (drivers : List DriverState) (parts : Parts) : Type 0 where
   pub claims : HoldsAll claims_in drivers parts.claims.items
@@ -53,7 +53,7 @@ pub record AreAllOf (drivers : List DriverState) (parts : Parts) : Type 0 where
 
 -- what the driver has came behind the others
 abbrev pub HasMore : {X : Type 0} → (DriverState → List X) → List (Vec (Option X) Global) → DriverState → List (Vec (Option X) Global) → Type 0
-HasMore of old d new = items_of new ≡ items_of old ++ map Some (of d) ∷ []
+HasMore of old d new = lists_of new ≡ lists_of old ++ map Some (of d) ∷ []
 
 pub record HasGained (old : Parts) (d : DriverState) (new : Parts) : Type 0 where
   pub claims : HasMore claims_in old.claims.items d new.claims.items
@@ -65,6 +65,6 @@ pub record HasGained (old : Parts) (d : DriverState) (new : Parts) : Type 0 wher
 
 -- drivers were taken apart
 pub record WereTaken (drivers : List DriverState) (old new : Notes) (parts : Parts) : Type 0 where
-  pub each : All IsStill drivers
+  pub each : All WasTakenApart drivers
   pub kept : HaveKept old new (looks_of drivers) (builds_of drivers)
   pub all : AreAllOf drivers parts

@@ -3,7 +3,7 @@ use Rattle.std.specs.Prelude.{◌≡◌, ℕ, ◌<◌, ◌≤◌, List, [], ◌�
 use Rattle.operator_core.specs.Rows.{Row}
 use Rattle.driver_loop.specs.Drivers.{DriverState}
 use Rattle.plan_layout.specs.Pipes.{PipeForm, TargetForm, result, cell, side, readers, takers}
-use Rattle.driver_nets.specs.Settled.{of_lane}
+use Rattle.driver_net_laws.specs.Settled.{of_lane}
 use Rattle.net_closing.specs.Left.{handed_in}
 
 abbrev pub gives_result : TargetForm → Bool

@@ -1,8 +1,8 @@
 //! The end of a run.
 ghost use Rattle.std.specs.Prelude.{◌≡◌, ◌∷◌, [], ℕ, IfOk, List, OnOk, map};
 ghost use Rattle.driver_loop.specs.Drivers.{DriverState};
-ghost use Rattle.driver_nets.specs.Nets.{AreDriversOf, NetForm};
-ghost use Rattle.driver_nets.specs.Settled.{AreSettled};
+ghost use Rattle.driver_net_laws.specs.Nets.{AreDriversOf, NetForm};
+ghost use Rattle.driver_net_laws.specs.Settled.{AreSettled};
 ghost use Rattle.plan_layout.specs.Pipes.{pipe_view};
 ghost use Rattle.net_closing.specs.Back.{HasNet};
 ghost use Rattle.net_closing.specs.Results.{IsResultOf};

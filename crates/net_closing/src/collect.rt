@@ -1,7 +1,7 @@
-//! The seats of one edge, or of one table, are taken, in the order in which `driver_nets` names them.
+//! The seats of one edge, or of one table, are taken, in the order in which `driver_net_laws` names them.
 ghost use Rattle.std.specs.Prelude.{◌≡◌, ◌++◌, ◌∷◌, [], All, IfOk, List, OnOk, map};
 ghost use Rattle.driver_loop.specs.Drivers.{DriverState};
-ghost use Rattle.driver_nets.specs.Settled.{deals_from, deals_in, deals_into, in_pipe, in_task, puts_from, puts_into};
+ghost use Rattle.driver_net_laws.specs.Settled.{deals_from, deals_in, deals_into, in_pipe, in_task, puts_from, puts_into};
 ghost use Rattle.plan_layout.specs.Pipes.{pipe_view};
 ghost use Rattle.net_closing.specs.Held.{HoldsNoMore};
 ghost use Rattle.net_closing.specs.Left.{AreLeft, at_place, outlets_of};

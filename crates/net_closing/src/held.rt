@@ -1,7 +1,7 @@
 //! What drivers hand back, until it is taken: a row for each of them, by number, and in it a place for each seat.
 ghost use Rattle.std.specs.Prelude.{◌≡◌, ◌++◌, ◌∷◌, [], ℕ, Some, IfOk, OnOk, map, slice_get};
-ghost use Rattle.net_closing.specs.Held.{HoldsNoMore, held, items_of, seat_at};
-ghost use Rattle.driver_nets.specs.Settled.{listed};
+ghost use Rattle.net_closing.specs.Held.{HoldsNoMore, held, lists_of, seat_at};
+ghost use Rattle.driver_net_laws.specs.Settled.{listed};
 
 use sql_values::Memory;
 use std::alloc::Global;
@@ -40,7 +40,7 @@ pub(crate) fn hold_one<T: Drop>(
     rows: &mut Vec<Vec<Option<T>>>,
     seat: Option<T>,
 ) -> Result<(), Memory>
-    ensures { OnOk result (items_of rows.new.items ≡ items_of rows.old.items ++ map Some (listed seat) ∷ []) }
+    ensures { OnOk result (lists_of rows.new.items ≡ lists_of rows.old.items ++ map Some (listed seat) ∷ []) }
 {
     let mut row = Vec::new(alloc);
     if seat.is_some() {
@@ -56,7 +56,7 @@ pub(crate) fn hold_all<T: Drop>(
     rows: &mut Vec<Vec<Option<T>>>,
     seats: Vec<T>,
 ) -> Result<(), Memory>
-    ensures { OnOk result (items_of rows.new.items ≡ items_of rows.old.items ++ map Some seats.items ∷ []) }
+    ensures { OnOk result (lists_of rows.new.items ≡ lists_of rows.old.items ++ map Some seats.items ∷ []) }
 {
     let mut row = Vec::with_capacity(alloc, seats.len())?;
     for seat in seats {

@@ -1,6 +1,6 @@
 //! What drivers that were taken apart tell of cells.
 ghost use Rattle.std.specs.Prelude.{◌≡◌, ◌++◌, List, true, All, OnOk};
-ghost use Rattle.driver_laws.specs.Cells.{AllLearnedFrom, AreOfCells, LearnedFrom};
+ghost use Rattle.driver_net_laws.specs.Cells.{AllLearnedFrom, AreOfCells, LearnedFrom};
 ghost use Rattle.net_closing.specs.Closing.{HaveKept, IsOneIf};
 
 use driver_loop::CellNote;

@@ -1,7 +1,7 @@
 //! Drivers are taken apart.
 ghost use Rattle.std.specs.Prelude.{◌≡◌, ◌++◌, ◌∷◌, [], All, IfOk, OnOk, flat_map};
 ghost use Rattle.driver_loop.specs.Drivers.{IsWhole};
-ghost use Rattle.driver_nets.specs.Settled.{IsStill, builds_of, looks_of};
+ghost use Rattle.driver_net_laws.specs.Settled.{WasTakenApart, builds_of, looks_of};
 ghost use Rattle.net_closing.specs.Closing.{AreWholeDrivers, HaveKept};
 ghost use Rattle.net_closing.specs.Left.{HasGained, WereTaken};
 
@@ -58,7 +58,7 @@ fn take_apart<'w, C: Courier>(
     notes: &mut Notes,
 ) -> Result<(), Memory>
     requires { IsWhole driver.fault }
-    ensures still { OnOk result (IsStill driver.entry) }
+    ensures still { OnOk result (WasTakenApart driver.entry) }
     ensures kept { OnOk result (HaveKept notes.old notes.new (looks_of (driver.entry ∷ [])) (builds_of (driver.entry ∷ []))) }
     ensures gained { OnOk result (HasGained parts.old driver.entry parts.new) }
 {

@@ -1,7 +1,7 @@
 //! What drivers shared is given back: where each pipe takes its rows, all seats of that.
 ghost use Rattle.std.specs.Prelude.{◌≡◌, ◌<◌, ◌∷◌, [], ℕ, IfOk, List, OnOk, Some, length, map, slice_get};
 ghost use Rattle.driver_loop.specs.Drivers.{DriverState};
-ghost use Rattle.driver_nets.specs.Settled.{GatherIsBack, SpreadIsBack, gather_takes_in, in_task, spread_takes_in};
+ghost use Rattle.driver_net_laws.specs.Settled.{GatherIsBack, SpreadIsBack, gather_takes_in, in_task, spread_takes_in};
 ghost use Rattle.plan_layout.specs.Pipes.{PipeForm, pipe_view};
 ghost use Rattle.net_closing.specs.Back.{CameBack, ClaimsAreBack, GathersAreBack, IsOfNet, IsReading, IsScanning, IsTakingFrom, SpreadsAreBack};
 ghost use Rattle.net_closing.specs.Left.{ArePartsOf, StayParts};

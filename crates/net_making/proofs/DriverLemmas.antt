@@ -5,7 +5,7 @@ use Rattle.driver_loop.specs.Sources.{Source}
 use Rattle.driver_loop.specs.declared.stage.Stage.{Stage}
 use Rattle.driver_loop.specs.declared.target.Target.{Target}
 use Rattle.plan_layout.specs.Pipes.{PipeForm, driver_number}
-use Rattle.driver_nets.specs.Nets.{AreStagesFor, IsDriverOf, IsSourceFor, IsTargetFor}
+use Rattle.driver_net_laws.specs.Nets.{AreStagesFor, IsDriverOf, IsSourceFor, IsTargetFor}
 use Rattle.net_making.specs.Slots.{IsNew}
 use Rattle.net_making.specs.Makings.{InNets}
 use Rattle.net_making.specs.declared.making.Making.{Making}

@@ -6,10 +6,10 @@ use Rattle.std.proofs.lemmas.List.{length-map, length-replicate}
 use Rattle.driver_loop.specs.Drivers.{DriverState}
 use Rattle.plan_layout.specs.Layouts.{drivers_in}
 use Rattle.plan_layout.specs.Pipes.{PipeForm, driver_number}
-use Rattle.driver_nets.specs.Nets.{AreDriversOf, IsDriverOf, NetForm}
-use Rattle.driver_nets.specs.Types.{AreTyped}
-use Rattle.pipe_types.specs.Each.{EachBelow}
-use Rattle.pipe_types.proofs.EachLemmas.{each, one_more}
+use Rattle.driver_net_laws.specs.Nets.{AreDriversOf, IsDriverOf, NetForm}
+use Rattle.driver_net_laws.specs.Types.{PipesAreTyped}
+use Rattle.pipe_stages.specs.Each.{EachBelow}
+use Rattle.pipe_stages.proofs.EachLemmas.{each, one_more}
 use Rattle.seat_stocks.specs.Stocks.{AreLeft, StockForm}
 use Rattle.net_making.specs.Makings.{CanMake, InNets, layout_in}
 use Rattle.net_making.specs.Slots.{HasSlot, HaveGrown, IsNew}
@@ -119,7 +119,7 @@ module _ (m : Making) where
 
     pub all_made : CanMake m → length (layout_in m) ≤ own → count ≡ drivers_in (layout_in m) → InNets m before (λ net. AreDriversOf net drivers)
     all_made can all counted labels labelled net for = record {
-      typed = subst (λ layout. AreTyped layout net.types) (sym for.layout) (subst (AreTyped (layout_in m)) (sym for.types) can.typed);
+      typed = subst (λ layout. PipesAreTyped layout net.types) (sym for.layout) (subst (PipesAreTyped (layout_in m)) (sym for.types) can.typed);
       count = sym (length-map drivers Some) ∙ ap length (sym are) ∙ made.grown.count ∙ length-replicate count None ∙ counted ∙ ap drivers_in (sym for.layout);
       each = λ at pipe there task lane few within. slot_driver net drivers slots at pipe task lane are
           (each (λ at (pipe : PipeForm). Tasks at pipe pipe.tasks slots net) (layout_in m) own all (made.added labels labelled net for) at pipe (ap (λ l. slice_get l at) (sym for.layout) ∙ there) task lane few within);

@@ -11,7 +11,7 @@ use Rattle.split_source.specs.Seats.{ClaimsId, ClaimsState, SeatState}
 use Rattle.split_source.specs.Splits.{split_count}
 use Rattle.hash_join.specs.Cells.{CellState}
 use Rattle.tree_evaluator.specs.Fits.{TablesFit}
-use Rattle.tree_evaluator.specs.Stops.{rows_of}
+use Rattle.tree_evaluator.specs.Stops.{rows_of_table}
 use Rattle.driver_loop.specs.Drivers.{DriverState}
 use Rattle.plan_layout.specs.Pipes.{PipeForm, table}
 use Rattle.plan_wiring.specs.declared.shared.Shared.{Shared}
@@ -19,29 +19,29 @@ use Rattle.plan_wiring.specs.Bells.{gather_bells, spread_bells}
 use Rattle.plan_wiring.specs.Handed.{SeatsForm, new_seats}
 use Rattle.plan_wiring.specs.Shares.{ClaimForm, ShareForm, claims_of, new_claims, rows_at, share_of, shares_of}
 use Rattle.plan_wiring.specs.Wirings.{bells_of, cell_bells, claims_view, share_view}
-use Rattle.driver_nets.specs.Makes.{LayoutFits}
-use Rattle.driver_nets.specs.Nets.{AreDriversOf, Links, NetForm}
-use Rattle.driver_nets.specs.Types.{AreTyped, PipeTypes}
-use Rattle.pipe_types.specs.declared.table.PipeTypes as declared
-use Rattle.pipe_types.specs.Tables.{types_in}
+use Rattle.driver_net_laws.specs.Makes.{LayoutFits}
+use Rattle.driver_net_laws.specs.Nets.{AreDriversOf, Links, NetForm}
+use Rattle.driver_net_laws.specs.Types.{PipesAreTyped, PipeTypes}
+use Rattle.pipe_stages.specs.declared.table.PipeTypes as declared
+use Rattle.pipe_stages.specs.Tables.{types_in}
 use Rattle.pipe_stages.specs.Cells.{HasCells, cell_at}
 use Rattle.seat_stocks.specs.Labels.{IsLabelled, at_place, claims_id, labels_of, no_claims}
 use Rattle.seat_stocks.specs.Lanes.{lane_at}
 use Rattle.seat_stocks.specs.Stocks.{StockForm, stock_of}
 use Rattle.seat_stocks.proofs.LabelLemmas.{all_labelled}
 use Rattle.net_making.specs.Makings.{AreFew, CanMake, InNets, IsNetFor, IsStocked, layout_in, typing_in}
-use Rattle.net_making.specs.Nets.{IsNetOf}
+use Rattle.net_making.specs.Nets.{IsNewNetOf}
 use Rattle.net_making.specs.Slots.{IsNew}
 use Rattle.net_making.specs.declared.making.Making.{Making}
 use Rattle.net_making.proofs.SlotLemmas.{some_same}
 
-pub can_make : (m : Making) (layout : List PipeForm) (list : List declared.PipeTypes) → layout ≡ layout_in m → m.types.now ≡ list → AreTyped (layout_in m) (types_in list)
-    → ((types : ℕ → PipeTypes) → AreTyped layout types → LayoutFits m.tables.now layout types) → TablesFit m.tables.now → AreFew m.tables.now → 0 < m.split → (0 < m.page) × (m.page ≤ 8192) → CanMake m
+pub can_make : (m : Making) (layout : List PipeForm) (list : List declared.PipeTypes) → layout ≡ layout_in m → m.types.now ≡ list → PipesAreTyped (layout_in m) (types_in list)
+    → ((types : ℕ → PipeTypes) → PipesAreTyped layout types → LayoutFits m.tables.now layout types) → TablesFit m.tables.now → AreFew m.tables.now → 0 < m.split → (0 < m.page) × (m.page ≤ 8192) → CanMake m
 can_make m layout list same listed typed fits readable few split page =
-    let own : AreTyped (layout_in m) (typing_in m) = subst (λ (ts : List declared.PipeTypes). AreTyped (layout_in m) (types_in ts)) (sym listed) typed in
+    let own : PipesAreTyped (layout_in m) (typing_in m) = subst (λ (ts : List declared.PipeTypes). PipesAreTyped (layout_in m) (types_in ts)) (sym listed) typed in
     record {
       typed = own;
-      fits = subst (λ (l : List PipeForm). LayoutFits m.tables.now l (typing_in m)) same (fits (typing_in m) (subst (λ (l : List PipeForm). AreTyped l (typing_in m)) (sym same) own));
+      fits = subst (λ (l : List PipeForm). LayoutFits m.tables.now l (typing_in m)) same (fits (typing_in m) (subst (λ (l : List PipeForm). PipesAreTyped l (typing_in m)) (sym same) own));
       readable = readable;
       few = few;
       split = split;
@@ -195,7 +195,7 @@ links_of m pipes = record {
 abbrev net_of : Making → List Shared → NetForm
 net_of m pipes = record {
   layout = layout_in m;
-  tables = map rows_of m.tables.now;
+  tables = map rows_of_table m.tables.now;
   split = m.split;
   types = typing_in m;
   links = links_of m pipes;
@@ -220,7 +220,7 @@ net_for m pipes n cells bells = record {
 pub net_made : {V E : Type 0} (items : V → List DriverState) (r : Result V E) (m : Making) (layout : List PipeForm) (pipes : List Shared) (stock : StockForm) (n : ℕ) → layout ≡ layout_in m
     → map share_view pipes ≡ shares_of layout m.tables.now m.split 0 layout → stock ≡ stock_of (map new_seats pipes) → m.cells.now ≡ cells_in pipes → flat_map bells_of pipes ≡ range_with_len 0 n
     → IfOk r (λ (v : V). All IsNew (items v)) → IfOk r (λ (v : V). InNets m stock (λ net. AreDriversOf net (items v)))
-    → IfOk r (λ (v : V). IsNetOf layout (map rows_of m.tables.now) m.split (items v))
+    → IfOk r (λ (v : V). IsNewNetOf layout (map rows_of_table m.tables.now) m.split (items v))
 net_made items (Ok v) m layout pipes stock n same shares is cells bells fresh are = record {
   net = net_of m pipes;
   of = sym same;

@@ -7,15 +7,16 @@ use Rattle.sql_values.specs.declared.types.SqlType.{SqlType}
 use Rattle.sql_values.specs.declared.types.SqlType.TheVariants.{Boolean}
 use Rattle.sql_values.specs.declared.value.Value.{Value}
 use Rattle.split_source.specs.Scans.{AreReadable, ScanState, claimed, given, types_at}
-use Rattle.split_source.specs.Splits.{rows_of as rows_of_splits}
+use Rattle.split_source.specs.Splits.{rows_of_splits as rows_of_splits}
 use Rattle.sql_values.specs.Cells.{cut}
 use Rattle.std.proofs.Common.{◌-◌, take}
 use Rattle.std.proofs.Math.Seq.{take-nil}
-use Rattle.page_judges.specs.Typed.{AllFit}
+use Rattle.col_pages.specs.Fits.{AllFit}
 use Rattle.plan_trees.specs.Allowed.{table_rows}
 use Rattle.plan_wiring.specs.Shares.{rows_at}
-use Rattle.tree_evaluator.specs.Fits.{ColumnFits, ColumnsFit, TablesFit, kinds}
-use Rattle.tree_evaluator.specs.Stops.{rows_of}
+use Rattle.sql_values.specs.Columns.{kinds}
+use Rattle.tree_evaluator.specs.Fits.{ColumnFits, ColumnsFit, TablesFit}
+use Rattle.tree_evaluator.specs.Stops.{rows_of_table}
 use Rattle.tree_evaluator.proofs.FitLemmas.{rows_cut}
 use Rattle.tree_evaluator.proofs.LeafLemmas.{first_fit}
 
@@ -41,7 +42,7 @@ readable tables n t columns there is fit =
     first_fit (types_at t.columns columns) columns t.rows t.rows refl
     (rows_cut (kinds t.columns) t.rows columns (types_at t.columns columns) (length-map columns (λ c. slice_index_or (kinds t.columns) c Boolean)) own (columns_fit t.columns columns))
 
-pub rows_are : (tables : List Table) (n : ℕ) → rows_at tables n ≡ table_rows (map rows_of tables) n
+pub rows_are : (tables : List Table) (n : ℕ) → rows_at tables n ≡ table_rows (map rows_of_table tables) n
 rows_are [] n = refl
 rows_are (t ∷ tables) zero = refl
 rows_are (t ∷ tables) (suc n) = rows_are tables n

@@ -5,13 +5,13 @@ use Rattle.sql_values.specs.declared.types.SqlType.{SqlType}
 use Rattle.split_source.specs.Seats.{SeatState}
 use Rattle.split_source.specs.Splits.{split_count}
 use Rattle.tree_evaluator.specs.Fits.{TablesFit}
-use Rattle.tree_evaluator.specs.Stops.{rows_of}
+use Rattle.tree_evaluator.specs.Stops.{rows_of_table}
 use Rattle.plan_layout.specs.Pipes.{PipeForm, SourceForm, pipe_view, table}
 use Rattle.plan_wiring.specs.Shares.{rows_at}
-use Rattle.driver_nets.specs.Makes.{LayoutFits}
-use Rattle.driver_nets.specs.Nets.{NetForm}
-use Rattle.driver_nets.specs.Types.{AreTyped, PipeTypes}
-use Rattle.pipe_types.specs.Tables.{types_in}
+use Rattle.driver_net_laws.specs.Makes.{LayoutFits}
+use Rattle.driver_net_laws.specs.Nets.{NetForm}
+use Rattle.driver_net_laws.specs.Types.{PipesAreTyped, PipeTypes}
+use Rattle.pipe_stages.specs.Tables.{types_in}
 use Rattle.pipe_stages.specs.Cells.{HasCells}
 use Rattle.seat_stocks.specs.Labels.{IsLabelled, Labels}
 use Rattle.seat_stocks.specs.Lanes.{lane_at}
@@ -33,7 +33,7 @@ AreFew tables = All (λ table. length table.rows < 2 ^ 32) tables
 
 -- drivers can be made of it
 pub record CanMake (m : Making) : Type 0 where
-  pub typed : AreTyped (layout_in m) (typing_in m)
+  pub typed : PipesAreTyped (layout_in m) (typing_in m)
   pub fits : LayoutFits m.tables.now (layout_in m) (typing_in m)
   pub readable : TablesFit m.tables.now
   pub few : AreFew m.tables.now
@@ -62,7 +62,7 @@ pub record IsStocked (m : Making) (stock : StockForm) : Type 0 where
 pub record IsNetFor (m : Making) (labels : Labels) (net : NetForm) : Type 0 where
   pub layout : net.layout ≡ layout_in m
   pub types : net.types ≡ typing_in m
-  pub tables : net.tables ≡ map rows_of m.tables.now
+  pub tables : net.tables ≡ map rows_of_table m.tables.now
   pub split : net.split ≡ m.split
   pub cells : HasCells net.links m.cells.now
   pub claims : (at : ℕ) → net.links.claims at ≡ labels.claims at

@@ -3,13 +3,13 @@ use Rattle.std.specs.Prelude.{◌≡◌, ℕ, ◌*◌, List, All, Some, max, sli
 use Rattle.sql_values.specs.declared.types.SqlType.{SqlType}
 use Rattle.driver_loop.specs.Drivers.{DriverState}
 use Rattle.plan_layout.specs.Pipes.{PipeForm, table}
-use Rattle.plan_runs.specs.Spreads.{Tables}
-use Rattle.driver_nets.specs.Nets.{AreDriversOf, NetForm}
+use Rattle.plan_run_laws.specs.Spreads.{Tables}
+use Rattle.driver_net_laws.specs.Nets.{AreDriversOf, NetForm}
 use Rattle.net_making.specs.Slots.{IsNew}
 
 -- they are those of a layout over tables that are read in splits of a size, and new. The claims of a table have a seat for each
 -- driver of its pipe, and one also where there is no driver
-pub record IsNetOf (layout : List PipeForm) (tables : Tables) (split : ℕ) (drivers : List DriverState) : Type 0 where
+pub record IsNewNetOf (layout : List PipeForm) (tables : Tables) (split : ℕ) (drivers : List DriverState) : Type 0 where
   pub net : NetForm
   pub of : net.layout ≡ layout
   pub over : net.tables ≡ tables

@@ -1,7 +1,7 @@
 //! The drivers of a laid out plan, made from its layout and the seats of what they share.
 //!
 //! `drivers_of` promises: there is a net of the layout over the tables of which these are all drivers, each at its number
-//! and with the parts of its pipe in its task (`AreDriversOf` of `driver_nets`), and no turn of any was over. It asks that
+//! and with the parts of its pipe in its task (`AreDriversOf` of `driver_net_laws`), and no turn of any was over. It asks that
 //! expressions, calls and sources of the layout fit whatever types its pipes have (`LayoutFits`), and that the wiring was
 //! made for it and no seat was handed out.
 //!
@@ -12,7 +12,7 @@
 //! - `making`: `Making`, what all drivers are made of (`specs/Makings.antt`)
 //! - `source`: the source of a driver. `target`: its target
 //! - `driver`: a driver of its parts
-//! - `slots`: `Slots`, drivers by their numbers (`specs/Slots.antt`)
+//! - `slots`: `Slots`, items by their numbers, here drivers (`specs/Slots.antt`)
 //! - `pipes`: the drivers of all pipes
 //! - `cells`: the cells of a wiring
 //! - `nets`: `drivers_of`, the whole (`specs/Nets.antt`)

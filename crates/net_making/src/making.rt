@@ -1,6 +1,5 @@
 //! What the drivers of a layout are made of.
-use pipe_stages::JoinCells;
-use pipe_types::PipeTypes;
+use pipe_stages::{JoinCells, PipeTypes};
 use plan_layout::Pipe;
 use seat_stocks::Lanes;
 use sql_values::Table;

@@ -1,20 +1,20 @@
 //! The drivers of a laid out plan.
 ghost use Rattle.std.specs.Prelude.{◌<◌, ◌≤◌, ℕ, map, IfOk};
 ghost use Rattle.tree_evaluator.specs.Fits.{TablesFit};
-ghost use Rattle.tree_evaluator.specs.Stops.{rows_of};
+ghost use Rattle.tree_evaluator.specs.Stops.{rows_of_table};
 ghost use Rattle.plan_layout.specs.Pipes.{pipe_view};
 ghost use Rattle.plan_wiring.specs.Handed.{AreUnused};
 ghost use Rattle.plan_wiring.specs.Wirings.{IsWiringOf, share_view};
-ghost use Rattle.driver_nets.specs.Makes.{LayoutFits};
-ghost use Rattle.driver_nets.specs.Types.{AreTyped, PipeTypes};
+ghost use Rattle.driver_net_laws.specs.Makes.{LayoutFits};
+ghost use Rattle.driver_net_laws.specs.Types.{PipesAreTyped, PipeTypes};
 ghost use Rattle.net_making.specs.Makings.{AreFew};
-ghost use Rattle.net_making.specs.Nets.{IsNetOf};
+ghost use Rattle.net_making.specs.Nets.{IsNewNetOf};
 
 use crate::cells::cells_of;
 use crate::making::Making;
 use crate::pipes::make_all;
 use driver_loop::Driver;
-use pipe_types::types_of_pipes;
+use pipe_stages::types_of_pipes;
 use plan_layout::Layout;
 use plan_wiring::Wiring;
 use run_ports::Courier;
@@ -35,7 +35,7 @@ pub fn drivers_of<'w, C: Courier>(
     replay: u64,
     courier: &C,
 ) -> Result<Vec<Driver<'w, C>>, Memory>
-    requires fits { (types : ℕ → PipeTypes) → AreTyped (map pipe_view layout.now.pipes.items) types
+    requires fits { (types : ℕ → PipeTypes) → PipesAreTyped (map pipe_view layout.now.pipes.items) types
         → LayoutFits tables.now (map pipe_view layout.now.pipes.items) types }
     requires readable { TablesFit tables.now }
     requires few { AreFew tables.now }
@@ -43,8 +43,8 @@ pub fn drivers_of<'w, C: Courier>(
     requires page { (0 < page) × (page ≤ 8192) }
     requires wired { IsWiringOf (map pipe_view layout.now.pipes.items) tables.now split wiring.old }
     requires unused { AreUnused (map share_view wiring.old.pipes.items) }
-    ensures { IfOk result (λ drivers. IsNetOf (map pipe_view layout.now.pipes.items)
-        (map rows_of tables.now) split drivers.items) }
+    ensures { IfOk result (λ drivers. IsNewNetOf (map pipe_view layout.now.pipes.items)
+        (map rows_of_table tables.now) split drivers.items) }
 {
     let pipes = layout.pipes.as_slice();
     let types = types_of_pipes(alloc, pipes)?;

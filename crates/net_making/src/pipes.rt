@@ -2,7 +2,7 @@
 ghost use Rattle.std.specs.Prelude.{◌≡◌, ◌<◌, ◌+◌, ◌*◌, ℕ, All, Some, map, slice_get, IfOk, OnOk};
 ghost use Rattle.plan_layout.specs.Layouts.{drivers_in};
 ghost use Rattle.plan_layout.specs.Pipes.{pipe_view};
-ghost use Rattle.driver_nets.specs.Nets.{AreDriversOf};
+ghost use Rattle.driver_net_laws.specs.Nets.{AreDriversOf};
 ghost use Rattle.seat_stocks.specs.Stocks.{AreLeft};
 ghost use Rattle.net_making.specs.Makings.{CanMake, InNets, IsStocked, layout_in};
 ghost use Rattle.net_making.specs.Slots.{HasSlot, HaveGrown, IsNew};
@@ -34,7 +34,7 @@ pub(crate) fn make_all<'w, C: Courier>(
     for own in 0..pipes.len() {
         add_pipe(making, &mut stock, own, &pipes[own], &mut slots, courier)?;
     }
-    slots.into_drivers()
+    slots.into_items()
 }
 
 /// How many drivers all pipes have in all tasks.
@@ -53,13 +53,8 @@ fn sum_of(sum: u32, pipe: &Pipe<'_>) -> Result<u32, Memory>
     ensures { IfOk result
         (λ n. n ≡ sum + (pipe_view pipe.now).tasks * (pipe_view pipe.now).drivers) }
 {
-    let Some(own) = pipe.tasks.checked_mul(pipe.drivers) else {
-        return Err(Memory);
-    };
-    match sum.checked_add(own) {
-        Some(sum) => Ok(sum),
-        None => Err(Memory),
-    }
+    let own = pipe.tasks.checked_mul(pipe.drivers).ok_or(Memory)?;
+    sum.checked_add(own).ok_or(Memory)
 }
 
 /// Adds the drivers of the pipe at the place `own`.
@@ -68,7 +63,7 @@ fn add_pipe<'w, C: Courier>(
     stock: &mut Stock<'w>,
     own: usize,
     pipe: &Pipe<'_>,
-    slots: &mut Slots<'w, C>,
+    slots: &mut Slots<Driver<'w, C>>,
     courier: &C,
 ) -> Result<(), Memory>
     requires can { CanMake making.now }
@@ -93,7 +88,7 @@ fn add_task<'w, C: Courier>(
     own: usize,
     pipe: &Pipe<'_>,
     task: u32,
-    slots: &mut Slots<'w, C>,
+    slots: &mut Slots<Driver<'w, C>>,
     courier: &C,
 ) -> Result<(), Memory>
     requires can { CanMake making.now }

@@ -1,36 +1,28 @@
-//! Drivers by their numbers.
+//! What is kept by its number.
 ghost use Rattle.std.specs.Prelude.{◌≡◌, None, Some, map, replicate, slice_get, slice_set, IfOk, OnOk};
 
-use driver_loop::Driver;
-use run_ports::Courier;
 use sql_values::Memory;
 use std::alloc::Global;
 use std::marker::Model;
 
-/// A slot for the driver of each number.
+/// A slot for the item of each number: that items are drivers, of which there is much to know, costs no proof here.
 #[derive(Drop)]
-pub(crate) struct Slots<'w, C: Courier> {
+pub(crate) struct Slots<T> {
     alloc: Global,
-    slots: Vec<Option<Driver<'w, C>>>,
+    slots: Vec<Option<T>>,
 }
 
-impl<'w, C: Courier> Model for Slots<'w, C> {
+impl<T> Model for Slots<T> {
     ghost use Rattle.std.specs.Prelude.{List, Option};
-    ghost use Rattle.driver_loop.specs.Drivers.{DriverState};
 
-    ghost Value = { List (Option DriverState) };
-
-    ghost use Rattle.sql_exprs.specs.contracts.expr.Expr as e;
-    ghost use Rattle.std.specs.Coded.{codes};
-
-    ghost coded = { Prim.hlevel (codes, e.the_row.coded) };
+    ghost Value = { List (Option T) };
 
     ghost view = { λ s. s.slots.items };
 }
 
-impl<'w, C: Courier> Slots<'w, C> {
+impl<T: Drop> Slots<T> {
     /// So many empty ones.
-    pub fn new(alloc: Global, count: u32) -> Result<Slots<'w, C>, Memory>
+    pub fn new(alloc: Global, count: u32) -> Result<Slots<T>, Memory>
         ensures { IfOk result (λ slots. slots ≡ replicate count None) }
     {
         let mut slots = Vec::with_capacity(alloc, count as usize)?;
@@ -41,9 +33,9 @@ impl<'w, C: Courier> Slots<'w, C> {
     }
 
     /// Fills the slot of a number. Where there is none, or it is full, that is answered with want of memory.
-    pub fn put(&mut self, number: u32, driver: Driver<'w, C>) -> Result<(), Memory>
+    pub fn put(&mut self, number: u32, item: T) -> Result<(), Memory>
         ensures empty { OnOk result (slice_get self.old number ≡ Some None) }
-        ensures filled { OnOk result (self.new ≡ slice_set self.old number (Some driver.entry)) }
+        ensures filled { OnOk result (self.new ≡ slice_set self.old number (Some item)) }
     {
         let Some(slot) = self.slots.get_mut(number as usize) else {
             return Err(Memory);
@@ -51,21 +43,21 @@ impl<'w, C: Courier> Slots<'w, C> {
         if slot.is_some() {
             return Err(Memory);
         }
-        *slot = Some(driver);
+        *slot = Some(item);
         Ok(())
     }
 
-    /// The drivers, in the order of their numbers. Where a slot is empty, that is answered with want of memory.
-    pub fn into_drivers(self) -> Result<Vec<Driver<'w, C>>, Memory>
-        ensures { IfOk result (λ drivers. self.entry ≡ map Some drivers.items) }
+    /// The items, in the order of their numbers. Where a slot is empty, that is answered with want of memory.
+    pub fn into_items(self) -> Result<Vec<T>, Memory>
+        ensures { IfOk result (λ items. self ≡ map Some items.items) }
     {
-        let mut drivers = Vec::with_capacity(self.alloc, self.slots.len())?;
+        let mut items = Vec::with_capacity(self.alloc, self.slots.len())?;
         for slot in self.slots {
             match slot {
-                Some(driver) => drivers.push(driver)?,
+                Some(item) => items.push(item)?,
                 None => return Err(Memory),
             }
         }
-        Ok(drivers)
+        Ok(items)
     }
 }

@@ -3,13 +3,13 @@ ghost use Rattle.std.specs.Prelude.{◌≡◌, ◌<◌, ℕ, List, [], length, I
 ghost use Rattle.sql_values.specs.declared.types.SqlType.{SqlType as Kind};
 ghost use Rattle.split_source.specs.Seats.{SeatState};
 ghost use Rattle.split_source.specs.Splits.{split_count};
-ghost use Rattle.page_judges.specs.Typed.{AllFit};
+ghost use Rattle.col_pages.specs.Fits.{AllFit};
 ghost use Rattle.tree_evaluator.specs.Fits.{IsReadFrom};
 ghost use Rattle.plan_layout.specs.Pipes.{edge, fragment, rows, sides, source_view, table};
 ghost use Rattle.plan_wiring.specs.Shares.{rows_at};
 ghost use Rattle.driver_loop.specs.Ends.{rows_taken};
-ghost use Rattle.driver_nets.specs.Makes.{SourceFits};
-ghost use Rattle.driver_nets.specs.Nets.{IsSourceFor, NetForm};
+ghost use Rattle.driver_net_laws.specs.Makes.{SourceFits};
+ghost use Rattle.driver_net_laws.specs.Nets.{IsSourceFor, NetForm};
 ghost use Rattle.seat_stocks.specs.Shelves.{IsOn};
 ghost use Rattle.seat_stocks.specs.Stocks.{AreLeft};
 ghost use Rattle.net_making.specs.Makings.{CanMake, HasSource, InNets, IsStocked, layout_in};

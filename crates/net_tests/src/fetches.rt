@@ -1,5 +1,5 @@
 //! Rows that a driver puts to an edge, one fetches and deals to another edge, and a third takes.
-ghost use Rattle.std.specs.Prelude.{◌≡◌, [], ◌∷◌, All, IfOk, IsOk, IsTrue, false};
+ghost use Rattle.std.specs.Prelude.{◌≡◌, [], ◌∷◌, All, IfOk, IsTrue, false};
 ghost use Rattle.sql_values.specs.ColumnRows.{fits_row};
 ghost use Rattle.sql_values.specs.declared.types.SqlType.TheVariants.{Bigint};
 ghost use Rattle.output_buffer.specs.Seats.{new_gather_put, new_spread_put};
@@ -12,11 +12,12 @@ use driver_loop::{Driver, ResultTarget, RowsSource, Source, Target};
 use futures::task::{Doorbell, Solo};
 use output_buffer::{Gather, GatherPut, GatherTake, Spread, SpreadPut, SpreadTake};
 use row_ops::ValuesOp;
-use sql_values::{Memory, Row, RowList, SqlType, Types, Value};
+use sql_values::{Memory, RowList, SqlType, Types};
 use std::alloc::Global;
 use std::sync::Wait;
 use std::test::Fail;
 use std::thread::Threads;
+use test_fixtures::push_number;
 
 /// How often the courier misses before each reply; then the rows of each driver's result, and its work.
 const CASES: &str = "0|w3 w3 4 5 6 w3
@@ -29,32 +30,13 @@ fn whole(alloc: Global) -> Result<Vec<SqlType>, Memory>
     Ok(Vec::from_array(alloc, [SqlType::Bigint])?)
 }
 
-fn row(alloc: Global, number: i64) -> Result<Row, Memory>
-    ensures { IfOk result (λ r. IsTrue (fits_row (Bigint ∷ []) r)) }
-{
-    let mut values = Vec::new(alloc);
-    values.push(Value::Bigint(number))?;
-    Ok(Row::of(values))
-}
-
-/// Puts a row of this number behind the others.
-#[tactic(auto, using(crate::proofs::RowLemmas::row_more))]
-fn push(alloc: Global, rows: &mut RowList, number: i64) -> Result<(), Memory>
-    requires { All (λ row. IsTrue (fits_row (Bigint ∷ []) row)) rows.old }
-    ensures { IsOk result → All (λ row. IsTrue (fits_row (Bigint ∷ []) row)) rows.new }
-{
-    let row = row(alloc, number)?;
-    rows.push(row)?;
-    Ok(())
-}
-
 fn rows(alloc: Global) -> Result<RowList, Memory>
     ensures { IfOk result (λ rows. All (λ row. IsTrue (fits_row (Bigint ∷ []) row)) rows) }
 {
     let mut rows = RowList::new(alloc);
-    push(alloc, &mut rows, 4)?;
-    push(alloc, &mut rows, 5)?;
-    push(alloc, &mut rows, 6)?;
+    push_number(alloc, &mut rows, 4)?;
+    push_number(alloc, &mut rows, 5)?;
+    push_number(alloc, &mut rows, 6)?;
     Ok(rows)
 }
 

@@ -50,7 +50,7 @@ fn row(alloc: Global, key: i64, number: i64) -> Result<Row, Memory>
 }
 
 /// Puts the row of a word behind the others.
-#[tactic(auto, using(crate::proofs::RowLemmas::row_more))]
+#[tactic(auto, using(test_fixtures::proofs::RowLemmas::row_more))]
 fn push(alloc: Global, rows: &mut RowList, word: &str) -> Result<(), Memory>
     requires { All (λ row. IsTrue (fits_row (Bigint ∷ Bigint ∷ []) row)) rows.old }
     ensures { IsOk result → All (λ row. IsTrue (fits_row (Bigint ∷ Bigint ∷ []) row)) rows.new }

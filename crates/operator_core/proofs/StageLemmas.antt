@@ -4,7 +4,7 @@ use Rattle.sql_values.specs.declared.fail.Fail.{Fail}
 use Rattle.col_pages.specs.Pages.{TypedPage}
 use Rattle.operator_core.specs.declared.operator.Operator.{Ghosts}
 use Rattle.operator_core.specs.Rows.{Row, Coming}
-use Rattle.operator_core.specs.Calls.{IsLawful, Took, Gave, Told, Looked, FailsNow}
+use Rattle.operator_core.specs.Calls.{IsLawful, Took, Gave, WasTold, Looked, FailsNow}
 use Rattle.operator_core.specs.Stages.{Steps, MadeOf, NothingFails}
 
 -- no row is always one that may come
@@ -56,7 +56,7 @@ module _ {S : Type 0} (g : Ghosts S) where
   pub Steps-gave_none : (old new : S) (X Y : List Row) → Gave g old new [] → Steps g old X Y → Steps g new X Y
   Steps-gave_none old new X Y t s = subst (λ (y : List Row). Steps g new X y) (append-nil Y) (Steps-gave old new X Y [] t s)
 
-  pub Steps-told : (old new : S) (X Y : List Row) → Told g old new → Steps g old X Y → Steps g new X Y
+  pub Steps-told : (old new : S) (X Y : List Row) → WasTold g old new → Steps g old X Y → Steps g new X Y
   Steps-told old new X Y t s = record {
     gives = λ Z B coming gives. let z = Coming-told _ Z t.told coming in
         subst (λ (z : List Row). g.may_give (g.as_made new) (X ++ z) (Y ++ B)) (sym z)

@@ -55,7 +55,7 @@ pub record Gave {S : Type 0} (g : Ghosts S) (old new : S) (P : List Row) : Type 
   pub told : g.is_told new ≡ g.is_told old
 
 -- it was told to finish
-pub record Told {S : Type 0} (g : Ghosts S) (old new : S) : Type 0 where
+pub record WasTold {S : Type 0} (g : Ghosts S) (old new : S) : Type 0 where
   pub gives : (B : List Row) → g.may_give new [] B → g.may_give old [] B
   pub fails : (node : ℕ) (kind : Fail) → g.may_still_fail new [] node kind ↔ g.may_still_fail old [] node kind
   pub went : g.knows old ≡ false → (T G : List Row) → g.went old T G → g.went new T G

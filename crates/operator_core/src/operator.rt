@@ -1,7 +1,7 @@
 ghost use Rattle.std.specs.Prelude.{◌≡◌, ℕ, ◌≤◌, List, [], ◌++◌, ◌↔◌, Bool, true, false, None, IfOk, IsOk, MatchOption};
 ghost use Rattle.sql_values.specs.declared.fail.Fail.{Fail as Kind};
 ghost use Rattle.col_pages.specs.Pages.{TypedPage};
-ghost use Rattle.blocked.specs.Counts.{Rose};
+ghost use Rattle.count_laws.specs.Counts.{Rose};
 ghost use Rattle.operator_core.specs.Rows.{Row, Coming};
 ghost use Rattle.operator_core.specs.Answers.{NotMemory, gave, IsFit};
 ghost use Rattle.operator_core.specs.LawGroups.{FullLaws, NoteLaws};
@@ -19,7 +19,7 @@ pub trait Operator {
     ghost may_give: { Self → List Row → List Row → Type 0 };
 
     // A row or a group of what it took in and has not yet judged, or of the rows still to come,
-    // fails so at this node.
+    // fails with this kind at this node.
     ghost may_still_fail: { Self → List Row → ℕ → Kind → Type 0 };
 
     // It may be given this page.

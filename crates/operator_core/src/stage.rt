@@ -1,9 +1,9 @@
 //! The calls of an operator, with what they leave as one fact each.
 ghost use Rattle.std.specs.Prelude.{◌≡◌, ℕ, ◌≤◌, ◌↔◌, [], true, false, None, IfOk, IsOk, MatchOption};
 ghost use Rattle.sql_values.specs.declared.fail.Fail.{Fail as Kind};
-ghost use Rattle.blocked.specs.Counts.{Rose};
+ghost use Rattle.count_laws.specs.Counts.{Rose};
 ghost use Rattle.operator_core.specs.Answers.{NotMemory, gave, IsFit};
-ghost use Rattle.operator_core.specs.Calls.{Took, Gave, Told, Looked, FailsNow};
+ghost use Rattle.operator_core.specs.Calls.{Took, Gave, WasTold, Looked, FailsNow};
 
 use crate::{OpFault, Operator};
 use blocked::{Bells, BlockedOn};
@@ -12,7 +12,7 @@ use sql_values::Memory;
 use std::sync::Wait;
 use std::thread::Threads;
 
-/// `add_input`. After a failure the page counts as taken, and the operator fails so whatever
+/// `add_input`. After a failure the page counts as taken, and the operator fails with this kind whatever
 /// follows.
 pub fn take_in<O: Operator>(op: &mut O, page: Page) -> Result<(), OpFault>
     requires needs { O.needs_input op.old ≡ true }
@@ -24,7 +24,7 @@ pub fn take_in<O: Operator>(op: &mut O, page: Page) -> Result<(), OpFault>
     op.add_input(page)
 }
 
-/// `get_output`. After a failure no row counts as given, and the operator fails so whatever
+/// `get_output`. After a failure no row counts as given, and the operator fails with this kind whatever
 /// follows.
 pub fn give_out<O: Operator>(op: &mut O) -> Result<Option<Page>, OpFault>
     ensures gave { NotMemory result → Gave O.Operator op.old op.new (gave result) }
@@ -40,7 +40,7 @@ pub fn give_out<O: Operator>(op: &mut O) -> Result<Option<Page>, OpFault>
 
 /// `finish`.
 pub fn tell<O: Operator>(op: &mut O)
-    ensures { Told O.Operator op.old op.new }
+    ensures { WasTold O.Operator op.old op.new }
 {
     op.finish();
 }

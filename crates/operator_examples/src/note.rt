@@ -1,5 +1,5 @@
 ghost use Rattle.std.specs.Prelude.{◌≡◌, ◌≤◌, Some, None, IsSome, IfSome, IfNone};
-ghost use Rattle.blocked.specs.Counts.{next_count};
+ghost use Rattle.count_laws.specs.Counts.{next_count};
 
 use blocked::Seen;
 use std::marker::Model;

@@ -6,7 +6,7 @@ use Rattle.sql_values.specs.declared.types.SqlType.{SqlType}
 use Rattle.sql_values.specs.declared.types.SqlType.TheVariants.{Bigint}
 use Rattle.sql_values.specs.declared.value.Value.{Value}
 use Rattle.sql_values.specs.ColumnRows.{fits_row}
-use Rattle.page_judges.specs.Typed.{AllFit}
+use Rattle.col_pages.specs.Fits.{AllFit}
 
 pub fits_types : (types : List SqlType) (row : List Value) → types ≡ Bigint ∷ [] → IsTrue (fits_row (Bigint ∷ []) row) → IsTrue (fits_row types row)
 fits_types types row t fits = rw t fits

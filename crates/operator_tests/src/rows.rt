@@ -2,7 +2,7 @@
 ghost use Rattle.std.specs.Prelude.{◌≡◌, [], ◌∷◌, IfOk, IfSome};
 ghost use Rattle.sql_values.specs.declared.types.SqlType.TheVariants as kind;
 ghost use Rattle.col_pages.specs.Pages.{TypedPage};
-ghost use Rattle.row_ops.specs.RowJudges.{IsOf};
+ghost use Rattle.col_pages.specs.Fits.{IsOfTypes};
 
 use crate::steps::first_wrong;
 use operator_core::Operator;
@@ -57,7 +57,7 @@ fn made(
     predicate: Option<Expr>,
     columns: Vec<Expr>,
 ) -> Result<Option<FilterProject>, Memory>
-    ensures { IfOk result (λ o. IfSome o (λ op. (page : TypedPage) → IsOf types.items page
+    ensures { IfOk result (λ o. IfSome o (λ op. (page : TypedPage) → IsOfTypes types.items page
         → ⟦<FilterProject as Operator>⟧.takes op page)) }
 {
     if !are_typed(alloc, types.as_slice(), &predicate, columns.as_slice())? {
@@ -67,7 +67,7 @@ fn made(
 }
 
 fn operator(alloc: Global, least: i64) -> Result<Option<FilterProject>, Memory>
-    ensures { IfOk result (λ o. IfSome o (λ op. (page : TypedPage) → IsOf (kind.Bigint ∷ []) page
+    ensures { IfOk result (λ o. IfSome o (λ op. (page : TypedPage) → IsOfTypes (kind.Bigint ∷ []) page
         → ⟦<FilterProject as Operator>⟧.takes op page)) }
 {
     let types = whole(alloc)?;

@@ -3,8 +3,7 @@ ghost use Rattle.std.specs.Prelude.{◌≡◌, [], ◌∷◌, IfOk, IsOk, IsTrue
 ghost use Rattle.sql_values.specs.declared.types.SqlType.TheVariants as kind;
 ghost use Rattle.sql_values.specs.ColumnRows.{fits_row};
 ghost use Rattle.col_pages.specs.Pages.{TypedPage};
-ghost use Rattle.page_judges.specs.Typed.{AllFit};
-ghost use Rattle.row_ops.specs.RowJudges.{IsOf};
+ghost use Rattle.col_pages.specs.Fits.{AllFit, IsOfTypes};
 
 use blocked::{Bell, Bells, Due};
 use col_pages::{Page, PageBuilder};
@@ -65,7 +64,7 @@ fn push_word(alloc: Global, builder: &mut PageBuilder, word: &str) -> Result<(),
 
 /// A page of the first eight of these numbers.
 fn page_of(alloc: Global, words: &str) -> Result<Page, Memory>
-    ensures { IfOk result (λ p. IsOf (kind.Bigint ∷ []) p) }
+    ensures { IfOk result (λ p. IsOfTypes (kind.Bigint ∷ []) p) }
 {
     let mut builder = PageBuilder::new(alloc, &[SqlType::Bigint], 8)?;
     for word in words.split(' ') {
@@ -96,8 +95,8 @@ fn text_of(alloc: Global, text: &str) -> Result<String, Memory> {
 
 /// What becomes of a page of these numbers.
 fn put<O: Operator>(alloc: Global, op: &mut O, words: &str) -> Result<String, Memory>
-    requires { (page : TypedPage) → IsOf (kind.Bigint ∷ []) page → O.takes op.old page }
-    ensures { IsOk result → (page : TypedPage) → IsOf (kind.Bigint ∷ []) page → O.takes op.new page }
+    requires { (page : TypedPage) → IsOfTypes (kind.Bigint ∷ []) page → O.takes op.old page }
+    ensures { IsOk result → (page : TypedPage) → IsOfTypes (kind.Bigint ∷ []) page → O.takes op.new page }
 {
     let page = page_of(alloc, words)?;
     if !op.needs_input() {
@@ -112,8 +111,8 @@ fn put<O: Operator>(alloc: Global, op: &mut O, words: &str) -> Result<String, Me
 
 /// What a call of `get_output` answers.
 fn given<O: Operator>(alloc: Global, op: &mut O) -> Result<String, Memory>
-    requires { (page : TypedPage) → IsOf (kind.Bigint ∷ []) page → O.takes op.old page }
-    ensures { IsOk result → (page : TypedPage) → IsOf (kind.Bigint ∷ []) page → O.takes op.new page }
+    requires { (page : TypedPage) → IsOfTypes (kind.Bigint ∷ []) page → O.takes op.old page }
+    ensures { IsOk result → (page : TypedPage) → IsOfTypes (kind.Bigint ∷ []) page → O.takes op.new page }
 {
     match give_out(op) {
         Ok(Some(page)) => rows(alloc, &page),
@@ -129,8 +128,8 @@ fn wait<O: Operator, R: Threads + Wait + Sync>(
     alloc: Global,
     op: &mut O,
 ) -> Result<String, Memory>
-    requires { (page : TypedPage) → IsOf (kind.Bigint ∷ []) page → O.takes op.old page }
-    ensures { IsOk result → (page : TypedPage) → IsOf (kind.Bigint ∷ []) page → O.takes op.new page }
+    requires { (page : TypedPage) → IsOfTypes (kind.Bigint ∷ []) page → O.takes op.old page }
+    ensures { IsOk result → (page : TypedPage) → IsOfTypes (kind.Bigint ∷ []) page → O.takes op.new page }
 {
     let mut bells = Still { alloc };
     match look(op, rt, &mut bells)? {
@@ -146,8 +145,8 @@ fn answer<O: Operator, R: Threads + Wait + Sync>(
     op: &mut O,
     call: &str,
 ) -> Result<String, Memory>
-    requires { (page : TypedPage) → IsOf (kind.Bigint ∷ []) page → O.takes op.old page }
-    ensures { IsOk result → (page : TypedPage) → IsOf (kind.Bigint ∷ []) page → O.takes op.new page }
+    requires { (page : TypedPage) → IsOfTypes (kind.Bigint ∷ []) page → O.takes op.old page }
+    ensures { IsOk result → (page : TypedPage) → IsOfTypes (kind.Bigint ∷ []) page → O.takes op.new page }
 {
     match call {
         "get" => given(alloc, op),
@@ -168,7 +167,7 @@ pub(crate) fn first_wrong<O: Operator, R: Threads + Wait + Sync>(
     op: &mut O,
     lines: &str,
 ) -> Result<u32, Memory>
-    requires { (page : TypedPage) → IsOf (kind.Bigint ∷ []) page → O.takes op.old page }
+    requires { (page : TypedPage) → IsOfTypes (kind.Bigint ∷ []) page → O.takes op.old page }
 {
     let mut number: u32 = 0;
     for line in lines.lines() {

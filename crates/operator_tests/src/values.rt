@@ -2,7 +2,7 @@
 ghost use Rattle.std.specs.Prelude.{◌≡◌, [], ◌∷◌, IfOk, IsOk, IsTrue};
 ghost use Rattle.sql_values.specs.declared.types.SqlType.TheVariants as kind;
 ghost use Rattle.sql_values.specs.ColumnRows.{fits_row};
-ghost use Rattle.page_judges.specs.Typed.{AllFit};
+ghost use Rattle.col_pages.specs.Fits.{AllFit};
 
 use col_pages::Page;
 use operator_core::Operator;

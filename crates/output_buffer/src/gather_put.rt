@@ -2,7 +2,7 @@
 ghost use Rattle.std.specs.Prelude.{◌≡◌, ◌≤◌, All, ◌∷◌, ◌++◌, [], IfOk, IfErr, OnOk, OnErr};
 ghost use Rattle.crossbeam_queue.specs.Fifo.{Held};
 ghost use Rattle.crossbeam_queue.specs.Passes.{view, IsPassOf};
-ghost use Rattle.blocked.specs.Counts.{next_count};
+ghost use Rattle.count_laws.specs.Counts.{next_count};
 ghost use Rattle.output_buffer.specs.Edges.{PagesThenEnds, StoodBeside, end_count, new_putter};
 ghost use Rattle.output_buffer.specs.Seats.{HasOwnNumber, MayPut, edge_of, new_gather_put, view_of_gather_put};
 

@@ -2,7 +2,7 @@
 ghost use Rattle.std.specs.Prelude.{◌≡◌, ◌≤◌, ◌-◌, ◌<◌, ◌∷◌, ◌++◌, [], IfOk, IfErr, OnOk, OnErr};
 ghost use Rattle.crossbeam_queue.specs.Fifo.{Held};
 ghost use Rattle.crossbeam_queue.specs.Passes.{view, IsPassOf};
-ghost use Rattle.blocked.specs.Counts.{next_count};
+ghost use Rattle.count_laws.specs.Counts.{next_count};
 ghost use Rattle.output_buffer.specs.Edges.{PagesThenEnds, StoodBeside, end_count, all_parts, edge_view};
 ghost use Rattle.output_buffer.specs.Seats.{MaySpread, edge_of, new_spread_put, view_of_spread_put};
 

@@ -2,7 +2,7 @@
 ghost use Rattle.std.specs.Prelude.{◌≡◌, ◌≤◌, ◌∷◌, ◌++◌, ◌↔◌, [], IsTrue, IfOk, OnErr};
 ghost use Rattle.crossbeam_queue.specs.Fifo.{Held};
 ghost use Rattle.crossbeam_queue.specs.Passes.{view, IsPassOf};
-ghost use Rattle.blocked.specs.Counts.{next_count};
+ghost use Rattle.count_laws.specs.Counts.{next_count};
 ghost use Rattle.output_buffer.specs.Edges.{StoodBeside, new_taker};
 ghost use Rattle.output_buffer.specs.Seats.{HasTakenEnd, edge_of, new_spread_take, view_of_spread_take};
 

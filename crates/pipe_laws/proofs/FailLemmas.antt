@@ -1,15 +1,15 @@
--- Of pipes of which one failed, the plan's tree may fail so.
+-- Of pipes of which one failed, the plan's tree may fail with this kind.
 use Rattle.std.proofs.Common.{◌≡◌, ◌⊎◌, inl, inr, ℕ, ◌<◌, subst}
 use Rattle.sql_values.specs.declared.fail.Fail.{Fail}
 use Rattle.operator_core.specs.declared.operator.Operator.{Ghosts}
 use Rattle.operator_core.specs.Calls.{IsLawful}
-use Rattle.plan_runs.specs.Faults.{Failed}
-use Rattle.plan_runs.specs.Nets as stage
-use Rattle.plan_runs.specs.RunPlans.{RunPlan, scan, values, remote, filter, project, join, aggregate, aggregate_parts, sort, topn, topn_parts, limit, limit_parts, union}
-use Rattle.plan_runs.specs.Spreads.{Tables}
+use Rattle.plan_run_laws.specs.Faults.{Failed}
+use Rattle.plan_run_laws.specs.Nets as stage
+use Rattle.plan_run_laws.specs.RunPlans.{RunPlan, scan, values, remote, filter, project, join, aggregate, aggregate_parts, sort, topn, topn_parts, limit, limit_parts, union}
+use Rattle.plan_run_laws.specs.Spreads.{Tables}
 use Rattle.stage_meanings.specs.Pipelines.{NodeStage, at_node}
-use Rattle.lane_laws.specs.Lanes.{NeverFails, Noted, notes_of_lanes, other_notes}
-use Rattle.lane_laws.proofs.FailLemmas.{halves_failed, lanes_failed}
+use Rattle.pipe_laws.specs.Lanes.{NeverFails, Noted, notes_of_lanes, other_notes}
+use Rattle.pipe_laws.proofs.LaneFailLemmas.{halves_failed, lanes_failed}
 use Rattle.pipe_laws.specs.Pipes.{HasFailing, IsBelow, IsHalfPipeOf, IsPipeOf, PipeState, Stands, stopped}
 use Rattle.pipe_laws.proofs.StandLemmas.{stops}
 

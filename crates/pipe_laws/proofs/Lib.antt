@@ -1,3 +1,14 @@
+pub mod TreeLemmas
+pub mod FitLemmas
+pub mod SnocLemmas
+pub mod OperatorLemmas
+pub mod FinishLemmas
+pub mod ProbeLemmas
+pub mod LookupLemmas
+pub mod WorkedNets
+pub mod NoteLemmas
+pub mod LaneLemmas
+pub mod LaneFailLemmas
 pub mod StandLemmas
 pub mod OverLemmas
 pub mod FailLemmas

@@ -7,18 +7,18 @@ use Rattle.bag_laws.specs.Laws.{TaskRows}
 use Rattle.bag_laws.specs.Weights.{SameWeights}
 use Rattle.bag_laws.proofs.BagLemmas.{same-from_equal, same-refl, same-sym, same-trans}
 use Rattle.plan_trees.specs.Allowed.{strict}
-use Rattle.plan_runs.specs.Nets.{Below, Lanes, Pipe, Went, WentInto, of_tasks}
-use Rattle.plan_runs.specs.Nets as stage
-use Rattle.plan_runs.specs.RunPlans.{Output, RunPlan, scan, values, remote, filter, project, join, aggregate, aggregate_parts, sort, topn, topn_parts, limit, limit_parts, union}
-use Rattle.plan_runs.specs.Runs.{Passed}
-use Rattle.plan_runs.specs.Spreads.{Tables}
-use Rattle.plan_runs.specs.Stops.{AllSet, Flags, Hop, IsNoted, PassedSoFar, StoppedPipe}
-use Rattle.plan_nets.specs.Stopped.{AgreeWith}
-use Rattle.plan_nets.proofs.TreeLemmas.{in_task}
+use Rattle.plan_run_laws.specs.Nets.{Below, Lanes, Pipe, Went, WentInto, of_tasks}
+use Rattle.plan_run_laws.specs.Nets as stage
+use Rattle.plan_run_laws.specs.RunPlans.{Output, RunPlan, scan, values, remote, filter, project, join, aggregate, aggregate_parts, sort, topn, topn_parts, limit, limit_parts, union}
+use Rattle.plan_run_laws.specs.Runs.{EdgePassed}
+use Rattle.plan_run_laws.specs.Spreads.{Tables}
+use Rattle.plan_run_laws.specs.Stops.{AllSet, Flags, Hop, IsNoted, PassedSoFar, StoppedPipe}
+use Rattle.pipe_laws.specs.Stopped.{AgreeWith}
+use Rattle.pipe_laws.proofs.TreeLemmas.{in_task}
 use Rattle.stage_meanings.specs.Pipelines.{NodeStage, at_node}
-use Rattle.lane_laws.specs.Lanes.{HasNotes, Noted, first_note, other_notes}
-use Rattle.lane_laws.proofs.LaneLemmas.{halves_made, lanes_made}
-use Rattle.lane_laws.proofs.NoteLemmas.{has_others, join_agrees, none_agree}
+use Rattle.pipe_laws.specs.Lanes.{HasNotes, Noted, first_note, other_notes}
+use Rattle.pipe_laws.proofs.LaneLemmas.{halves_made, lanes_made}
+use Rattle.pipe_laws.proofs.NoteLemmas.{has_others, join_agrees, none_agree}
 use Rattle.pipe_laws.specs.Pipes.{AreOver, IsHalfPipeOf, IsPipeOf, PipeState, Stands, stopped}
 
 -- where a hop is over, all that was put was taken
@@ -27,7 +27,7 @@ hop_over {took = took} hop over =
     same-sym (same-trans (same-from_equal (sym (append-nil took))) (subst (λ (left : List Row). SameWeights (took ++ left) _) (hop.all over) hop.some))
 
 passed_all : (output : Output) (m n : ℕ) (p : StoppedPipe) (w : ℕ) (took : Lanes) (ended : Flags) → AllSet n w ended → PassedSoFar output m n p w took ended
-    → Passed output m n (of_tasks p.drivers p.gave) (of_tasks w took)
+    → EdgePassed output m n (of_tasks p.drivers p.gave) (of_tasks w took)
 passed_all output m n p w took ended over passed = λ k lt. hop_over (passed k lt) (λ d less. over k d lt less)
 
 -- the rows that a note knows are those of the pipe that built them

@@ -2,13 +2,13 @@
 use Rattle.std.proofs.Common.{ℕ, [], ◌∷◌, refl}
 use Rattle.operator_core.specs.declared.operator.Operator.{Ghosts}
 use Rattle.operator_core.specs.Calls.{IsLawful}
-use Rattle.plan_runs.specs.Nets as stage
-use Rattle.plan_runs.specs.RunPlans.{RunPlan, scan, values, remote, filter, project, join, aggregate, aggregate_parts, sort, topn, topn_parts, limit, limit_parts, union}
-use Rattle.plan_runs.specs.Spreads.{Tables}
-use Rattle.plan_runs.specs.Stops.{AreOpen, Stops}
+use Rattle.plan_run_laws.specs.Nets as stage
+use Rattle.plan_run_laws.specs.RunPlans.{RunPlan, scan, values, remote, filter, project, join, aggregate, aggregate_parts, sort, topn, topn_parts, limit, limit_parts, union}
+use Rattle.plan_run_laws.specs.Spreads.{Tables}
+use Rattle.plan_run_laws.specs.Stops.{AreOpen, Stops}
 use Rattle.stage_meanings.specs.Pipelines.{NodeStage, at_node}
-use Rattle.lane_laws.specs.Lanes.{Noted, notes_of_lanes, other_notes}
-use Rattle.lane_laws.proofs.LaneLemmas.{halves_open, lanes_open}
+use Rattle.pipe_laws.specs.Lanes.{Noted, notes_of_lanes, other_notes}
+use Rattle.pipe_laws.proofs.LaneLemmas.{halves_open, lanes_open}
 use Rattle.pipe_laws.specs.Pipes.{IsHalfPipeOf, IsPipeOf, PipeState, Stands, stopped}
 
 module _ {S : Type 0} (g : Ghosts S) (laws : IsLawful g) where

@@ -1,1 +1,9 @@
+pub mod Trees
+pub mod Stopped
+pub mod Operators
+pub mod Lookups
+pub mod Lanes
 pub mod Pipes
+pub use Rattle.stage_meanings.specs.Meanings
+pub use Rattle.stage_meanings.specs.Pipelines
+pub use Rattle.stage_meanings.specs.Fits

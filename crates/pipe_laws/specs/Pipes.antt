@@ -7,13 +7,13 @@ use Rattle.operator_core.specs.Stages.{FailsAfter}
 use Rattle.bag_laws.specs.Gather.{gather}
 use Rattle.bag_laws.specs.Weights.{SameWeights}
 use Rattle.plan_trees.specs.Allowed.{scanned}
-use Rattle.plan_runs.specs.Nets.{IsAlone, Lanes, of_tasks}
-use Rattle.plan_runs.specs.Nets as stage
-use Rattle.plan_runs.specs.RunPlans.{RunPlan, scan, values, remote, filter, project, join, aggregate, aggregate_parts, sort, topn, topn_parts, limit, limit_parts, union}
-use Rattle.plan_runs.specs.Spreads.{Tables}
-use Rattle.plan_runs.specs.Stops.{AllSet, Flags, Hop, PassedSoFar, StoppedPipe, TookOf}
+use Rattle.plan_run_laws.specs.Nets.{IsAlone, Lanes, of_tasks}
+use Rattle.plan_run_laws.specs.Nets as stage
+use Rattle.plan_run_laws.specs.RunPlans.{RunPlan, scan, values, remote, filter, project, join, aggregate, aggregate_parts, sort, topn, topn_parts, limit, limit_parts, union}
+use Rattle.plan_run_laws.specs.Spreads.{Tables}
+use Rattle.plan_run_laws.specs.Stops.{AllSet, Flags, Hop, PassedSoFar, StoppedPipe, TookOf}
 use Rattle.stage_meanings.specs.Pipelines.{NodeStage, at_node}
-use Rattle.lane_laws.specs.Lanes.{AreHalved, AreLanes, Noted, first_note, notes_of_lanes, other_notes}
+use Rattle.pipe_laws.specs.Lanes.{AreHalved, AreLanes, Noted, first_note, notes_of_lanes, other_notes}
 
 -- its tasks, its drivers in each, and of each driver what its notes know, its operators, what it took and gave,
 -- whether its source has ended, and whether its last operator is finished
@@ -118,7 +118,7 @@ IsBelow g pipes tables place at n (union id left right) notes (i, j, first, left
 abbrev pub AreOver : {S : Type 0} → (ℕ → PipeState S) → Type 0
 AreOver pipes = (j k d : ℕ) → k < (pipes j).tasks → d < (pipes j).drivers → ((pipes j).ended k d ≡ true) × ((pipes j).done k d ≡ true)
 
--- an operator of a driver of the pipe fails so on what came to it, whatever rows still come
+-- an operator of a driver of the pipe fails with this kind on what came to it, whatever rows still come
 pub record HasFailing {S : Type 0} (g : Ghosts S) (p : PipeState S) (node : ℕ) (kind : Fail) : Type 0 where
   pub task : ℕ
   pub driver : ℕ

@@ -1,2 +1,4 @@
+pub mod EachLemmas
+pub mod TypeLemmas
 pub mod StageLemmas
 pub mod StepLemmas

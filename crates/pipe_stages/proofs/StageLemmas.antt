@@ -3,7 +3,7 @@ use Rattle.std.proofs.Common.{◌≡◌, ◌↔◌, ℕ, List, [], ◌∷◌, ma
 use Rattle.sql_values.specs.declared.types.SqlType.{SqlType}
 use Rattle.sql_values.specs.declared.fail.Fail.{Fail}
 use Rattle.sql_values.specs.declared.order.KeySpec.{KeySpec}
-use Rattle.relations.specs.Sorts.{IsSortOf}
+use Rattle.relation_laws.specs.Sorts.{IsSortOf}
 use Rattle.bag_laws.specs.Firsts.{IsTopOf}
 use Rattle.operator_core.specs.Rows.{Row}
 use Rattle.driver_loop.specs.declared.stage.Stage.{Stage}
@@ -18,9 +18,9 @@ use Rattle.aggregation.specs.contracts.partial.PartialAggOperator.TheImpl.{ghost
 use Rattle.aggregation.specs.Finals.{FinalState}
 use Rattle.aggregation.specs.contracts.final_agg.FinalAggOperator.TheImpl.{ghosts as final_ghosts}
 use Rattle.hash_join.specs.Probing.{ProbeState}
-use Rattle.driver_laws.specs.Cells.{cell_of}
-use Rattle.driver_laws.specs.Stages.{IsStageOf, NeverLearns}
-use Rattle.plan_runs.specs.Nets as stage
+use Rattle.driver_net_laws.specs.Cells.{cell_of}
+use Rattle.driver_net_laws.specs.Stages.{IsStageOf, NeverLearns}
+use Rattle.plan_run_laws.specs.Nets as stage
 use Rattle.row_ops.specs.RowsHeld.{FilterState}
 use Rattle.row_ops.specs.contracts.filter_project.FilterProjectOperator.TheImpl.{ghosts as filter_ghosts}
 use Rattle.row_ops.specs.declared.limit.LimitOp.{LimitOp as LimitState}

@@ -6,21 +6,21 @@ use Rattle.sql_values.specs.declared.types.SqlType.{SqlType}
 use Rattle.sql_values.specs.declared.relational.Call.{Call}
 use Rattle.sql_values.specs.declared.relational.JoinKind.{JoinKind}
 use Rattle.hash_join.specs.Cells.{CellState}
-use Rattle.plan_runs.specs.Nets as stage
+use Rattle.plan_run_laws.specs.Nets as stage
 use Rattle.plan_trees.specs.Layouts.{partial_types}
 use Rattle.plan_trees.specs.declared.tree.Pair.{Pair}
 use Rattle.plan_trees.specs.TreeForms.{pair_view}
 use Rattle.stage_meanings.specs.Pipelines.{at_node}
-use Rattle.driver_laws.specs.Cells.{IsNamed, Names}
-use Rattle.driver_laws.specs.Stages.{IsStageOf, ProbesFor}
+use Rattle.driver_net_laws.specs.Cells.{IsNamed, Names}
+use Rattle.driver_net_laws.specs.Stages.{IsStageOf, ProbesFor}
 use Rattle.driver_loop.specs.declared.stage.Stage.{Stage}
 use Rattle.driver_loop.specs.contracts.stage.StageOperator.TheImpl.{ghosts}
 use Rattle.plan_layout.specs.Pipes.{StepForm, probe, partial}
-use Rattle.driver_nets.specs.Makes.{StepsFit}
-use Rattle.driver_nets.specs.Nets.{AreStagesFor, IsStageFor, NetForm}
-use Rattle.driver_nets.specs.Types.{types_after}
-use Rattle.pipe_types.specs.declared.table.PipeTypes.{PipeTypes}
-use Rattle.pipe_types.specs.Tables.{types_in}
+use Rattle.driver_net_laws.specs.Makes.{StepsFit}
+use Rattle.driver_net_laws.specs.Nets.{AreStagesFor, IsStageFor, NetForm}
+use Rattle.driver_net_laws.specs.Types.{types_after}
+use Rattle.pipe_stages.specs.declared.table.PipeTypes.{PipeTypes}
+use Rattle.pipe_stages.specs.Tables.{types_in}
 use Rattle.pipe_stages.specs.Cells.{HasCells, cell_at}
 
 module _ (table : List PipeTypes) (cells : List (List CellState)) (task : ℕ) (halved : List SqlType) where

@@ -1,8 +1,8 @@
 -- The cells in which joins look, by the place of the pipe that publishes there.
 use Rattle.std.specs.Prelude.{◌≡◌, ℕ, List, [], Option, Some, slice_get, unwrap_or}
 use Rattle.hash_join.specs.Cells.{CellState}
-use Rattle.driver_laws.specs.Cells.{IsNamed}
-use Rattle.driver_nets.specs.Nets.{Links}
+use Rattle.driver_net_laws.specs.Cells.{IsNamed}
+use Rattle.driver_net_laws.specs.Nets.{Links}
 
 -- that of a pipe in a task
 abbrev pub cell_at : List (List CellState) → ℕ → ℕ → Option CellState

@@ -1,8 +1,8 @@
 //! Stages that put rows in order, or leave some out.
 ghost use Rattle.std.specs.Prelude.{◌≡◌, ◌<◌, ◌≤◌, ℕ, length, IfOk};
-ghost use Rattle.plan_runs.specs.Nets.{limit, sort, topn};
+ghost use Rattle.plan_run_laws.specs.Nets.{limit, sort, topn};
 ghost use Rattle.stage_meanings.specs.Pipelines.{at_node};
-ghost use Rattle.driver_laws.specs.Stages.{IsStageOf};
+ghost use Rattle.driver_net_laws.specs.Stages.{IsStageOf};
 
 use driver_loop::Stage;
 use operator_core::Operator;

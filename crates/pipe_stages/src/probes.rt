@@ -1,8 +1,8 @@
 //! Stages that look into cells.
 ghost use Rattle.std.specs.Prelude.{◌≡◌, ◌<◌, ◌≤◌, map, IfOk};
 ghost use Rattle.plan_trees.specs.TreeForms.{pair_view};
-ghost use Rattle.driver_laws.specs.Cells.{IsNamed, Names};
-ghost use Rattle.driver_laws.specs.Stages.{ProbesFor};
+ghost use Rattle.driver_net_laws.specs.Cells.{IsNamed, Names};
+ghost use Rattle.driver_net_laws.specs.Stages.{ProbesFor};
 
 use driver_loop::Stage;
 use hash_join::{LookupCell, ProbeOp};

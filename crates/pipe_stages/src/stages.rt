@@ -1,16 +1,16 @@
 //! The stages of a driver.
 ghost use Rattle.std.specs.Prelude.{◌≡◌, ◌<◌, ◌≤◌, map, IfOk};
 ghost use Rattle.plan_layout.specs.Pipes.{step_view};
-ghost use Rattle.driver_nets.specs.Makes.{StepsFit};
-ghost use Rattle.driver_nets.specs.Nets.{AreStagesFor, NetForm};
-ghost use Rattle.pipe_types.specs.Tables.{types_in};
+ghost use Rattle.driver_net_laws.specs.Makes.{StepsFit};
+ghost use Rattle.driver_net_laws.specs.Nets.{AreStagesFor, NetForm};
+ghost use Rattle.pipe_stages.specs.Tables.{types_in};
 ghost use Rattle.pipe_stages.specs.Cells.{HasCells};
 
 use crate::cells::JoinCells;
 use crate::step::stage_of;
+use crate::{PipeTypes, halved_at, taken_at, types_after};
 use driver_loop::Stage;
 use operator_core::Operator;
-use pipe_types::{PipeTypes, halved_at, taken_at, types_after};
 use plan_layout::PipeStep;
 use plan_trees::copy_types;
 use sql_values::Memory;

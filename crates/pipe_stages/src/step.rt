@@ -1,12 +1,13 @@
 //! The stage of a step.
 ghost use Rattle.std.specs.Prelude.{◌≡◌, ◌<◌, ◌≤◌, IfOk};
 ghost use Rattle.plan_layout.specs.Pipes.{step_view};
-ghost use Rattle.driver_nets.specs.Makes.{StepFits};
-ghost use Rattle.driver_nets.specs.Nets.{IsStageFor, NetForm};
-ghost use Rattle.driver_nets.specs.Types.{types_after};
-ghost use Rattle.pipe_types.specs.Tables.{types_in};
+ghost use Rattle.driver_net_laws.specs.Makes.{StepFits};
+ghost use Rattle.driver_net_laws.specs.Nets.{IsStageFor, NetForm};
+ghost use Rattle.driver_net_laws.specs.Types.{types_after};
+ghost use Rattle.pipe_stages.specs.Tables.{types_in};
 ghost use Rattle.pipe_stages.specs.Cells.{HasCells};
 
+use crate::PipeTypes;
 use crate::cells::JoinCells;
 use crate::groups::{final_stage, partial_stage, single_stage};
 use crate::orders::{limit_stage, sort_stage, topn_stage};
@@ -14,7 +15,6 @@ use crate::probes::probe_stage;
 use crate::rows::{filter_stage, project_stage};
 use driver_loop::Stage;
 use operator_core::Operator;
-use pipe_types::PipeTypes;
 use plan_layout::PipeStep;
 use sql_values::{Memory, SqlType};
 use std::alloc::Global;

@@ -1,6 +1,6 @@
 //! The types of pipes: each line is the fragments of a document, and for each pipe of its layout what it takes, what comes
 //! to its last step, what came to that of the pipe whose rows it reads, and what it gives.
-use pipe_types::{PipeTypes, types_of_pipes};
+use pipe_stages::{PipeTypes, types_of_pipes};
 use plan_docs::{Plan, read_plan_doc};
 use plan_layout::{Layout, Parallelism};
 use serde_json::Value;

@@ -3,8 +3,8 @@
 use Rattle.std.specs.Prelude.{ℕ, List, length, slice_get, Bool, true, false, not, ◌&&◌, ◌==◌, Option, Some, None, option_and_then}
 use Rattle.std.specs.List.{find, list_any}
 use Rattle.serde_json.specs.Data.{Data}
-use Rattle.plan_places.specs.declared.key.Key.TheVariants as key
-use Rattle.plan_places.specs.declared.step.Step.{Step}
+use Rattle.json_paths.specs.declared.key.Key.TheVariants as key
+use Rattle.json_paths.specs.declared.step.Step.{Step}
 use Rattle.plan_grammar.specs.declared.kind.Kind.{Kind}
 use Rattle.plan_grammar.specs.declared.kind.Kind.TheVariants as kind
 use Rattle.plan_grammar.specs.declared.words.OpWord.{OpWord}

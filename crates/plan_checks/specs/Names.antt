@@ -3,9 +3,9 @@ use Rattle.std.specs.Prelude.{ℕ, List, [], ◌∷◌, ◌++◌, codes, slice_g
 use Rattle.std.specs.Option.{is_some}
 use Rattle.std.specs.List.{find, list_any}
 use Rattle.serde_json.specs.Data.{Data}
-use Rattle.plan_places.specs.declared.key.Key.TheVariants as key
-use Rattle.plan_places.specs.declared.step.Step.{Step}
-use Rattle.plan_places.specs.declared.step.Step.TheVariants as step
+use Rattle.json_paths.specs.declared.key.Key.TheVariants as key
+use Rattle.json_paths.specs.declared.step.Step.{Step}
+use Rattle.json_paths.specs.declared.step.Step.TheVariants as step
 use Rattle.plan_grammar.specs.declared.kind.Kind.{Kind}
 use Rattle.plan_grammar.specs.declared.kind.Kind.TheVariants as kind
 use Rattle.plan_grammar.specs.Json.{entries_under, number_of, same_text, text_of, text_under}

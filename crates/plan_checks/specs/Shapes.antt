@@ -5,14 +5,14 @@ use Rattle.std.specs.Option.{is_some}
 use Rattle.std.specs.List.{list_all, position_from}
 use Rattle.serde_json.specs.Data.{Data}
 use Rattle.serde_json.specs.Find.{as_array, as_bool, as_null, as_number, as_str, as_u64}
-use Rattle.plan_places.specs.declared.key.Key.TheVariants as key
-use Rattle.plan_places.specs.declared.step.Step.{Step}
-use Rattle.plan_places.specs.declared.step.Step.TheVariants as step
+use Rattle.json_paths.specs.declared.key.Key.TheVariants as key
+use Rattle.json_paths.specs.declared.step.Step.{Step}
+use Rattle.json_paths.specs.declared.step.Step.TheVariants as step
 use Rattle.plan_grammar.specs.declared.kind.Kind.{Kind}
 use Rattle.plan_grammar.specs.declared.kind.Kind.TheVariants as kind
 use Rattle.plan_grammar.specs.declared.tables.Part.{Part}
 use Rattle.plan_grammar.specs.Grammar.{is_open, is_unknown_op, is_unknown_output, is_unknown_step, parts_of}
-use Rattle.plan_grammar.specs.Json.{entries_count, entries_in, entries_under, has_key, members_count, number_of, same_text, text_of}
+use Rattle.plan_grammar.specs.Json.{entries_count, entries_in, entries_under, has_entry, members_count, number_of, same_text, text_of}
 use Rattle.plan_grammar.specs.Spots.{Spot}
 use Rattle.plan_grammar.specs.Words.{op_named, output_named, step_named}
 use Rattle.plan_checks.specs.declared.shapes.Shape.{Shape}
@@ -78,7 +78,7 @@ shape_of kind.Order = shape.OrderWord
 shape_of kind.Count = shape.Number
 
 abbrev pub has_keys : List Part → Data → Bool
-has_keys parts d = list_all (λ part. has_key part.key d) parts
+has_keys parts d = list_all (λ part. has_entry part.key d) parts
 
 -- an object with exactly the keys of its table; each table has a key, so that no other value has
 -- them all. One of no known row may have more.

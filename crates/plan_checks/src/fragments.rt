@@ -5,8 +5,8 @@ ghost use Rattle.plan_grammar.specs.Spots.{spot_of};
 ghost use Rattle.plan_checks.specs.Fragments.{first_mislinked, first_unlinked, fragments_count, is_further, is_mislinked, is_unread, reads, reads_amiss};
 
 use crate::names::part_index;
+use json_paths::Key;
 use plan_grammar::{Kind, Place, entries_under, number_of};
-use plan_places::Key;
 use serde_json::Value;
 
 /// The first id or remote source that is amiss, and after all of them the first fragment that is

@@ -4,14 +4,14 @@ ghost use Rattle.serde_json.specs.View.{view};
 ghost use Rattle.plan_grammar.specs.Spots.{spot_of};
 ghost use Rattle.plan_checks.specs.Halves.{first_alone, input_reads, is_alone, is_half, is_half_alone, is_joined, is_root_path, is_step_kind, joins, root_of};
 ghost use Rattle.plan_grammar.specs.Json.{under};
-ghost use Rattle.plan_places.specs.declared.key.Key.TheVariants as key;
+ghost use Rattle.json_paths.specs.declared.key.Key.TheVariants as key;
 
 use crate::names::part_index;
+use json_paths::Key;
 use plan_grammar::{
     Kind, OpWord, Place, StepWord, entries_under, number_under, op_of, step_named, step_of,
     text_of, text_under,
 };
-use plan_places::Key;
 use serde_json::Value;
 
 /// The first step of a node without its other half.

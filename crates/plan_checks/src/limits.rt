@@ -3,8 +3,8 @@ ghost use Rattle.std.specs.List.{count_by, find};
 ghost use Rattle.plan_grammar.specs.Spots.{spot_of};
 ghost use Rattle.plan_checks.specs.Limits.{bound_of, exceeds, first_beyond, is_beyond, is_crowded, is_filter, is_node, is_within, lacks_work};
 
+use json_paths::Key;
 use plan_grammar::{Kind, Place, entries_count, entries_under, number_of, text_of};
-use plan_places::Key;
 
 /// What limits the value of a place.
 #[derive(Clone, Copy)]

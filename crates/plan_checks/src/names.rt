@@ -2,13 +2,13 @@ ghost use Rattle.std.specs.Prelude.{slice_get, ◌≡◌, [], map, option_map};
 ghost use Rattle.std.specs.List.{find, list_any};
 ghost use Rattle.serde_json.specs.View.{view};
 ghost use Rattle.plan_grammar.specs.Spots.{spot_of};
-ghost use Rattle.plan_places.specs.declared.key.Key.TheVariants as key;
+ghost use Rattle.json_paths.specs.declared.key.Key.TheVariants as key;
 ghost use Rattle.plan_grammar.specs.Json.{entries_under};
 ghost use Rattle.plan_checks.specs.Names.{columns_before, columns_of, first_misnamed, has_name, is_aggregate, is_call, is_misnamed, names_table, numbers_filter, numbers_node, part_index, scan_has, step_index, table_named};
 
 use crate::types::is_type;
+use json_paths::{Key, Step};
 use plan_grammar::{Kind, Place, entries_under, number_of, text_of, text_under};
-use plan_places::{Key, Step};
 use serde_json::Value;
 
 /// The first place whose name nothing has, or whose name or id a place before it has too.

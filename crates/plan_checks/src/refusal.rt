@@ -2,7 +2,7 @@ ghost use Rattle.std.specs.Prelude.{◌≡◌, ◌≤◌, map, None, Some, optio
 ghost use Rattle.serde_json.specs.Data.{depth};
 ghost use Rattle.serde_json.specs.View.{view};
 ghost use Rattle.plan_grammar.specs.Spots.{spot_of};
-ghost use Rattle.plan_places.specs.Places.{pointer_text};
+ghost use Rattle.json_paths.specs.Places.{pointer_text};
 ghost use Rattle.plan_checks.specs.Documents.{RefusedAs, first_malformed, first_refused, first_unjoined, refusal as refusal_text, refusal_of};
 ghost use Rattle.plan_checks.specs.Shapes.{fault_path};
 
@@ -12,8 +12,8 @@ use crate::halves::first_alone;
 use crate::limits::first_beyond;
 use crate::names::first_misnamed;
 use crate::shapes::{fault_path, first_misshapen};
+use json_paths::pointer_of;
 use plan_grammar::{Place, places_of};
-use plan_places::pointer_of;
 use serde_json::Value;
 use sql_values::{Memory, Text};
 use std::alloc::Global;

@@ -4,12 +4,12 @@ ghost use Rattle.serde_json.specs.View.{view};
 ghost use Rattle.plan_grammar.specs.Spots.{spot_of};
 ghost use Rattle.plan_checks.specs.Shapes.{bad_cell, cell_steps, fault_path, has_keys, has_shape, index_steps, is_cell, is_flag, is_join_kind, is_list, is_misshapen, is_number, is_order, is_placement, is_row, is_text, is_whole, is_wide, row_width, shape_of};
 
+use json_paths::{Key, Step};
 use plan_grammar::{
     Kind, OpWord, OutputWord, Part, Place, StepWord, entries_count, entries_in, entries_under,
-    has_key, is_open, members_count, number_of, op_named, output_named, parts_of, step_named,
+    has_entry, is_open, members_count, number_of, op_named, output_named, parts_of, step_named,
     text_of,
 };
-use plan_places::{Key, Step};
 use serde_json::Value;
 use sql_values::Memory;
 use std::alloc::Global;
@@ -152,7 +152,7 @@ fn has_keys(parts: &[Part], object: &Value) -> bool
     ensures { result ≡ has_keys parts.now (view object.now) }
 {
     for part in parts {
-        if !has_key(object, part.key) {
+        if !has_entry(object, part.key) {
             return false;
         }
     }

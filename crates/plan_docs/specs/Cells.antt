@@ -28,8 +28,8 @@ abbrev pub cells_from : List SqlType → ℕ → List Data → List Value
 cells_from types i [] = []
 cells_from types i (d ∷ ds) = cell_of (type_at types i) d ∷ cells_from types (i + 1) ds
 
-abbrev pub row_of : List SqlType → Data → List Value
-row_of types d = cells_from types 0 (entries_in d)
+abbrev pub row_of_entries : List SqlType → Data → List Value
+row_of_entries types d = cells_from types 0 (entries_in d)
 
-abbrev pub rows_of : List SqlType → List Data → List (List Value)
-rows_of types ds = map (row_of types) ds
+abbrev pub rows_of_node : List SqlType → List Data → List (List Value)
+rows_of_node types ds = map (row_of_entries types) ds

@@ -1,7 +1,7 @@
 -- The plan that a document means.
 use Rattle.std.specs.Prelude.{map, Option, Some, None}
 use Rattle.serde_json.specs.Data.{Data}
-use Rattle.plan_places.specs.declared.key.Key.TheVariants as key
+use Rattle.json_paths.specs.declared.key.Key.TheVariants as key
 use Rattle.plan_grammar.specs.declared.words.OutputWord.{OutputWord}
 use Rattle.plan_grammar.specs.declared.words.OutputWord.TheVariants as word
 use Rattle.plan_grammar.specs.Json.{entries_under, text_under, under}

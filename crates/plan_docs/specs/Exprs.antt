@@ -5,8 +5,8 @@ use Rattle.sql_values.specs.declared.types.SqlType.{SqlType}
 use Rattle.sql_values.specs.declared.value.Value.TheVariants as value
 use Rattle.sql_values.specs.Texts.{value_of_text}
 use Rattle.sql_exprs.specs.Forms.{Form, column, literal, null, call, cast, choice, forms_of, choices_of}
-use Rattle.plan_places.specs.declared.key.Key.{Key}
-use Rattle.plan_places.specs.declared.key.Key.TheVariants as key
+use Rattle.json_paths.specs.declared.key.Key.{Key}
+use Rattle.json_paths.specs.declared.key.Key.TheVariants as key
 use Rattle.plan_grammar.specs.declared.words.FormWord.{FormWord}
 use Rattle.plan_grammar.specs.declared.words.FormWord.TheVariants as word
 use Rattle.plan_grammar.specs.Json.{entries_under, text_under, under}

@@ -4,7 +4,7 @@ use Rattle.std.specs.List.{find}
 use Rattle.serde_json.specs.Data.{Data}
 use Rattle.sql_values.specs.declared.types.SqlType.{SqlType}
 use Rattle.sql_values.specs.declared.types.SqlType.TheVariants as kind
-use Rattle.plan_places.specs.declared.key.Key.TheVariants as key
+use Rattle.json_paths.specs.declared.key.Key.TheVariants as key
 use Rattle.plan_grammar.specs.Json.{entries_under, same_text, text_of, text_under}
 use Rattle.plan_docs.specs.Words.{small, type_under}
 
@@ -42,5 +42,5 @@ column_type columns d = type_in (find (has_name (text_of d)) columns)
 abbrev pub places_of : List Data → List Data → List ℕ
 places_of columns names = map (column_place columns) names
 
-abbrev pub types_of : List Data → List Data → List SqlType
-types_of columns names = map (column_type columns) names
+abbrev pub types_named : List Data → List Data → List SqlType
+types_named columns names = map (column_type columns) names

@@ -5,18 +5,18 @@ use Rattle.sql_values.specs.declared.types.Column.{Column}
 use Rattle.sql_values.specs.declared.types.SqlType.{SqlType}
 use Rattle.sql_values.specs.declared.relational.Call.{Call}
 use Rattle.sql_values.specs.declared.order.KeySpec.{KeySpec}
-use Rattle.plan_places.specs.declared.key.Key.TheVariants as key
+use Rattle.json_paths.specs.declared.key.Key.TheVariants as key
 use Rattle.plan_grammar.specs.Json.{entries_in, text_of, text_under}
 use Rattle.plan_docs.specs.declared.node.DynamicFilter.{DynamicFilter}
 use Rattle.plan_trees.specs.declared.tree.Pair.{Pair}
 use Rattle.plan_docs.specs.Words.{aggregate_named, order_named, small_number, small_under, truth_under, type_of, type_under}
 
-abbrev pub number_in : Option Data → ℕ
-number_in None = 0
-number_in (Some d) = small_number d
+abbrev pub number_from : Option Data → ℕ
+number_from None = 0
+number_from (Some d) = small_number d
 
 abbrev pub number_at : ℕ → List Data → ℕ
-number_at i ds = number_in (slice_get ds i)
+number_at i ds = number_from (slice_get ds i)
 
 abbrev pub pair_of : Data → Pair
 pair_of d = record { left = number_at 0 (entries_in d); right = number_at 1 (entries_in d) }

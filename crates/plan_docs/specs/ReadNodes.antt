@@ -2,17 +2,17 @@
 use Rattle.std.specs.Prelude.{ℕ, zero, suc, List, [], map, Option, Some, None}
 use Rattle.serde_json.specs.Data.{Data}
 use Rattle.sql_values.specs.declared.types.SqlType.{SqlType}
-use Rattle.plan_places.specs.declared.key.Key.{Key}
-use Rattle.plan_places.specs.declared.key.Key.TheVariants as key
+use Rattle.json_paths.specs.declared.key.Key.{Key}
+use Rattle.json_paths.specs.declared.key.Key.TheVariants as key
 use Rattle.plan_grammar.specs.declared.words.OpWord.{OpWord}
 use Rattle.plan_grammar.specs.declared.words.OpWord.TheVariants as op
 use Rattle.plan_grammar.specs.declared.words.StepWord.{StepWord}
 use Rattle.plan_grammar.specs.declared.words.StepWord.TheVariants as word
 use Rattle.plan_grammar.specs.Json.{entries_under, text_under, under}
 use Rattle.plan_grammar.specs.Words.{op_of, step_of}
-use Rattle.plan_docs.specs.Cells.{rows_of}
+use Rattle.plan_docs.specs.Cells.{rows_of_node}
 use Rattle.plan_docs.specs.Exprs.{expr_form, expr_under}
-use Rattle.plan_docs.specs.Names.{places_of, scanned_columns, table_of, types_of}
+use Rattle.plan_docs.specs.Names.{places_of, scanned_columns, table_of, types_named}
 use Rattle.plan_docs.specs.Nodes.{NodeForm, scan, values, remote, filter, project, join, aggregate, aggregate_final, sort, top_n, top_n_final, limit, limit_final, union}
 use Rattle.plan_docs.specs.Parts.{calls_of, filters_of, kinds_of, numbers_of, pairs_of, sort_keys_of}
 use Rattle.plan_docs.specs.Words.{half_of, join_named, small, small_under}
@@ -28,10 +28,10 @@ abbrev pub scan_of : Data → Data → NodeForm
 scan_of document d =
     scan (id_of d) (small (table_of document d))
     (places_of (scanned_columns document d) (entries_under key.Columns d))
-    (types_of (scanned_columns document d) (entries_under key.Columns d))
+    (types_named (scanned_columns document d) (entries_under key.Columns d))
 
 abbrev pub values_with : List SqlType → Data → NodeForm
-values_with types d = values (id_of d) types (rows_of types (entries_under key.Rows d))
+values_with types d = values (id_of d) types (rows_of_node types (entries_under key.Rows d))
 
 abbrev pub values_of : Data → NodeForm
 values_of d = values_with (kinds_of (entries_under key.Types d)) d
@@ -45,8 +45,8 @@ filter_of d input = filter (id_of d) (expr_under key.Predicate d) input
 abbrev pub project_of : Data → NodeForm → NodeForm
 project_of d input = project (id_of d) (map expr_form (entries_under key.Columns d)) input
 
-abbrev pub join_of : Data → NodeForm → NodeForm → NodeForm
-join_of d left right =
+abbrev pub join_node : Data → NodeForm → NodeForm → NodeForm
+join_node d left right =
     join (id_of d) (join_named (text_under key.Kind d)) (pairs_of (entries_under key.On d)) (filters_of (entries_under key.Filters d)) left right
 
 -- a node of step FINAL, and one of another step
@@ -82,7 +82,7 @@ node_by inner document d op.Values = values_of d
 node_by inner document d op.Remote = remote_of d
 node_by inner document d op.Filter = filter_of d (inner_under inner key.Input d)
 node_by inner document d op.Project = project_of d (inner_under inner key.Input d)
-node_by inner document d op.Join = join_of d (inner_under inner key.Left d) (inner_under inner key.Right d)
+node_by inner document d op.Join = join_node d (inner_under inner key.Left d) (inner_under inner key.Right d)
 node_by inner document d op.Aggregate = aggregate_of (step_of d) d (inner_under inner key.Input d)
 node_by inner document d op.Sort = sort_of d (inner_under inner key.Input d)
 node_by inner document d op.TopN = top_n_of (step_of d) d (inner_under inner key.Input d)

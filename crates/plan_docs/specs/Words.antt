@@ -14,7 +14,7 @@ use Rattle.sql_values.specs.declared.order.Order.TheVariants as order
 use Rattle.sql_values.specs.TypeTexts.{type_of_text}
 use Rattle.sql_functions.specs.declared.name.CallName.{CallName}
 use Rattle.sql_functions.specs.declared.name.CallName.TheVariants as name
-use Rattle.plan_places.specs.declared.key.Key.{Key}
+use Rattle.json_paths.specs.declared.key.Key.{Key}
 use Rattle.plan_grammar.specs.declared.words.StepWord.{StepWord}
 use Rattle.plan_grammar.specs.declared.words.StepWord.TheVariants as word
 use Rattle.plan_grammar.specs.Json.{number_of, number_under, same_text, text_of, text_under, under}

@@ -1,7 +1,7 @@
 ghost use Rattle.std.specs.Prelude.{◌≡◌, map, IfOk};
 ghost use Rattle.serde_json.specs.View.{view};
 ghost use Rattle.sql_functions.specs.CallTypes.{type_at};
-ghost use Rattle.plan_docs.specs.Cells.{cell_of, cells_from, misfit, row_of, rows_of};
+ghost use Rattle.plan_docs.specs.Cells.{cell_of, cells_from, misfit, row_of_entries, rows_of_node};
 
 use plan_grammar::entries_in;
 use serde_json::Value;
@@ -52,14 +52,14 @@ fn read_cells(alloc: Global, types: &[SqlType], entries: &[Value]) -> Result<Vec
 }
 
 fn read_row(alloc: Global, types: &[SqlType], row: &Value) -> Result<Row, Memory>
-    ensures { IfOk result (λ r. r ≡ row_of types.now (view row.now)) }
+    ensures { IfOk result (λ r. r ≡ row_of_entries types.now (view row.now)) }
 {
     Ok(Row::of(read_cells(alloc, types, entries_in(row))?))
 }
 
 /// The rows that the entries of a list write, with a cell of each type.
 pub fn read_rows(alloc: Global, types: &[SqlType], entries: &[Value]) -> Result<RowList, Memory>
-    ensures { IfOk result (λ rs. rs ≡ rows_of types.now (map view entries.now)) }
+    ensures { IfOk result (λ rs. rs ≡ rows_of_node types.now (map view entries.now)) }
 {
     let mut rows = RowList::of_types(alloc, types)?;
     for entry in entries {

@@ -6,8 +6,8 @@ ghost use Rattle.plan_grammar.specs.Words.{form_of};
 ghost use Rattle.plan_docs.specs.Exprs.{branch_by, expr_form, expr_under, form_at, form_by, inner_form, literal_of, missing};
 
 use crate::words::{call_named, small_under, type_under};
+use json_paths::Key;
 use plan_grammar::{FormWord, entries_under, form_of, text_under};
-use plan_places::Key;
 use serde_json::Value;
 use sql_exprs::{Branch, BranchList, Expr, ExprList};
 use sql_values::{Memory, ParseFault, SqlType, Value as Cell, parse_value};

@@ -1,15 +1,15 @@
 ghost use Rattle.std.specs.Prelude.{◌≡◌, IfOk};
 ghost use Rattle.serde_json.specs.View.{view};
 ghost use Rattle.plan_docs.specs.Nodes.{node_view};
-ghost use Rattle.plan_docs.specs.ReadNodes.{aggregate_of, filter_of, join_of, limit_of, project_of, sort_of, top_n_of, union_of};
+ghost use Rattle.plan_docs.specs.ReadNodes.{aggregate_of, filter_of, join_node, limit_of, project_of, sort_of, top_n_of, union_of};
 
 use crate::exprs::{expr_under, read_all};
 use crate::leaves::id_of;
 use crate::node::Node;
 use crate::parts::{calls_of, filters_of, numbers_of, pairs_of, sort_keys_of};
 use crate::words::{half_of, join_named, small_under};
+use json_paths::Key;
 use plan_grammar::{StepWord, entries_under, text_under};
-use plan_places::Key;
 use serde_json::Value;
 use sql_values::Memory;
 use std::alloc::Global;
@@ -34,14 +34,14 @@ pub fn project_of(alloc: Global, node: &Value, input: Box<Node>) -> Result<Node,
     })
 }
 
-pub fn join_of(
+pub fn join_node(
     alloc: Global,
     node: &Value,
     left: Box<Node>,
     right: Box<Node>,
 ) -> Result<Node, Memory>
     ensures { IfOk result (λ n. node_view n
-        ≡ join_of (view node.now) (node_view left.value) (node_view right.value)) }
+        ≡ join_node (view node.now) (node_view left.value) (node_view right.value)) }
 {
     Ok(Node::Join {
         id: id_of(node),

@@ -4,12 +4,12 @@ ghost use Rattle.plan_docs.specs.Nodes.{node_view};
 ghost use Rattle.plan_docs.specs.ReadNodes.{id_of, nothing, remote_of, scan_of, values_of};
 
 use crate::cells::read_rows;
-use crate::names::{places_of, scanned_columns, table_of, types_of};
+use crate::names::{places_of, scanned_columns, table_of, types_named};
 use crate::node::Node;
 use crate::parts::kinds_of;
 use crate::words::{small, small_under};
+use json_paths::Key;
 use plan_grammar::entries_under;
-use plan_places::Key;
 use serde_json::Value;
 use sql_values::{Memory, RowList, Types};
 use std::alloc::Global;
@@ -40,7 +40,7 @@ pub fn read_scan(alloc: Global, document: &Value, node: &Value) -> Result<Node, 
         id: id_of(node),
         table: small(table_of(document, node) as u64),
         columns: places_of(alloc, columns, names)?,
-        types: types_of(alloc, columns, names)?,
+        types: types_named(alloc, columns, names)?,
     })
 }
 

@@ -1,11 +1,11 @@
 ghost use Rattle.std.specs.Prelude.{◌≡◌, map, option_map, IfOk};
 ghost use Rattle.std.specs.List.{find};
 ghost use Rattle.serde_json.specs.View.{view};
-ghost use Rattle.plan_docs.specs.Names.{column_place, column_type, has_name, place_named, places_of, scanned_columns, table_of, types_of};
+ghost use Rattle.plan_docs.specs.Names.{column_place, column_type, has_name, place_named, places_of, scanned_columns, table_of, types_named};
 
 use crate::words::{small, type_under};
+use json_paths::Key;
 use plan_grammar::{entries_under, text_of, text_under};
-use plan_places::Key;
 use serde_json::Value;
 use sql_values::{Memory, Places, SqlType, Types};
 use std::alloc::Global;
@@ -90,8 +90,8 @@ pub fn places_of(alloc: Global, columns: &[Value], names: &[Value]) -> Result<Pl
 }
 
 /// The types of the columns with these names.
-pub fn types_of(alloc: Global, columns: &[Value], names: &[Value]) -> Result<Types, Memory>
-    ensures { IfOk result (λ ts. ts ≡ types_of (map view columns.now) (map view names.now)) }
+pub fn types_named(alloc: Global, columns: &[Value], names: &[Value]) -> Result<Types, Memory>
+    ensures { IfOk result (λ ts. ts ≡ types_named (map view columns.now) (map view names.now)) }
 {
     let mut types = Types::new(alloc);
     for name in names {

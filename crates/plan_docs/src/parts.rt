@@ -6,8 +6,8 @@ use crate::node::{DynamicFilter, DynamicFilters};
 use crate::words::{
     aggregate_named, order_named, small_number, small_under, truth_under, type_of, type_under,
 };
+use json_paths::Key;
 use plan_grammar::{entries_in, text_of, text_under};
-use plan_places::Key;
 use plan_trees::{CallList, KeyList, Pair, Pairs};
 use serde_json::Value;
 use sql_values::{Call, Column, Columns, KeySpec, Memory, Names, Places, Text, Types};

@@ -1,6 +1,6 @@
 ghost use Rattle.std.specs.Prelude.{◌≡◌, map, IfOk};
 ghost use Rattle.serde_json.specs.View.{view};
-ghost use Rattle.plan_places.specs.declared.key.Key.TheVariants as key;
+ghost use Rattle.json_paths.specs.declared.key.Key.TheVariants as key;
 ghost use Rattle.plan_grammar.specs.Json.{under};
 ghost use Rattle.plan_docs.specs.Documents.{fragment_of, output_in, plan_of};
 ghost use Rattle.plan_docs.specs.Nodes.{node_view};
@@ -14,8 +14,8 @@ use crate::plan::{Fragment, Fragments, Output, Plan};
 use crate::read_nodes::read_node;
 use crate::tables::read_tables;
 use crate::words::placement_named;
+use json_paths::Key;
 use plan_grammar::{OutputWord, entries_under, output_of, text_under};
-use plan_places::Key;
 use serde_json::Value;
 use sql_values::Memory;
 use std::alloc::Global;

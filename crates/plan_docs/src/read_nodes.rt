@@ -5,12 +5,12 @@ ghost use Rattle.plan_docs.specs.Nodes.{node_view};
 ghost use Rattle.plan_docs.specs.ReadNodes.{inner_under, node_at, node_by, node_form};
 
 use crate::inner::{
-    aggregate_of, filter_of, join_of, limit_of, project_of, sort_of, top_n_of, union_of,
+    aggregate_of, filter_of, join_node, limit_of, project_of, sort_of, top_n_of, union_of,
 };
 use crate::leaves::{nothing, read_remote, read_scan, read_values};
 use crate::node::Node;
+use json_paths::Key;
 use plan_grammar::{OpWord, op_of, step_of};
-use plan_places::Key;
 use serde_json::Value;
 use sql_values::Memory;
 use std::alloc::Global;
@@ -78,7 +78,7 @@ fn read_op(alloc: Global, document: &Value, levels: u32, node: &Value) -> Result
             node,
             read_inner(alloc, document, levels, node, Key::Input)?,
         )),
-        OpWord::Join => join_of(
+        OpWord::Join => join_node(
             alloc,
             node,
             read_inner(alloc, document, levels, node, Key::Left)?,

@@ -4,8 +4,8 @@ ghost use Rattle.plan_docs.specs.Documents.{table_of};
 
 use crate::parts::columns_of;
 use crate::plan::{TableDoc, TableDocs};
+use json_paths::Key;
 use plan_grammar::{entries_under, text_under};
-use plan_places::Key;
 use serde_json::Value;
 use sql_values::{Memory, Text};
 use std::alloc::Global;

@@ -4,8 +4,8 @@ ghost use Rattle.plan_docs.specs.Words.{aggregate_named, call_named, half_of, jo
 
 use crate::node::NodeStep;
 use crate::plan::Placement;
+use json_paths::Key;
 use plan_grammar::{StepWord, number_of, number_under, text_of, text_under};
-use plan_places::Key;
 use serde_json::Value;
 use sql_functions::CallName;
 use sql_values::{Call, JoinKind, Order, SqlType, parse_type};

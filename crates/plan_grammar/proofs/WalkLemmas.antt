@@ -5,12 +5,12 @@ use Rattle.std.specs.Cmp.Lexicographic.{slice_cmp}
 use Rattle.std.specs.List.{flat_map}
 use Rattle.serde_json.specs.Data.{Data, null, boolean, number, string, array, object, Members, no_members, member}
 use Rattle.serde_json.specs.Find.{get_member}
-use Rattle.plan_places.specs.declared.step.Step.{Step}
-use Rattle.plan_places.specs.declared.step.Step.TheVariants as step
-use Rattle.plan_places.specs.Places.{key_text}
+use Rattle.json_paths.specs.declared.step.Step.{Step}
+use Rattle.json_paths.specs.declared.step.Step.TheVariants as step
+use Rattle.json_paths.specs.Places.{key_text}
 use Rattle.plan_grammar.specs.declared.kind.Kind.{Kind}
 use Rattle.plan_grammar.specs.declared.tables.Part.{Part}
-use Rattle.plan_grammar.specs.Grammar.{level_of, parts_of}
+use Rattle.plan_grammar.specs.Grammar.{depth_of, parts_of}
 use Rattle.plan_grammar.specs.Spots.{Spot, inner_spots, member_spots, part_spots, spot, spots}
 
 none_inside : (parts : List Part) → flat_map {X = Part} {A = Spot} (λ part. []) parts ≡ []
@@ -42,6 +42,6 @@ spots_are (string s) path owner kind level = ap (λ rest. spot (string s) path o
 spots_are (array ds) path owner kind level = refl
 spots_are (object ms) path owner kind level =
     ap (λ rest. spot (object ms) path owner kind level ∷ rest)
-    (same_inside (λ part. member_spots ms (key_text part.key) (path ++ step.Key part.key ∷ []) (object ms) part.kind (level_of part.kind level))
+    (same_inside (λ part. member_spots ms (key_text part.key) (path ++ step.Key part.key ∷ []) (object ms) part.kind (depth_of part.kind level))
     (part_spots (spot (object ms) path owner kind level)) (parts_of kind (object ms))
-    (λ part. member_spots-get ms (key_text part.key) (path ++ step.Key part.key ∷ []) (object ms) part.kind (level_of part.kind level)))
+    (λ part. member_spots-get ms (key_text part.key) (path ++ step.Key part.key ∷ []) (object ms) part.kind (depth_of part.kind level)))

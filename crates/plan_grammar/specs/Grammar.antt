@@ -1,7 +1,7 @@
 -- The grammar of the plan document: the keys of an object, the entries of a list.
 use Rattle.std.specs.Prelude.{ℕ, ◌+◌, List, [], ◌==◌, Bool, true, false, if◌then◌else◌}
 use Rattle.serde_json.specs.Data.{Data}
-use Rattle.plan_places.specs.declared.key.Key.TheVariants as key
+use Rattle.json_paths.specs.declared.key.Key.TheVariants as key
 use Rattle.plan_grammar.specs.declared.kind.Kind.{Kind}
 use Rattle.plan_grammar.specs.declared.kind.Kind.TheVariants as kind
 use Rattle.plan_grammar.specs.declared.tables.Part.{Part}
@@ -13,7 +13,7 @@ use Rattle.plan_grammar.specs.declared.words.OutputWord.{OutputWord}
 use Rattle.plan_grammar.specs.declared.words.OutputWord.TheVariants as output
 use Rattle.plan_grammar.specs.declared.words.StepWord.{StepWord}
 use Rattle.plan_grammar.specs.declared.words.StepWord.TheVariants as step
-use Rattle.plan_grammar.specs.Json.{has_key}
+use Rattle.plan_grammar.specs.Json.{has_entry}
 use Rattle.plan_grammar.specs.Tables as table
 use Rattle.plan_grammar.specs.Words.{form_of, is_count_all, op_of, output_of, step_of}
 
@@ -46,7 +46,7 @@ parts_of_node op.Values d = table.values
 parts_of_node op.Remote d = table.remote
 parts_of_node op.Filter d = table.filter
 parts_of_node op.Project d = table.project
-parts_of_node op.Join d = join_parts (has_key key.Filters d)
+parts_of_node op.Join d = join_parts (has_entry key.Filters d)
 parts_of_node op.Aggregate d = aggregate_parts (step_of d)
 parts_of_node op.Sort d = table.sort
 parts_of_node op.TopN d = topn_parts (step_of d)
@@ -153,8 +153,8 @@ element_of kind.SortKeys i = kind.SortKey
 element_of k i = k
 
 -- how many nodes or forms stand above one another, this one among them
-abbrev pub level_of : Kind → ℕ → ℕ
-level_of kind.Node above = above + 1
-level_of kind.Form above = above + 1
-level_of kind.Expression above = 1
-level_of k above = above
+abbrev pub depth_of : Kind → ℕ → ℕ
+depth_of kind.Node above = above + 1
+depth_of kind.Form above = above + 1
+depth_of kind.Expression above = 1
+depth_of k above = above

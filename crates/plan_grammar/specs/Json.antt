@@ -6,8 +6,8 @@ use Rattle.std.specs.Cmp.Lexicographic.{pointwise}
 use Rattle.serde_json.specs.Data.{Data, Items, no_items, item, Members}
 use Rattle.serde_json.specs.Events.{items_len, members_len}
 use Rattle.serde_json.specs.Find.{get, as_array, as_object, as_number, as_str, as_u64}
-use Rattle.plan_places.specs.declared.key.Key.{Key}
-use Rattle.plan_places.specs.Places.{key_text}
+use Rattle.json_paths.specs.declared.key.Key.{Key}
+use Rattle.json_paths.specs.Places.{key_text}
 
 abbrev pub same_text : List ℕ → List ℕ → Bool
 same_text = pointwise nat_eq
@@ -15,8 +15,8 @@ same_text = pointwise nat_eq
 abbrev pub under : Key → Data → Option Data
 under key d = get (key_text key) d
 
-abbrev pub has_key : Key → Data → Bool
-has_key key d = is_some (under key d)
+abbrev pub has_entry : Key → Data → Bool
+has_entry key d = is_some (under key d)
 
 abbrev pub text_of : Data → List ℕ
 text_of d = unwrap_or (as_str d) []

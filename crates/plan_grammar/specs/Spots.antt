@@ -6,15 +6,15 @@ use Rattle.std.specs.List.{flat_map}
 use Rattle.serde_json.specs.Data.{Data, null, boolean, number, string, array, object, Items, no_items, item, Members, no_members, member}
 use Rattle.serde_json.specs.Find.{as_array}
 use Rattle.serde_json.specs.View.{view}
-use Rattle.plan_places.specs.declared.step.Step.{Step}
-use Rattle.plan_places.specs.declared.step.Step.TheVariants as step
-use Rattle.plan_places.specs.Places.{key_text}
+use Rattle.json_paths.specs.declared.step.Step.{Step}
+use Rattle.json_paths.specs.declared.step.Step.TheVariants as step
+use Rattle.json_paths.specs.Places.{key_text}
 use Rattle.plan_grammar.specs.declared.kind.Kind.{Kind}
 use Rattle.plan_grammar.specs.declared.kind.Kind.TheVariants as kind
 use Rattle.plan_grammar.specs.declared.place.Place.{Place}
 use Rattle.plan_grammar.specs.declared.tables.Part.{Part}
 use Rattle.plan_grammar.specs.Json.{under}
-use Rattle.plan_grammar.specs.Grammar.{element_of, has_entries, level_of, parts_of}
+use Rattle.plan_grammar.specs.Grammar.{element_of, has_entries, depth_of, parts_of}
 
 -- a place: the path to it, the nearest object around it, what the grammar asks for there, how many
 -- nodes or forms stand above one another, and the value
@@ -39,14 +39,14 @@ abbrev mutual
       spot (array ds) path owner kind level ∷ (if has_entries kind then item_spots ds path owner kind level 0 else [])
   spots (object ms) path owner kind level =
       spot (object ms) path owner kind level
-      ∷ flat_map (λ part. member_spots ms (key_text part.key) (path ++ step.Key part.key ∷ []) (object ms) part.kind (level_of part.kind level))
+      ∷ flat_map (λ part. member_spots ms (key_text part.key) (path ++ step.Key part.key ∷ []) (object ms) part.kind (depth_of part.kind level))
       (parts_of kind (object ms))
 
   -- the entries of a list from index i on
   pub item_spots : Items → List Step → Data → Kind → ℕ → ℕ → List Spot
   item_spots no_items path owner kind level i = []
   item_spots (item d ds) path owner kind level i =
-      spots d (path ++ step.Index i ∷ []) owner (element_of kind i) (level_of (element_of kind i) level)
+      spots d (path ++ step.Index i ∷ []) owner (element_of kind i) (depth_of (element_of kind i) level)
       ++ item_spots ds path owner kind level (i + 1)
 
   -- the member of that name
@@ -69,7 +69,7 @@ spots_at s = spots s.value s.path s.owner s.kind s.level
 -- the places of what stands under a key of the object at a place
 abbrev pub part_spots : Spot → Part → List Spot
 part_spots s part =
-    unwrap_or (option_map (λ d. spots d (s.path ++ step.Key part.key ∷ []) s.value part.kind (level_of part.kind s.level))
+    unwrap_or (option_map (λ d. spots d (s.path ++ step.Key part.key ∷ []) s.value part.kind (depth_of part.kind s.level))
     (under part.key s.value)) []
 
 abbrev pub inner_of : Option Items → Spot → List Spot

@@ -1,7 +1,7 @@
 -- The objects of the plan document: the keys of each, in the order of the walk, and what stands under them.
 use Rattle.std.specs.Prelude.{List, [], ◌∷◌}
-use Rattle.plan_places.specs.declared.key.Key.{Key}
-use Rattle.plan_places.specs.declared.key.Key.TheVariants as key
+use Rattle.json_paths.specs.declared.key.Key.{Key}
+use Rattle.json_paths.specs.declared.key.Key.TheVariants as key
 use Rattle.plan_grammar.specs.declared.kind.Kind.{Kind}
 use Rattle.plan_grammar.specs.declared.kind.Kind.TheVariants as kind
 use Rattle.plan_grammar.specs.declared.tables.Part.{Part}

@@ -1,7 +1,7 @@
 -- The words that tell one object from another.
 use Rattle.std.specs.Prelude.{ℕ, List, Bool, codes, if◌then◌else◌}
 use Rattle.serde_json.specs.Data.{Data}
-use Rattle.plan_places.specs.declared.key.Key.TheVariants as key
+use Rattle.json_paths.specs.declared.key.Key.TheVariants as key
 use Rattle.plan_grammar.specs.declared.words.FormWord.{FormWord}
 use Rattle.plan_grammar.specs.declared.words.FormWord.TheVariants as form
 use Rattle.plan_grammar.specs.declared.words.OpWord.{OpWord}
@@ -10,7 +10,7 @@ use Rattle.plan_grammar.specs.declared.words.OutputWord.{OutputWord}
 use Rattle.plan_grammar.specs.declared.words.OutputWord.TheVariants as output
 use Rattle.plan_grammar.specs.declared.words.StepWord.{StepWord}
 use Rattle.plan_grammar.specs.declared.words.StepWord.TheVariants as step
-use Rattle.plan_grammar.specs.Json.{has_key, same_text, text_under}
+use Rattle.plan_grammar.specs.Json.{has_entry, same_text, text_under}
 
 abbrev pub op_named : List ℕ → OpWord
 op_named text =
@@ -53,11 +53,11 @@ output_of d = output_named (text_under key.Kind d)
 -- the form of an expression; one with no key of a form lacks `col`
 abbrev pub form_of : Data → FormWord
 form_of d =
-    if has_key key.Lit d then form.Lit
-    else if has_key key.Null d then form.Null
-    else if has_key key.Call d then form.Call
-    else if has_key key.Cast d then form.Cast
-    else if has_key key.Case d then form.Case
+    if has_entry key.Lit d then form.Lit
+    else if has_entry key.Null d then form.Null
+    else if has_entry key.Call d then form.Call
+    else if has_entry key.Cast d then form.Cast
+    else if has_entry key.Case d then form.Case
     else form.Col
 
 -- the aggregate call that has no column

@@ -1,15 +1,15 @@
 ghost use Rattle.std.specs.Prelude.{◌≡◌, ◌+◌, ◌≤◌};
 ghost use Rattle.serde_json.specs.View.{view};
-ghost use Rattle.plan_grammar.specs.Grammar.{aggregate_parts, call_parts, element_of, fragment_at, has_entries, has_steps, is_open, join_parts, level_of, limit_parts, output_parts, parts_of, parts_of_form, parts_of_node, topn_parts};
+ghost use Rattle.plan_grammar.specs.Grammar.{aggregate_parts, call_parts, element_of, fragment_at, has_entries, has_steps, is_open, join_parts, depth_of, limit_parts, output_parts, parts_of, parts_of_form, parts_of_node, topn_parts};
 
 use crate::inner_tables;
-use crate::json::has_key;
+use crate::json::has_entry;
 use crate::kind::Kind;
 use crate::tables::{self, Part};
 use crate::words::{
     FormWord, OpWord, OutputWord, StepWord, form_of, is_count_all, op_of, output_of, step_of,
 };
-use plan_places::Key;
+use json_paths::Key;
 use serde_json::Value;
 
 /// The keys that an object of the kind has, in the order of the walk. Which of several tables it
@@ -53,7 +53,7 @@ fn parts_of_node(op: OpWord, node: &Value) -> &'static [Part]
         OpWord::Remote => &tables::REMOTE,
         OpWord::Filter => &tables::FILTER,
         OpWord::Project => &tables::PROJECT,
-        OpWord::Join => join_parts(has_key(node, Key::Filters)),
+        OpWord::Join => join_parts(has_entry(node, Key::Filters)),
         OpWord::Aggregate => aggregate_parts(step_of(node)),
         OpWord::Sort => &tables::SORT,
         OpWord::TopN => topn_parts(step_of(node)),
@@ -209,9 +209,9 @@ fn fragment_at(index: usize) -> Kind
 }
 
 /// How many nodes or forms stand above one another, this place among them.
-pub fn level_of(kind: Kind, above: u32) -> u32
+pub fn depth_of(kind: Kind, above: u32) -> u32
     requires { above ≤ 1000 }
-    ensures level { result ≡ level_of kind above }
+    ensures level { result ≡ depth_of kind above }
     ensures most { result ≤ above + 1 }
 {
     match kind {

@@ -1,6 +1,6 @@
 use crate::kind::Kind;
 use crate::tables::Part;
-use plan_places::Key;
+use json_paths::Key;
 
 pub static COL: [Part; 1] = [Part {
     key: Key::Col,

@@ -2,13 +2,13 @@ ghost use Rattle.std.specs.Prelude.{◌≡◌, map};
 ghost use Rattle.std.specs.Option.{is_some};
 ghost use Rattle.serde_json.specs.Find.{as_str};
 ghost use Rattle.serde_json.specs.View.{view};
-ghost use Rattle.plan_grammar.specs.Json.{entries_count, entries_in, entries_under, has_key, members_count, number_of, number_under, text_of, text_under};
+ghost use Rattle.plan_grammar.specs.Json.{entries_count, entries_in, entries_under, has_entry, members_count, number_of, number_under, text_of, text_under};
 
-use plan_places::Key;
+use json_paths::Key;
 use serde_json::Value;
 
-pub fn has_key(object: &Value, key: Key) -> bool
-    ensures { result ≡ has_key key (view object.now) }
+pub fn has_entry(object: &Value, key: Key) -> bool
+    ensures { result ≡ has_entry key (view object.now) }
 {
     object.get(key.text()).is_some()
 }

@@ -22,7 +22,7 @@ mod words;
 
 pub use grammar::{element_of, has_entries, is_open, parts_of};
 pub use json::{
-    entries_count, entries_in, entries_under, has_key, is_text, members_count, number_of,
+    entries_count, entries_in, entries_under, has_entry, is_text, members_count, number_of,
     number_under, text_of, text_under,
 };
 pub use kind::Kind;

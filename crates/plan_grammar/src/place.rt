@@ -1,13 +1,13 @@
 ghost use Rattle.std.specs.Prelude.{◌≡◌, [], ◌∷◌, ◌++◌, ◌≤◌, IfOk};
 ghost use Rattle.serde_json.specs.View.{view};
-ghost use Rattle.plan_places.specs.declared.step.Step.TheVariants as step;
-ghost use Rattle.plan_grammar.specs.Grammar.{element_of, level_of};
+ghost use Rattle.json_paths.specs.declared.step.Step.TheVariants as step;
+ghost use Rattle.plan_grammar.specs.Grammar.{element_of, depth_of};
 ghost use Rattle.plan_grammar.specs.Spots.{spot, spot_of};
 
-use crate::grammar::{element_of, level_of};
+use crate::grammar::{depth_of, element_of};
 use crate::kind::Kind;
 use crate::tables::Part;
-use plan_places::{Step, then};
+use json_paths::{Step, then};
 use serde_json::Value;
 use sql_values::Memory;
 use std::alloc::Global;
@@ -41,14 +41,14 @@ impl<'a> Place<'a> {
         requires { self.now.level ≤ 1000 }
         ensures spot { IfOk result (λ p. spot_of p ≡ spot (view entry.now)
             (self.now.path.items ++ step.Index index ∷ []) (view self.now.owner.now)
-            (element_of self.now.kind index) (level_of (element_of self.now.kind index) self.now.level)) }
+            (element_of self.now.kind index) (depth_of (element_of self.now.kind index) self.now.level)) }
     {
         let kind = element_of(self.kind, index);
         Ok(Place {
             path: then(alloc, self.path.as_slice(), Step::Index(index))?,
             owner: self.owner,
             kind,
-            level: level_of(kind, self.level),
+            level: depth_of(kind, self.level),
             value: entry,
         })
     }
@@ -58,13 +58,13 @@ impl<'a> Place<'a> {
         requires { self.now.level ≤ 1000 }
         ensures spot { IfOk result (λ p. spot_of p ≡ spot (view member.now)
             (self.now.path.items ++ step.Key part.key ∷ []) (view self.now.value.now)
-            part.kind (level_of part.kind self.now.level)) }
+            part.kind (depth_of part.kind self.now.level)) }
     {
         Ok(Place {
             path: then(alloc, self.path.as_slice(), Step::Key(part.key))?,
             owner: self.value,
             kind: part.kind,
-            level: level_of(part.kind, self.level),
+            level: depth_of(part.kind, self.level),
             value: member,
         })
     }

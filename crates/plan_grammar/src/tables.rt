@@ -1,5 +1,5 @@
 use crate::kind::Kind;
-use plan_places::Key;
+use json_paths::Key;
 
 /// A key of an object, and what stands under it.
 #[derive(Clone, Copy)]

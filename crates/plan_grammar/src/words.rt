@@ -2,8 +2,8 @@ ghost use Rattle.std.specs.Prelude.{◌≡◌};
 ghost use Rattle.serde_json.specs.View.{view};
 ghost use Rattle.plan_grammar.specs.Words.{form_of, is_count_all, op_named, op_of, output_named, output_of, step_named, step_of};
 
-use crate::json::{has_key, text_under};
-use plan_places::Key;
+use crate::json::{has_entry, text_under};
+use json_paths::Key;
 use serde_json::Value;
 
 /// The word that tells which operator a node is.
@@ -118,15 +118,15 @@ pub fn output_of(output: &Value) -> OutputWord
 pub fn form_of(expression: &Value) -> FormWord
     ensures { result ≡ form_of (view expression.now) }
 {
-    if has_key(expression, Key::Lit) {
+    if has_entry(expression, Key::Lit) {
         FormWord::Lit
-    } else if has_key(expression, Key::Null) {
+    } else if has_entry(expression, Key::Null) {
         FormWord::Null
-    } else if has_key(expression, Key::Call) {
+    } else if has_entry(expression, Key::Call) {
         FormWord::Call
-    } else if has_key(expression, Key::Cast) {
+    } else if has_entry(expression, Key::Cast) {
         FormWord::Cast
-    } else if has_key(expression, Key::Case) {
+    } else if has_entry(expression, Key::Case) {
         FormWord::Case
     } else {
         FormWord::Col

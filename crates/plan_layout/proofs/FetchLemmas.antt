@@ -7,7 +7,7 @@ use Rattle.plan_layout.specs.declared.pipe.Series.{Series}
 use Rattle.plan_layout.specs.Edges.{after, edge_numbers, fetch_of, fetches_of, reads_fragment, target_of}
 use Rattle.plan_layout.specs.Layouts.{driver_numbers, laid, layout_of, numbered, site_of}
 use Rattle.plan_layout.specs.Pipes.{PipeForm}
-use Rattle.plan_layout.specs.Runs.{AreFetched, IsFetched}
+use Rattle.plan_layout.specs.Runs.{AreFetched, HasFetcher}
 use Rattle.plan_layout.specs.Sides.{pipes_of}
 use Rattle.plan_layout.proofs.SideLemmas.{get_left, get_right}
 
@@ -107,7 +107,7 @@ is_below [] k pipe is = absurd cc
 is_below (x ∷ xs) zero pipe is = omega arith
 is_below (x ∷ xs) (suc k) pipe is = omega (arith, is_below xs k pipe is)
 
-still_fetched : (done more : List PipeForm) (at n : ℕ) → IsFetched done at n → IsFetched (done ++ more) at n
+still_fetched : (done more : List PipeForm) (at n : ℕ) → HasFetcher done at n → HasFetcher (done ++ more) at n
 still_fetched done more at n f = record {
   place = f.place;
   pipe = f.pipe;
@@ -126,7 +126,7 @@ module _ (drivers edges : Series) (done own : List PipeForm) (fetched : AreFetch
   abbrev added : List PipeForm
   added = numbered drivers (own ++ fetches)
 
-  own_fetched : (k : ℕ) (pipe : PipeForm) → slice_get own k ≡ Some pipe → reads_fragment pipe.source ≡ true → IsFetched (done ++ added) (length done + k) pipe.tasks
+  own_fetched : (k : ℕ) (pipe : PipeForm) → slice_get own k ≡ Some pipe → reads_fragment pipe.source ≡ true → HasFetcher (done ++ added) (length done + k) pipe.tasks
   own_fetched k pipe is so =
       let f = found edges (length done) own k pipe is so in
       let fetch = fetch_of pipe (length done + k) f.numbers in
@@ -144,17 +144,17 @@ module _ (drivers edges : Series) (done own : List PipeForm) (fetched : AreFetch
 
   new_fetched : (at k : ℕ) (pipe : PipeForm) (n : Numbered (own ++ fetches) k pipe) → at ≡ length done + k → reads_fragment n.bare.source ≡ true
       → (slice_get own k ≡ Some n.bare) ⊎ (j : ℕ) × (k ≡ length own + j) × (slice_get fetches j ≡ Some n.bare)
-      → IsFetched (done ++ added) at pipe.tasks
+      → HasFetcher (done ++ added) at pipe.tasks
   new_fetched at k pipe n place so (inl mine) =
       let tasks : n.bare.tasks ≡ pipe.tasks = sym (ap (λ (p : PipeForm). p.tasks) n.same) in
-      subst (λ (q : ℕ). IsFetched (done ++ added) q pipe.tasks) (sym place)
-      (subst (IsFetched (done ++ added) (length done + k)) tasks (own_fetched k n.bare mine so))
+      subst (λ (q : ℕ). HasFetcher (done ++ added) q pipe.tasks) (sym place)
+      (subst (HasFetcher (done ++ added) (length done + k)) tasks (own_fetched k n.bare mine so))
   new_fetched at k pipe n place so (inr (j, behind, other)) = let not = none_at edges (length done) own j n.bare other in absurd cc
 
   pub more_fetched : AreFetched (done ++ added)
   more_fetched at pipe is so = which (in_either done added at pipe is)
     where
-      which : (slice_get done at ≡ Some pipe) ⊎ (k : ℕ) × (at ≡ length done + k) × (slice_get added k ≡ Some pipe) → IsFetched (done ++ added) at pipe.tasks
+      which : (slice_get done at ≡ Some pipe) ⊎ (k : ℕ) × (at ≡ length done + k) × (slice_get added k ≡ Some pipe) → HasFetcher (done ++ added) at pipe.tasks
       which (inl here) = still_fetched done added at pipe.tasks (fetched at pipe here so)
       which (inr (k, place, there)) =
           let n = of_numbered drivers (own ++ fetches) k pipe there in

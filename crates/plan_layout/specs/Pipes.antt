@@ -65,12 +65,12 @@ pub record PipeForm : Type 0 where
   pub target : TargetForm
 
 -- the number in a task
-abbrev pub number_in : Series → ℕ → ℕ
-number_in s task = s.first + task * s.stride
+abbrev pub number_in_task : Series → ℕ → ℕ
+number_in_task s task = s.first + task * s.stride
 
 -- that of a driver of a pipe
 abbrev pub driver_number : PipeForm → ℕ → ℕ → ℕ
-driver_number pipe task driver = number_in pipe.numbers task + driver
+driver_number pipe task driver = number_in_task pipe.numbers task + driver
 
 abbrev pub source_view : PipeSource → SourceForm
 source_view (Table place columns types) = table place columns.now types.now

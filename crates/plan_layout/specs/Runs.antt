@@ -10,7 +10,7 @@ use Rattle.plan_layout.specs.Edges.{reads_fragment, target_of}
 use Rattle.plan_layout.specs.Pipes.{PipeForm, SourceForm, StepForm, TargetForm, table, rows, sides, fragment, edge, filter, project, probe, sort, top_n, limit, cell, side, takers}
 use Rattle.plan_layout.specs.Layouts.{site_of}
 use Rattle.plan_layout.specs.Sides.{Site, unnumbered}
-use Rattle.plan_layout.specs.Steps.{aggregate_step, drivers_of, final_over}
+use Rattle.plan_layout.specs.Steps.{aggregate_step, drivers_in_task, final_over}
 
 -- a pipe without the numbers of its drivers
 abbrev pub bare : PipeForm → PipeForm
@@ -27,7 +27,7 @@ pub record PipeAt (layout : List PipeForm) (s : Site) (target : TargetForm) (at 
   pub is : slice_get layout at ≡ Some pipe
   pub part : pipe.fragment ≡ s.fragment
   pub tasks : pipe.tasks ≡ s.tasks
-  pub drivers : pipe.drivers ≡ drivers_of s.drivers pipe.source pipe.steps target
+  pub drivers : pipe.drivers ≡ drivers_in_task s.drivers pipe.source pipe.steps target
   pub has : pipe.target ≡ target
   pub below : Below pipe.source pipe.steps
 
@@ -75,7 +75,7 @@ pub record IsLaid (layout : List PipeForm) (p : Parallelism) (fragments : List F
       (Runs (map bare layout) (site_of p fragments number f) (length done) f.root)
 
 -- another pipe fetches for the one at a place, by one driver in each of its tasks, over the edge of these numbers
-pub record IsFetched (layout : List PipeForm) (at n : ℕ) : Type 0 where
+pub record HasFetcher (layout : List PipeForm) (at n : ℕ) : Type 0 where
   pub place : ℕ
   pub pipe : PipeForm
   pub is : slice_get layout place ≡ Some pipe
@@ -88,4 +88,4 @@ pub record IsFetched (layout : List PipeForm) (at n : ℕ) : Type 0 where
 -- so it is for each pipe that reads a fragment
 abbrev pub AreFetched : List PipeForm → Type 0
 AreFetched layout = (at : ℕ) (pipe : PipeForm) → slice_get layout at ≡ Some pipe → reads_fragment pipe.source ≡ true
-    → IsFetched layout at pipe.tasks
+    → HasFetcher layout at pipe.tasks

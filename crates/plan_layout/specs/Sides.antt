@@ -6,7 +6,7 @@ use Rattle.plan_docs.specs.Plans.{FragmentForm, fragment_view}
 use Rattle.plan_layout.specs.declared.pipe.Series.{Series}
 use Rattle.plan_layout.specs.declared.sides.Site as declared
 use Rattle.plan_layout.specs.Pipes.{PipeForm, TargetForm, cell, side}
-use Rattle.plan_layout.specs.Steps.{drivers_of, side_count, source_of, steps_of}
+use Rattle.plan_layout.specs.Steps.{drivers_in_task, side_count, source_of, steps_of}
 
 -- a fragment as it runs: its number among all, its tasks, and the drivers of a pipe in each
 pub record Site : Type 0 where
@@ -32,7 +32,7 @@ abbrev pub pipe_of : Site → ℕ → TargetForm → NodeForm → PipeForm
 pipe_of s next target node = record {
   fragment = s.fragment;
   tasks = s.tasks;
-  drivers = drivers_of s.drivers (source_of node) (steps_of s.fragments next node) target;
+  drivers = drivers_in_task s.drivers (source_of node) (steps_of s.fragments next node) target;
   numbers = unnumbered;
   source = source_of node;
   steps = steps_of s.fragments next node;

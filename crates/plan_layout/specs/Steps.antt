@@ -111,6 +111,6 @@ builds (cell on) = true
 builds target = false
 
 -- so many drivers where several may run it, and else one
-abbrev pub drivers_of : ℕ → SourceForm → List StepForm → TargetForm → ℕ
-drivers_of drivers source steps target =
+abbrev pub drivers_in_task : ℕ → SourceForm → List StepForm → TargetForm → ℕ
+drivers_in_task drivers source steps target =
     if is_shared source && (not (list_any groups_rows steps) && not (builds target)) then drivers else 1

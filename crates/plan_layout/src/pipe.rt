@@ -1,6 +1,6 @@
 //! Pipes.
 ghost use Rattle.std.specs.Prelude.{◌≡◌, IfOk};
-ghost use Rattle.plan_layout.specs.Pipes.{driver_number, number_in, pipe_view};
+ghost use Rattle.plan_layout.specs.Pipes.{driver_number, number_in_task, pipe_view};
 
 use crate::sums::{add, multiply};
 use plan_docs::Output;
@@ -25,7 +25,7 @@ pub struct Series {
 impl Series {
     /// The number in a task.
     pub fn of_task(self, task: u32) -> Result<u32, Memory>
-        ensures { IfOk result (λ n. n ≡ number_in self task) }
+        ensures { IfOk result (λ n. n ≡ number_in_task self task) }
     {
         add(self.first, multiply(task, self.stride)?)
     }

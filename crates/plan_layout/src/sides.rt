@@ -1,11 +1,12 @@
 //! The pipes of one fragment without those that fetch.
-ghost use Rattle.std.specs.Prelude.{◌≡◌, ◌++◌, ◌∷◌, [], map, IfOk, OnOk};
+ghost use Rattle.std.specs.Prelude.{◌≡◌, ◌+◌, ◌++◌, ◌∷◌, [], map, IfOk, OnOk};
 ghost use Rattle.plan_docs.specs.Nodes.{node_view};
 ghost use Rattle.plan_layout.specs.Pipes.{pipe_view, target_view};
 ghost use Rattle.plan_layout.specs.Sides.{pipe_of, pipes_of, sides_of, site_view};
+ghost use Rattle.plan_layout.specs.Steps.{side_count};
 
 use crate::pipe::{Pipe, PipeTarget, Series};
-use crate::steps::{drivers_of, side_count, source_of, steps_of};
+use crate::steps::{drivers_in_task, side_count, source_of, steps_of};
 use crate::sums::sum_of;
 use plan_docs::{Fragment, Node};
 use sql_values::Memory;
@@ -41,7 +42,7 @@ fn pipe_of<'p>(
     Ok(Pipe {
         fragment: site.fragment,
         tasks: site.tasks,
-        drivers: drivers_of(site.drivers, source, steps.as_slice(), target),
+        drivers: drivers_in_task(site.drivers, source, steps.as_slice(), target),
         numbers: UNNUMBERED,
         source,
         steps,
@@ -66,6 +67,13 @@ fn push_pipe<'p>(
     Ok(())
 }
 
+/// The place behind those that begin below a node from the place `next` on.
+fn place_behind(next: usize, node: &Node) -> Result<usize, Memory>
+    ensures { IfOk result (λ place. place ≡ next + side_count (node_view node.now)) }
+{
+    sum_of(next, side_count(node)?)
+}
+
 /// Those that begin below a node of the pipe `own`, from the place `next` on.
 fn push_sides<'p>(
     alloc: Global,
@@ -87,7 +95,7 @@ fn push_sides<'p>(
             right,
             ..
         } => {
-            let at = sum_of(next, side_count(left)?)?;
+            let at = place_behind(next, left)?;
             let below = sum_of(at, 1)?;
             push_sides(alloc, site, pipes, own, next, left)?;
             push_pipe(alloc, site, pipes, below, PipeTarget::Cell(on), right)?;
@@ -95,7 +103,7 @@ fn push_sides<'p>(
         }
         Node::Union { left, right, .. } => {
             let below_left = sum_of(next, 1)?;
-            let at = sum_of(below_left, side_count(left)?)?;
+            let at = place_behind(below_left, left)?;
             let below = sum_of(at, 1)?;
             push_pipe(alloc, site, pipes, below_left, PipeTarget::Side(own), left)?;
             push_sides(alloc, site, pipes, next, below_left, left)?;

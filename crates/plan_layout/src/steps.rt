@@ -4,7 +4,7 @@ ghost use Rattle.std.specs.List.{list_any};
 ghost use Rattle.plan_docs.specs.Nodes.{node_view};
 ghost use Rattle.plan_docs.specs.Plans.{fragment_view};
 ghost use Rattle.plan_layout.specs.Pipes.{probe, source_view, step_view, target_view};
-ghost use Rattle.plan_layout.specs.Steps.{aggregate_step, builds, drivers_of, final_in, final_of, final_over, groups_rows, is_shared, own_steps, side_count, source_of, steps_of};
+ghost use Rattle.plan_layout.specs.Steps.{aggregate_step, builds, drivers_in_task, final_in, final_of, final_over, groups_rows, is_shared, own_steps, side_count, source_of, steps_of};
 
 use crate::pipe::{PipeSource, PipeStep, PipeTarget};
 use crate::sums::sum_of;
@@ -323,14 +323,14 @@ fn builds(target: PipeTarget<'_>) -> bool
 }
 
 /// So many drivers where several may run it, and else one.
-pub fn drivers_of(
+pub fn drivers_in_task(
     drivers: u32,
     source: PipeSource<'_>,
     steps: &[PipeStep<'_>],
     target: PipeTarget<'_>,
 ) -> u32
     ensures { result
-        ≡ drivers_of drivers (source_view source.entry) (map step_view steps.now) (target_view target.entry) }
+        ≡ drivers_in_task drivers (source_view source.entry) (map step_view steps.now) (target_view target.entry) }
 {
     if is_shared(source) && !any_groups_rows(steps) && !builds(target) {
         drivers

@@ -7,28 +7,19 @@ use sql_values::Memory;
 pub fn sum_of(left: usize, right: usize) -> Result<usize, Memory>
     ensures { IfOk result (λ n. n ≡ left + right) }
 {
-    match left.checked_add(right) {
-        Some(sum) => Ok(sum),
-        None => Err(Memory),
-    }
+    left.checked_add(right).ok_or(Memory)
 }
 
 /// The sum. More than 32 bits count is answered with want of memory.
 pub fn add(left: u32, right: u32) -> Result<u32, Memory>
     ensures { IfOk result (λ n. n ≡ left + right) }
 {
-    match left.checked_add(right) {
-        Some(sum) => Ok(sum),
-        None => Err(Memory),
-    }
+    left.checked_add(right).ok_or(Memory)
 }
 
 /// The product. More than 32 bits count is answered with want of memory.
 pub fn multiply(left: u32, right: u32) -> Result<u32, Memory>
     ensures { IfOk result (λ n. n ≡ left * right) }
 {
-    match left.checked_mul(right) {
-        Some(product) => Ok(product),
-        None => Err(Memory),
-    }
+    left.checked_mul(right).ok_or(Memory)
 }

@@ -3,8 +3,8 @@
 use Rattle.std.specs.Prelude.{◌≡◌, ◌⊎◌, ℕ, List, Option, Some, None, Result, Ok, Err}
 use Rattle.std.specs.Option.{option_or}
 use Rattle.serde_json.specs.Data.{Data}
-use Rattle.plan_places.specs.declared.step.Step.{Step}
-use Rattle.plan_places.specs.Places.{pointer_text}
+use Rattle.json_paths.specs.declared.step.Step.{Step}
+use Rattle.json_paths.specs.Places.{pointer_text}
 use Rattle.plan_checks.specs.declared.fault.PlanFault.{PlanFault}
 use Rattle.plan_checks.specs.declared.fault.PlanFault.TheVariants.{Refused, Memory}
 use Rattle.plan_checks.specs.Documents.{IsJson, IsNotJson, refusal_of}

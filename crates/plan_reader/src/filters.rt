@@ -10,8 +10,8 @@ ghost use Rattle.plan_reader.specs.Trees.{node_tree};
 
 use crate::trees::node_tree;
 use column_origins::{Origin, origin_of};
+use json_paths::{Key, Step, then};
 use plan_docs::{DynamicFilter, Fragment, Node, Pair, Plan};
-use plan_places::{Key, Step, then};
 use plan_trees::Tree;
 use plan_types::root_path;
 use sql_exprs::Misfit;

@@ -7,9 +7,9 @@ ghost use Rattle.plan_reader.specs.Filters.{first_misdirected};
 ghost use Rattle.plan_reader.specs.Judgement.{misdirected, misplaced, plan_refusal, refused_at, untyped};
 
 use crate::filters::pass_filters;
+use json_paths::{Step, pointer_of};
 use plan_checks::PlanFault;
 use plan_docs::Plan;
-use plan_places::{Step, pointer_of};
 use plan_spreads::{SpreadFault, spread_plan};
 use plan_types::type_plan;
 use sql_exprs::Misfit;

@@ -1,14 +1,15 @@
 ghost use Rattle.std.specs.Prelude.{◌≡◌, map, IfOk};
 ghost use Rattle.plan_docs.specs.Nodes.{node_view};
 ghost use Rattle.plan_docs.specs.Plans.{fragment_view, plan_view};
-ghost use Rattle.plan_trees.specs.TreeForms.{remote, tree_view};
+ghost use Rattle.sql_exprs.specs.Forms.{form_view};
+ghost use Rattle.plan_trees.specs.TreeForms.{aggregate, filter, join, limit, pair_view, project, remote, scan, sort, topn, tree_view, union, values};
 ghost use Rattle.plan_reader.specs.Trees.{fragment_tree, node_tree, nothing, tree_of, whole, whole_over};
 
 use crate::copies::{copy_exprs, copy_items, copy_rows};
 use plan_docs::{Fragment, Node, Plan};
-use plan_trees::Tree;
-use sql_exprs::copy_expr;
-use sql_values::{Memory, RowList, Types};
+use plan_trees::{Pair, Tree};
+use sql_exprs::{Expr, copy_expr};
+use sql_values::{Call, JoinKind, KeySpec, Memory, RowList, SqlType, Types};
 use std::alloc::Global;
 
 /// What a plan means, as one tree.
@@ -79,17 +80,8 @@ pub fn node_tree(
             table,
             columns,
             types,
-        } => Ok(Tree::Scan {
-            id: *id,
-            table: *table,
-            columns: copy_items(alloc, columns.as_slice())?,
-            types: copy_items(alloc, types.as_slice())?,
-        }),
-        Node::Values { id, types, rows } => Ok(Tree::Values {
-            id: *id,
-            types: copy_items(alloc, types.as_slice())?,
-            rows: copy_rows(alloc, types.as_slice(), rows)?,
-        }),
+        } => scan_tree(alloc, *id, *table, columns.as_slice(), types.as_slice()),
+        Node::Values { id, types, rows } => values_tree(alloc, *id, types.as_slice(), rows),
         Node::Remote { id, fragment } => {
             let read = fragment_tree(alloc, fragments, most, *fragment as usize)?;
             remote(alloc, *id, read)
@@ -98,16 +90,14 @@ pub fn node_tree(
             id,
             predicate,
             input,
-        } => Ok(Tree::Filter {
-            id: *id,
-            predicate: copy_expr(alloc, predicate)?,
-            input: inner(alloc, fragments, most, input)?,
-        }),
-        Node::Project { id, columns, input } => Ok(Tree::Project {
-            id: *id,
-            columns: copy_exprs(alloc, columns.as_slice())?,
-            input: inner(alloc, fragments, most, input)?,
-        }),
+        } => {
+            let input = inner(alloc, fragments, most, input)?;
+            filter_tree(alloc, *id, predicate, input)
+        }
+        Node::Project { id, columns, input } => {
+            let input = inner(alloc, fragments, most, input)?;
+            project_tree(alloc, *id, columns.as_slice(), input)
+        }
         Node::Join {
             id,
             kind,
@@ -115,67 +105,187 @@ pub fn node_tree(
             left,
             right,
             ..
-        } => Ok(Tree::Join {
-            id: *id,
-            kind: *kind,
-            on: copy_items(alloc, on.as_slice())?,
-            left: inner(alloc, fragments, most, left)?,
-            right: inner(alloc, fragments, most, right)?,
-        }),
+        } => {
+            let left = inner(alloc, fragments, most, left)?;
+            let right = inner(alloc, fragments, most, right)?;
+            join_tree(alloc, *id, *kind, on.as_slice(), left, right)
+        }
         Node::Aggregate {
             id,
             keys,
             calls,
             input,
             ..
-        } => Ok(Tree::Aggregate {
-            id: *id,
-            keys: copy_items(alloc, keys.as_slice())?,
-            calls: copy_items(alloc, calls.as_slice())?,
-            input: inner(alloc, fragments, most, input)?,
-        }),
-        Node::AggregateFinal { id, input } => {
-            whole(alloc, *id, node_tree(alloc, fragments, most, input)?)
+        } => {
+            let input = inner(alloc, fragments, most, input)?;
+            aggregate_tree(alloc, *id, keys.as_slice(), calls.as_slice(), input)
         }
-        Node::Sort { id, keys, input } => Ok(Tree::Sort {
-            id: *id,
-            keys: copy_items(alloc, keys.as_slice())?,
-            input: inner(alloc, fragments, most, input)?,
-        }),
+        Node::AggregateFinal { id, input } => {
+            let read = node_tree(alloc, fragments, most, input)?;
+            whole(alloc, *id, read)
+        }
+        Node::Sort { id, keys, input } => {
+            let input = inner(alloc, fragments, most, input)?;
+            sort_tree(alloc, *id, keys.as_slice(), input)
+        }
         Node::TopN {
             id,
             count,
             keys,
             input,
             ..
-        } => Ok(Tree::TopN {
-            id: *id,
-            count: *count,
-            keys: copy_items(alloc, keys.as_slice())?,
-            input: inner(alloc, fragments, most, input)?,
-        }),
+        } => {
+            let input = inner(alloc, fragments, most, input)?;
+            topn_tree(alloc, *id, *count, keys.as_slice(), input)
+        }
         Node::TopNFinal { id, input } => {
-            whole(alloc, *id, node_tree(alloc, fragments, most, input)?)
+            let read = node_tree(alloc, fragments, most, input)?;
+            whole(alloc, *id, read)
         }
         Node::Limit {
             id,
             count,
             input,
             ..
-        } => Ok(Tree::Limit {
-            id: *id,
-            count: *count,
-            input: inner(alloc, fragments, most, input)?,
-        }),
-        Node::LimitFinal { id, input } => {
-            whole(alloc, *id, node_tree(alloc, fragments, most, input)?)
+        } => {
+            let input = inner(alloc, fragments, most, input)?;
+            Ok(limit_tree(*id, *count, input))
         }
-        Node::Union { id, left, right } => Ok(Tree::Union {
-            id: *id,
-            left: inner(alloc, fragments, most, left)?,
-            right: inner(alloc, fragments, most, right)?,
-        }),
+        Node::LimitFinal { id, input } => {
+            let read = node_tree(alloc, fragments, most, input)?;
+            whole(alloc, *id, read)
+        }
+        Node::Union { id, left, right } => {
+            let left = inner(alloc, fragments, most, left)?;
+            let right = inner(alloc, fragments, most, right)?;
+            Ok(union_tree(*id, left, right))
+        }
     }
+}
+
+fn scan_tree(
+    alloc: Global,
+    id: u32,
+    table: u32,
+    columns: &[u32],
+    types: &[SqlType],
+) -> Result<Tree, Memory>
+    ensures { IfOk result (λ t. tree_view t ≡ scan id table columns.now types.now) }
+{
+    let columns = copy_items(alloc, columns)?;
+    let types = copy_items(alloc, types)?;
+    Ok(Tree::Scan {
+        id,
+        table,
+        columns,
+        types,
+    })
+}
+
+fn values_tree(alloc: Global, id: u32, types: &[SqlType], rows: &RowList) -> Result<Tree, Memory>
+    ensures { IfOk result (λ t. tree_view t ≡ values id types.now rows.now) }
+{
+    let rows = copy_rows(alloc, types, rows)?;
+    let types = copy_items(alloc, types)?;
+    Ok(Tree::Values { id, types, rows })
+}
+
+fn filter_tree(alloc: Global, id: u32, predicate: &Expr, input: Box<Tree>) -> Result<Tree, Memory>
+    ensures { IfOk result
+        (λ t. tree_view t ≡ filter id (form_view predicate.now) (tree_view input.value)) }
+{
+    let predicate = copy_expr(alloc, predicate)?;
+    Ok(Tree::Filter {
+        id,
+        predicate,
+        input,
+    })
+}
+
+fn project_tree(alloc: Global, id: u32, columns: &[Expr], input: Box<Tree>) -> Result<Tree, Memory>
+    ensures { IfOk result
+        (λ t. tree_view t ≡ project id (map form_view columns.now) (tree_view input.value)) }
+{
+    let columns = copy_exprs(alloc, columns)?;
+    Ok(Tree::Project { id, columns, input })
+}
+
+fn join_tree(
+    alloc: Global,
+    id: u32,
+    kind: JoinKind,
+    on: &[Pair],
+    left: Box<Tree>,
+    right: Box<Tree>,
+) -> Result<Tree, Memory>
+    ensures { IfOk result (λ t. tree_view t
+        ≡ join id kind (map pair_view on.now) (tree_view left.value) (tree_view right.value)) }
+{
+    let on = copy_items(alloc, on)?;
+    Ok(Tree::Join {
+        id,
+        kind,
+        on,
+        left,
+        right,
+    })
+}
+
+fn aggregate_tree(
+    alloc: Global,
+    id: u32,
+    keys: &[u32],
+    calls: &[Call],
+    input: Box<Tree>,
+) -> Result<Tree, Memory>
+    ensures { IfOk result
+        (λ t. tree_view t ≡ aggregate id keys.now calls.now (tree_view input.value)) }
+{
+    let keys = copy_items(alloc, keys)?;
+    let calls = copy_items(alloc, calls)?;
+    Ok(Tree::Aggregate {
+        id,
+        keys,
+        calls,
+        input,
+    })
+}
+
+fn sort_tree(alloc: Global, id: u32, keys: &[KeySpec], input: Box<Tree>) -> Result<Tree, Memory>
+    ensures { IfOk result (λ t. tree_view t ≡ sort id keys.now (tree_view input.value)) }
+{
+    let keys = copy_items(alloc, keys)?;
+    Ok(Tree::Sort { id, keys, input })
+}
+
+fn topn_tree(
+    alloc: Global,
+    id: u32,
+    count: u32,
+    keys: &[KeySpec],
+    input: Box<Tree>,
+) -> Result<Tree, Memory>
+    ensures { IfOk result (λ t. tree_view t ≡ topn id count keys.now (tree_view input.value)) }
+{
+    let keys = copy_items(alloc, keys)?;
+    Ok(Tree::TopN {
+        id,
+        count,
+        keys,
+        input,
+    })
+}
+
+fn limit_tree(id: u32, count: u32, input: Box<Tree>) -> Tree
+    ensures { tree_view result ≡ limit id count (tree_view input.value) }
+{
+    Tree::Limit { id, count, input }
+}
+
+fn union_tree(id: u32, left: Box<Tree>, right: Box<Tree>) -> Tree
+    ensures { tree_view result ≡ union id (tree_view left.value) (tree_view right.value) }
+{
+    Tree::Union { id, left, right }
 }
 
 fn remote(alloc: Global, id: u32, input: Tree) -> Result<Tree, Memory>

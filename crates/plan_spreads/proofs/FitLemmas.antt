@@ -6,7 +6,7 @@ use Rattle.std.proofs.lemmas.List.Elements.{All-nil}
 use Rattle.sql_values.specs.declared.types.SqlType.{SqlType}
 use Rattle.sql_values.specs.declared.value.Value.{Value}
 use Rattle.sql_functions.specs.CallTypes.{same_type}
-use Rattle.plan_places.specs.declared.key.Key.TheVariants as key
+use Rattle.json_paths.specs.declared.key.Key.TheVariants as key
 use Rattle.sql_exprs.specs.Typing.{Path, typed_then, under}
 use Rattle.sql_exprs.proofs.TypingLemmas.{typed_then_ok}
 use Rattle.plan_docs.specs.Nodes.{NodeForm, scan, values, remote, filter, project, join, aggregate, aggregate_final, sort, top_n, top_n_final, limit, limit_final, union}
@@ -18,8 +18,8 @@ use Rattle.plan_types.specs.Faults.{or_fault}
 use Rattle.plan_types.specs.Nodes.{node_types, same_rows}
 use Rattle.plan_types.specs.Operators.{aggregate_types, filter_types, join_types, project_types, sort_types, union_types}
 use Rattle.plan_types.specs.Plans.{all_types, fragment_types, output_fault, plan_types, result_fault, root_path}
-use Rattle.plan_runs.specs.RunPlans.{RunPlan, tree_of_run}
-use Rattle.plan_runs.specs.RunPlans as run
+use Rattle.plan_run_laws.specs.RunPlans.{RunPlan, tree_of_run}
+use Rattle.plan_run_laws.specs.RunPlans as run
 use Rattle.plan_spreads.specs.declared.spread.RowSpread.{RowSpread}
 use Rattle.plan_spreads.specs.Halves.{AllMeet, Halved, HalvesMeet, Meets, RootMeets, aggregates, top_ns, limits}
 use Rattle.plan_spreads.specs.Plans.{all_spreads, placement_fault, plan_spreads, sources_fault}

@@ -2,7 +2,7 @@
 use Rattle.std.proofs.Common.{◌≡◌, ℕ, ◌-◌, ◌<◌, List, length, Option, Some, None, refl, ap, sym, ◌∙◌, subst}
 use Rattle.std.specs.Prelude.{Result, Ok, Err, if◌then◌else◌}
 use Rattle.std.specs.Option.{ok_or, option_or}
-use Rattle.plan_places.specs.declared.key.Key.TheVariants as key
+use Rattle.json_paths.specs.declared.key.Key.TheVariants as key
 use Rattle.sql_exprs.specs.Typing.{Path, under}
 use Rattle.sql_exprs.proofs.TypingLemmas.{typed_then_ok}
 use Rattle.bag_laws.specs.Buckets.{AllBelow}
@@ -14,10 +14,10 @@ use Rattle.plan_docs.specs.Nodes.{NodeForm, scan, values, remote, filter, projec
 use Rattle.plan_docs.specs.Plans.{FragmentForm}
 use Rattle.plan_types.specs.declared.row_types.RowTypes.{RowTypes}
 use Rattle.plan_types.specs.Nodes.{read_from}
-use Rattle.plan_runs.specs.RunPlans.{RunPlan}
-use Rattle.plan_runs.specs.RunPlans as run
-use Rattle.plan_runs.specs.Spreads as runs
-use Rattle.plan_runs.specs.Placements.{Placed, scan_whole, values_whole, values_every, remote_whole, filter_stays, project_whole, join_whole, aggregate_whole, final_whole, final_by, sort_whole, topn_whole, topn_parts_whole, limit_whole, limit_parts_whole, union_whole}
+use Rattle.plan_run_laws.specs.RunPlans.{RunPlan}
+use Rattle.plan_run_laws.specs.RunPlans as run
+use Rattle.plan_run_laws.specs.Spreads as runs
+use Rattle.plan_run_laws.specs.Placements.{Placed, scan_whole, values_whole, values_every, remote_whole, filter_stays, project_whole, join_whole, aggregate_whole, final_whole, final_by, sort_whole, topn_whole, topn_parts_whole, limit_whole, limit_parts_whole, union_whole}
 use Rattle.plan_spreads.specs.declared.spread.RowSpread.{RowSpread}
 use Rattle.plan_spreads.specs.declared.spread.RowSpread.TheVariants.{Every}
 use Rattle.plan_spreads.specs.Halves.{Halved, aggregates, top_ns, limits, Meets}

@@ -16,10 +16,10 @@ use Rattle.plan_docs.specs.declared.plan.Output.{Output}
 use Rattle.plan_docs.specs.declared.plan.Output.TheVariants as output
 use Rattle.plan_docs.specs.declared.plan.Placement.{Placement}
 use Rattle.plan_docs.specs.declared.plan.Placement.TheVariants as placement
-use Rattle.plan_runs.specs.RunPlans.{RunPlan, tree_of_run}
-use Rattle.plan_runs.specs.RunPlans as run
-use Rattle.plan_runs.specs.Spreads as runs
-use Rattle.plan_runs.specs.Placements.{IsRead, Placed, scan_any, remote_by, remote_every, project_any, project_by, project_every, join_right_every, join_by, aggregate_by, union_any, union_every, any_from_by}
+use Rattle.plan_run_laws.specs.RunPlans.{RunPlan, tree_of_run}
+use Rattle.plan_run_laws.specs.RunPlans as run
+use Rattle.plan_run_laws.specs.Spreads as runs
+use Rattle.plan_run_laws.specs.Placements.{IsRead, Placed, scan_any, remote_by, remote_every, project_any, project_by, project_every, join_right_every, join_by, aggregate_by, union_any, union_every, any_from_by}
 use Rattle.plan_spreads.specs.declared.spread.RowSpread.{RowSpread}
 use Rattle.plan_spreads.specs.declared.spread.RowSpread.TheVariants.{Whole, Any, By, Every}
 use Rattle.plan_spreads.specs.Columns.{are_paired, is_column, is_key, first_places}

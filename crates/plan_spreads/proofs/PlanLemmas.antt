@@ -3,7 +3,7 @@ use Rattle.std.proofs.Common.{◌≡◌, ℕ, ◌+◌, ◌-◌, ◌<◌, zero, s
 use Rattle.std.specs.Prelude.{Result, Ok, Err, if◌then◌else◌, nat_le, slice_get, unwrap_or}
 use Rattle.std.specs.List.{position_from}
 use Rattle.sql_values.specs.declared.types.SqlType.{SqlType}
-use Rattle.plan_places.specs.declared.key.Key.TheVariants as key
+use Rattle.json_paths.specs.declared.key.Key.TheVariants as key
 use Rattle.sql_exprs.specs.Typing.{Path, typed_then, under}
 use Rattle.sql_exprs.proofs.TypingLemmas.{typed_then_ok}
 use Rattle.plan_docs.specs.declared.node.NodeStep.TheVariants.{Single, Partial}
@@ -18,10 +18,10 @@ use Rattle.plan_types.specs.Faults.{or_fault}
 use Rattle.plan_types.specs.Nodes.{node_types, same_rows}
 use Rattle.plan_types.specs.Operators.{aggregate_types, sort_types}
 use Rattle.plan_types.specs.Plans.{all_types, fragment_types, output_fault, output_path, plan_types, result_fault, root_path}
-use Rattle.plan_runs.specs.RunPlans.{RunPlan}
-use Rattle.plan_runs.specs.RunPlans as run
-use Rattle.plan_runs.specs.Spreads as runs
-use Rattle.plan_runs.specs.Placements.{Placed, values_whole}
+use Rattle.plan_run_laws.specs.RunPlans.{RunPlan}
+use Rattle.plan_run_laws.specs.RunPlans as run
+use Rattle.plan_run_laws.specs.Spreads as runs
+use Rattle.plan_run_laws.specs.Placements.{Placed, values_whole}
 use Rattle.plan_spreads.specs.declared.spread.RowSpread.{RowSpread}
 use Rattle.plan_spreads.specs.declared.spread.RowSpread.TheVariants.{Whole}
 use Rattle.plan_spreads.specs.Halves.{AllMeet, HalvesMeet, Meets, RootMeets, half}

@@ -9,8 +9,8 @@ use Rattle.plan_docs.specs.Nodes.{NodeForm, remote}
 use Rattle.plan_docs.specs.Plans.{FragmentForm}
 use Rattle.plan_types.specs.declared.row_types.RowTypes.{RowTypes}
 use Rattle.plan_types.specs.RowTypes.{plain, whole_of}
-use Rattle.plan_runs.specs.RunPlans.{RunPlan, tree_of_run}
-use Rattle.plan_runs.specs.RunPlans as run
+use Rattle.plan_run_laws.specs.RunPlans.{RunPlan, tree_of_run}
+use Rattle.plan_run_laws.specs.RunPlans as run
 use Rattle.plan_spreads.specs.Halves.{Halved, aggregates, top_ns, limits, HasHalf, ReadsHalf, half}
 use Rattle.plan_spreads.specs.Runs.{Part, no_part, output_view}
 use Rattle.plan_spreads.specs.Sources.{fragment_read, half_keys}

@@ -10,8 +10,8 @@ use Rattle.sql_values.specs.declared.relational.Call.{Call}
 use Rattle.sql_values.specs.declared.order.KeySpec.{KeySpec}
 use Rattle.sql_functions.specs.CallTypes.{is_boolean, type_at}
 use Rattle.bag_laws.specs.Buckets.{AllBelow}
-use Rattle.plan_places.specs.declared.key.Key.{Key}
-use Rattle.plan_places.specs.declared.key.Key.TheVariants as key
+use Rattle.json_paths.specs.declared.key.Key.{Key}
+use Rattle.json_paths.specs.declared.key.Key.TheVariants as key
 use Rattle.sql_exprs.specs.Forms.{Form}
 use Rattle.sql_exprs.specs.Meaning.{kind_of}
 use Rattle.sql_exprs.specs.Typing.{Path, entry, form_type, typed_then, under}
@@ -32,7 +32,7 @@ use Rattle.plan_types.specs.Nodes.{final_rows, node_types, read_from, same_rows}
 use Rattle.plan_types.specs.Operators.{aggregate_types, boolean_rows, column_types, filter_types, is_key_beyond, is_unequal, join_types, project_types, sort_types, union_types}
 use Rattle.std.specs.Cmp.Lexicographic.{pointwise}
 use Rattle.sql_functions.specs.CallTypes.{same_type}
-use Rattle.plan_runs.specs.RunPlans.{tree_of_run}
+use Rattle.plan_run_laws.specs.RunPlans.{tree_of_run}
 use Rattle.plan_spreads.specs.Halves.{Halved, aggregates, top_ns, limits, Meets}
 use Rattle.plan_spreads.specs.Runs.{Part, node_run, one_over, part_read}
 use Rattle.plan_spreads.specs.Sources.{fragment_read, half_keys}

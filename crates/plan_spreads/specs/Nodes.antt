@@ -1,7 +1,7 @@
 -- The spread of a node's rows over the tasks of its fragment, from its inputs up, or the first node that has none.
 use Rattle.std.specs.Prelude.{ℕ, List, Option, None, Result, Ok}
 use Rattle.std.specs.Option.{ok_or}
-use Rattle.plan_places.specs.declared.key.Key.TheVariants as key
+use Rattle.json_paths.specs.declared.key.Key.TheVariants as key
 use Rattle.sql_exprs.specs.Typing.{Path, typed_then, under}
 use Rattle.plan_docs.specs.declared.plan.Placement.{Placement}
 use Rattle.plan_docs.specs.Nodes.{NodeForm, scan, values, remote, filter, project, join, aggregate, aggregate_final, sort, top_n, top_n_final, limit, limit_final, union}

@@ -2,9 +2,9 @@
 -- fragment 0, then the remote sources, then the nodes that have no spread.
 use Rattle.std.specs.Prelude.{◌≡◌, ℕ, ◌+◌, List, [], ◌∷◌, slice_get, Bool, true, false, if◌then◌else◌, Option, Some, None, Result, Ok, Err}
 use Rattle.std.specs.Option.{option_or}
-use Rattle.plan_places.specs.declared.key.Key.TheVariants as key
-use Rattle.plan_places.specs.declared.step.Step.TheVariants as step
-use Rattle.plan_places.specs.Places.{pointer_text}
+use Rattle.json_paths.specs.declared.key.Key.TheVariants as key
+use Rattle.json_paths.specs.declared.step.Step.TheVariants as step
+use Rattle.json_paths.specs.Places.{pointer_text}
 use Rattle.sql_exprs.specs.Typing.{Path, typed_then}
 use Rattle.plan_docs.specs.declared.plan.Placement.{Placement}
 use Rattle.plan_docs.specs.declared.plan.Placement.TheVariants as placement

@@ -6,9 +6,9 @@ use Rattle.plan_docs.specs.declared.plan.Placement.{Placement}
 use Rattle.plan_docs.specs.Nodes.{NodeForm, scan, values, remote, filter, project, join, aggregate, aggregate_final, sort, top_n, top_n_final, limit, limit_final, union}
 use Rattle.plan_docs.specs.Plans.{FragmentForm, PlanForm}
 use Rattle.plan_trees.specs.TreeForms.{pair_view}
-use Rattle.plan_runs.specs.RunPlans.{RunPlan}
-use Rattle.plan_runs.specs.RunPlans as run
-use Rattle.plan_runs.specs.Spreads as runs
+use Rattle.plan_run_laws.specs.RunPlans.{RunPlan}
+use Rattle.plan_run_laws.specs.RunPlans as run
+use Rattle.plan_run_laws.specs.Spreads as runs
 use Rattle.plan_spreads.specs.declared.spread.RowSpread.{RowSpread}
 use Rattle.plan_spreads.specs.declared.spread.RowSpread.TheVariants.{Whole, Any, By, Every}
 use Rattle.plan_spreads.specs.Plans.{is_single}

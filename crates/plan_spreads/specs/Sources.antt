@@ -1,7 +1,7 @@
 -- What a remote source reads, and the first one whose fragment gives its rows in another way than its reader needs.
 use Rattle.std.specs.Prelude.{ℕ, ◌-◌, List, length, nat_le, slice_get, Bool, true, false, if◌then◌else◌, Option, Some, None}
 use Rattle.std.specs.Option.{option_or}
-use Rattle.plan_places.specs.declared.key.Key.TheVariants as key
+use Rattle.json_paths.specs.declared.key.Key.TheVariants as key
 use Rattle.sql_exprs.specs.Typing.{Path, under}
 use Rattle.plan_docs.specs.declared.node.NodeStep.{NodeStep}
 use Rattle.plan_docs.specs.declared.node.NodeStep.TheVariants as step

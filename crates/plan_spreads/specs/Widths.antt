@@ -1,6 +1,6 @@
 -- Plans whose scans have a type for each column, and whose constant rows have a value for each type.
 use Rattle.std.specs.Prelude.{◌≡◌, List, [], ◌∷◌, length}
-use Rattle.relations.specs.Widths.{HaveWidth}
+use Rattle.relation_laws.specs.Widths.{HaveWidth}
 use Rattle.plan_docs.specs.Nodes.{NodeForm, scan, values, remote, filter, project, join, aggregate, aggregate_final, sort, top_n, top_n_final, limit, limit_final, union}
 use Rattle.plan_docs.specs.Plans.{FragmentForm}
 

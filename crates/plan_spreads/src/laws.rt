@@ -1,9 +1,9 @@
 //! What follows from the definitions.
 ghost use Rattle.std.specs.Prelude.{◌≡◌, ℕ, ◌<◌, List, None, Ok, Some, slice_get};
 ghost use Rattle.plan_docs.specs.Plans.{FragmentForm, plan_view};
-ghost use Rattle.plan_runs.specs.Placements.{Placed};
-ghost use Rattle.plan_runs.specs.RunPlans.{tree_of_run};
-ghost use Rattle.plan_runs.specs.Spreads.{whole};
+ghost use Rattle.plan_run_laws.specs.Placements.{Placed};
+ghost use Rattle.plan_run_laws.specs.RunPlans.{tree_of_run};
+ghost use Rattle.plan_run_laws.specs.Spreads.{whole};
 ghost use Rattle.plan_trees.specs.Widths.{FitsWidths};
 ghost use Rattle.plan_types.specs.declared.row_types.RowTypes.{RowTypes};
 ghost use Rattle.plan_types.specs.Plans.{plan_types};

@@ -13,8 +13,8 @@ use crate::operators::{
 };
 use crate::sources::{Reader, fragment_read, keys_read};
 use crate::spread::RowSpread;
+use json_paths::{Key, Step, then};
 use plan_docs::Node;
-use plan_places::{Key, Step, then};
 use plan_types::refused_at;
 use sql_exprs::Misfit;
 use sql_values::Memory;

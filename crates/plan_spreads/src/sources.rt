@@ -5,8 +5,8 @@ ghost use Rattle.plan_docs.specs.Plans.{fragment_view};
 ghost use Rattle.plan_types.specs.Faults.{StandsIn};
 ghost use Rattle.plan_spreads.specs.Sources.{fits_reader, fragment_read, half_keys, keys_read, misread, output_of, root_keys, source_fault, step_keys};
 
+use json_paths::{Key, Step, then};
 use plan_docs::{Fragment, Node, NodeStep, Output, Placement};
-use plan_places::{Key, Step, then};
 use plan_types::refused_at;
 use sql_exprs::Misfit;
 use std::alloc::Global;

@@ -2,8 +2,8 @@ ghost use Rattle.std.specs.Prelude.{◌≤◌};
 ghost use Rattle.serde_json.specs.Data.{depth};
 ghost use Rattle.serde_json.specs.View.{view};
 
+use json_paths::pointer_of;
 use plan_grammar::{Place, places_of};
-use plan_places::pointer_of;
 use serde_json::Value;
 use std::alloc::Global;
 use std::test::Fail;

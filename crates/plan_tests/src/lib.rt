@@ -1,6 +1,6 @@
 //! Tests of the crates that read a plan document: a module for each, over its public items alone.
 //!
-//! - `places`: paths and pointers of `plan_places`
+//! - `places`: paths and pointers of `json_paths`
 //! - `grammar`: the places of a document, of `plan_grammar`
 //! - `trees`: the types of a tree's rows, of `plan_trees`
 //! - `checks`: the first check that fails, of `plan_checks`

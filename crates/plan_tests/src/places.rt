@@ -1,4 +1,4 @@
-use plan_places::{Key, Step, pointer_of, then};
+use json_paths::{Key, Step, pointer_of, then};
 use std::alloc::Global;
 use std::test::Fail;
 

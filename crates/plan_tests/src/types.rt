@@ -2,8 +2,8 @@ mod cases;
 
 use crate::lines::{case_of, unquoted};
 use cases::{HALVES, ROOTS, SCAN, TWO, WHOLE};
+use json_paths::{Step, pointer_of};
 use plan_docs::{Plan, read_plan_doc};
-use plan_places::{Step, pointer_of};
 use plan_types::{RowTypes, type_plan};
 use serde_json::Value;
 use sql_exprs::Misfit;

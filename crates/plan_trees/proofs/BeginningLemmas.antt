@@ -2,9 +2,9 @@
 use Rattle.std.proofs.Common.{◌≡◌, ℕ, List, [], ◌∷◌, ◌++◌, refl, ap, sym, ◌∙◌, arith, get_or, length, subst, take, drop, take_all, take-append-drop}
 use Rattle.std.proofs.lemmas.List.{length-append, length-take}
 use Rattle.sql_values.specs.declared.value.Value.{Value}
-use Rattle.relations.specs.Joins.{join_of}
-use Rattle.relations.specs.Sorts.{IsBeginning}
-use Rattle.relations.specs.Verdicts.{Verdict, keeps, drops, fails, kept, kept_rows}
+use Rattle.relation_laws.specs.Joins.{join_of}
+use Rattle.relation_laws.specs.Sorts.{IsBeginning}
+use Rattle.relation_laws.specs.Verdicts.{Verdict, keeps, drops, fails, kept, kept_rows}
 use Rattle.plan_trees.specs.TreeForms.{TreeForm, scan, values, remote, filter, project, join, aggregate, sort, topn, limit, union}
 use Rattle.plan_trees.specs.TreeTypes.{types_of}
 use Rattle.plan_trees.specs.Judges.{filter_judge, project_judge}

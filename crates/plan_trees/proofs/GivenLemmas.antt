@@ -1,7 +1,7 @@
 -- What is allowed with failures left out may have been given.
 use Rattle.std.proofs.Common.{List, ◌++◌}
 use Rattle.sql_values.specs.declared.value.Value.{Value}
-use Rattle.relations.specs.Joins.{join_of}
+use Rattle.relation_laws.specs.Joins.{join_of}
 use Rattle.plan_trees.specs.TreeForms.{TreeForm, scan, values, remote, filter, project, join, aggregate, sort, topn, limit, union}
 use Rattle.plan_trees.specs.Allowed.{Gives, skipping, scanned, width_of}
 use Rattle.plan_trees.specs.Stopped.{MayHaveGiven}

@@ -4,10 +4,10 @@ use Rattle.std.specs.Prelude.{Contains, flat_map}
 use Rattle.std.proofs.lemmas.List.Sorted.{IsPermutation-refl}
 use Rattle.sql_values.specs.declared.value.Value.{Value}
 use Rattle.sql_values.specs.declared.fail.Fail.{Fail}
-use Rattle.relations.specs.Groups.{groups_of}
-use Rattle.relations.specs.Joins.{join_of}
-use Rattle.relations.specs.Verdicts.{Verdict, keeps, drops, fails, failures, kept, kept_rows}
-use Rattle.relations.proofs.SortLemmas.{sorted_rows, is_sort}
+use Rattle.relation_laws.specs.Groups.{groups_of}
+use Rattle.relation_laws.specs.Joins.{join_of}
+use Rattle.relation_laws.specs.Verdicts.{Verdict, keeps, drops, fails, failures, kept, kept_rows}
+use Rattle.relation_laws.proofs.SortLemmas.{sorted_rows, is_sort}
 use Rattle.plan_trees.specs.TreeForms.{TreeForm, scan, values, remote, filter, project, join, aggregate, sort, topn, limit, union}
 use Rattle.plan_trees.specs.TreeTypes.{types_of}
 use Rattle.plan_trees.specs.Judges.{filter_judge, project_judge}

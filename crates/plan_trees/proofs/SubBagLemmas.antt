@@ -4,7 +4,7 @@ use Rattle.std.specs.Prelude.{IsPermutation}
 use Rattle.std.proofs.lemmas.List.{append-nil}
 use Rattle.std.proofs.lemmas.List.Sorted.{IsPermutation-refl, IsPermutation-sym}
 use Rattle.sql_values.specs.Bags.{SameBag, SubBag}
-use Rattle.relations.specs.Sorts.{IsBeginning}
+use Rattle.relation_laws.specs.Sorts.{IsBeginning}
 
 module _ {X : Type 0} where
   pub sub_from_same : (xs ys : List X) → SameBag ys xs → SubBag xs ys

@@ -12,12 +12,12 @@ use Rattle.sql_functions.specs.Outcomes.{Outcome}
 use Rattle.sql_functions.specs.Truth.{is_true}
 use Rattle.sql_exprs.specs.Forms.{Form}
 use Rattle.sql_exprs.specs.Meaning.{kind_of, value_of}
-use Rattle.relations.specs.Groups.{groups_of}
-use Rattle.relations.specs.Joins.{join_of}
-use Rattle.relations.specs.Verdicts.{keeps, drops, kept, kept_rows, verdict_of}
-use Rattle.relations.specs.Aggregates.{all_values}
-use Rattle.relations.specs.Widths.{HaveWidth}
-use Rattle.relations.proofs.WidthLemmas.{All-flat, cut_width, groups_width, join_width, values_width}
+use Rattle.relation_laws.specs.Groups.{groups_of}
+use Rattle.relation_laws.specs.Joins.{join_of}
+use Rattle.relation_laws.specs.Verdicts.{keeps, drops, kept, kept_rows, verdict_of}
+use Rattle.relation_laws.specs.Aggregates.{all_values}
+use Rattle.relation_laws.specs.Widths.{HaveWidth}
+use Rattle.relation_laws.proofs.WidthLemmas.{All-flat, cut_width, groups_width, join_width, values_width}
 use Rattle.plan_trees.specs.TreeForms.{TreeForm, scan, values, remote, filter, project, join, aggregate, sort, topn, limit, union}
 use Rattle.plan_trees.specs.TreeTypes.{call_kind, types_of}
 use Rattle.plan_trees.specs.Judges.{filter_judge, filtered, project_judge}

@@ -12,9 +12,9 @@ use Rattle.sql_values.specs.declared.order.KeySpec.{KeySpec}
 use Rattle.sql_values.specs.declared.relational.Call.TheVariants.{CountAll, Sum}
 use Rattle.sql_functions.specs.declared.name.CallName.TheVariants as name
 use Rattle.sql_exprs.specs.Forms.{Form, column, literal, call, cast, none, more}
-use Rattle.relations.specs.Verdicts.{failures, keeps, drops, fails}
-use Rattle.relations.proofs.VerdictLemmas.{failures-same}
-use Rattle.relations.proofs.SortLemmas.{sorted_by_test, test_before, test_ordered}
+use Rattle.relation_laws.specs.Verdicts.{failures, keeps, drops, fails}
+use Rattle.relation_laws.proofs.VerdictLemmas.{failures-same}
+use Rattle.relation_laws.proofs.SortLemmas.{sorted_by_test, test_before, test_ordered}
 use Rattle.plan_trees.specs.TreeForms.{TreeForm, scan, filter, aggregate, sort, topn, limit}
 use Rattle.plan_trees.specs.Judges.{filter_judge, project_judge}
 use Rattle.plan_trees.specs.Allowed.{Allows}
@@ -49,7 +49,7 @@ nothing_is_allowed rows (a, same, judged) =
     let one : failures (map (filter_judge (type.Bigint ∷ []) divides) one_zero) ≡ 1 = refl in
     absurd (omega (arith, one, failures-same (filter_judge (type.Bigint ∷ []) divides) one_zero a same, judged.calm))
 
--- the filter may fail so on that row, and in no other way on no row
+-- the filter may fail with this kind on that row, and in no other way on no row
 the_filter_may_fail : MayFail (filter 1 divides ones) (one_zero ∷ []) 1 DivisionByZero
 the_filter_may_fail =
     inl (refl, record { given = one_zero; row = Bigint (pos 0) ∷ []; may = ([], IsPermutation-refl one_zero); among = (0, omega arith, refl); so = refl })

@@ -4,10 +4,10 @@ use Rattle.std.specs.Prelude.{◌≡◌, ℕ, List, [], ◌++◌, length, map, f
 use Rattle.sql_values.specs.declared.value.Value.{Value}
 use Rattle.sql_values.specs.Bags.{SameBag}
 use Rattle.sql_values.specs.Cells.{cut}
-use Rattle.relations.specs.Groups.{groups_of}
-use Rattle.relations.specs.Joins.{join_of}
-use Rattle.relations.specs.Sorts.{IsSortOf}
-use Rattle.relations.specs.Verdicts.{Verdict, failures, kept, kept_rows}
+use Rattle.relation_laws.specs.Groups.{groups_of}
+use Rattle.relation_laws.specs.Joins.{join_of}
+use Rattle.relation_laws.specs.Sorts.{IsSortOf}
+use Rattle.relation_laws.specs.Verdicts.{Verdict, failures, kept, kept_rows}
 use Rattle.plan_trees.specs.TreeForms.{TreeForm, scan, values, remote, filter, project, join, aggregate, sort, topn, limit, union}
 use Rattle.plan_trees.specs.TreeTypes.{types_of}
 use Rattle.plan_trees.specs.Judges.{filter_judge, project_judge}

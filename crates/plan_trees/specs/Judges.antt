@@ -6,8 +6,8 @@ use Rattle.sql_functions.specs.Outcomes.{Outcome}
 use Rattle.sql_functions.specs.Truth.{is_true}
 use Rattle.sql_exprs.specs.Forms.{Form}
 use Rattle.sql_exprs.specs.Meaning.{value_of}
-use Rattle.relations.specs.Aggregates.{all_values}
-use Rattle.relations.specs.Verdicts.{Verdict, keeps, drops, fails, verdict_of}
+use Rattle.relation_laws.specs.Aggregates.{all_values}
+use Rattle.relation_laws.specs.Verdicts.{Verdict, keeps, drops, fails, verdict_of}
 
 -- a row is kept where the predicate is TRUE, and neither where it is FALSE nor where it is NULL
 abbrev pub filtered : List Value → Outcome → Verdict

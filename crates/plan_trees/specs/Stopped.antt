@@ -4,10 +4,10 @@ use Rattle.std.specs.Prelude.{◌≡◌, ◌⊎◌, ℕ, List, ◌++◌, take, C
 use Rattle.sql_values.specs.declared.value.Value.{Value}
 use Rattle.sql_values.specs.declared.fail.Fail.{Fail}
 use Rattle.sql_values.specs.Bags.{SubBag}
-use Rattle.relations.specs.Groups.{groups_of}
-use Rattle.relations.specs.Joins.{join_of}
-use Rattle.relations.specs.Sorts.{IsBeginning}
-use Rattle.relations.specs.Verdicts.{Verdict, fails, kept_rows}
+use Rattle.relation_laws.specs.Groups.{groups_of}
+use Rattle.relation_laws.specs.Joins.{join_of}
+use Rattle.relation_laws.specs.Sorts.{IsBeginning}
+use Rattle.relation_laws.specs.Verdicts.{Verdict, fails, kept_rows}
 use Rattle.plan_trees.specs.TreeForms.{TreeForm, scan, values, remote, filter, project, join, aggregate, sort, topn, limit, union}
 use Rattle.plan_trees.specs.TreeTypes.{types_of}
 use Rattle.plan_trees.specs.Judges.{filter_judge, project_judge}
@@ -37,7 +37,7 @@ MayHaveGiven (limit id count input) tables rows = (A : List (List Value)) × May
 MayHaveGiven (union id left right) tables rows =
     (A : List (List Value)) × (B : List (List Value)) × MayHaveGiven left tables A × MayHaveGiven right tables B × SubBag rows (A ++ B)
 
--- the judge fails so on a row that the input may have given
+-- the judge fails with this kind on a row that the input may have given
 pub record FailsOnRow (input : TreeForm) (tables : List (List (List Value))) (judge : List Value → Verdict) (kind : Fail) : Type 0 where
   pub given : List (List Value)
   pub row : List Value
@@ -45,13 +45,13 @@ pub record FailsOnRow (input : TreeForm) (tables : List (List (List Value))) (ju
   pub among : Contains given row
   pub so : judge row ≡ fails kind
 
--- a group of the input fails so
+-- a group of the input fails with this kind
 pub record FailsOnGroup (input : TreeForm) (tables : List (List (List Value))) (verdicts : List (List Value) → List Verdict) (kind : Fail) : Type 0 where
   pub given : List (List Value)
   pub may : AllowsSkipping input tables given
   pub so : Contains (verdicts given) (fails kind)
 
--- the node of this id fails so on a row, or a group, that the tree may list
+-- the node of this id fails with this kind on a row, or a group, that the tree may list
 abbrev pub MayFail : TreeForm → List (List (List Value)) → ℕ → Fail → Type 0
 MayFail (scan id table columns types) tables node kind = ⊥
 MayFail (values id types constants) tables node kind = ⊥

@@ -1,6 +1,6 @@
 -- How many columns trees have.
 use Rattle.std.specs.Prelude.{◌≡◌, length}
-use Rattle.relations.specs.Widths.{HaveWidth}
+use Rattle.relation_laws.specs.Widths.{HaveWidth}
 use Rattle.plan_trees.specs.TreeForms.{TreeForm, scan, values, remote, filter, project, join, aggregate, sort, topn, limit, union}
 use Rattle.plan_trees.specs.Allowed.{width_of}
 

@@ -1,12 +1,12 @@
 //! What follows from the definitions. Each is about all lists of rows, allowed or not.
 ghost use Rattle.std.specs.Prelude.{◌≡◌, ◌↔◌, List};
-ghost use Rattle.relations.specs.Sorts.{IsBeginning};
+ghost use Rattle.relation_laws.specs.Sorts.{IsBeginning};
 ghost use Rattle.plan_trees.specs.Allowed.{Allows, AllowsSkipping, width_of};
 ghost use Rattle.plan_trees.specs.Laws.{AllowsSome, CannotFail, SameTables};
 ghost use Rattle.plan_trees.specs.Stopped.{MayHaveGiven};
 ghost use Rattle.plan_trees.specs.TreeForms.{tree_view};
 ghost use Rattle.plan_trees.specs.Widths.{FitsWidths};
-ghost use Rattle.relations.specs.Widths.{HaveWidth};
+ghost use Rattle.relation_laws.specs.Widths.{HaveWidth};
 
 use crate::tree::Tree;
 use sql_values::RowList;

@@ -24,5 +24,5 @@ pub use laws::{
 };
 pub use layouts::{layout_of, partial_types};
 pub use tree::{CallList, KeyList, Pair, Pairs, Tree};
-pub use tree_types::{append_call_types, append_key_types, types_of_tree};
+pub use tree_types::{append_call_types, append_key_types, grouped_types, types_of_tree};
 pub use type_lists::{append_types, are_same, copy_types, type_at};

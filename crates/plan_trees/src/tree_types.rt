@@ -37,10 +37,7 @@ pub fn types_of_tree(alloc: Global, tree: &Tree) -> Result<Types, Memory>
             ..
         } => {
             let input = types_of_tree(alloc, input)?;
-            let mut types = Types::new(alloc);
-            append_key_types(&mut types, input.as_slice(), keys.as_slice())?;
-            append_call_types(&mut types, input.as_slice(), calls.as_slice())?;
-            Ok(types)
+            grouped_types(alloc, input.as_slice(), keys.as_slice(), calls.as_slice())
         }
         Tree::Sort { input, .. } => types_of_tree(alloc, input),
         Tree::TopN { input, .. } => types_of_tree(alloc, input),
@@ -58,6 +55,22 @@ fn column_types(alloc: Global, types: &[SqlType], columns: &[Expr]) -> Result<Ty
         kinds.push(kind_of(types, column))?;
     }
     Ok(kinds)
+}
+
+/// The types of the keys and the results of groups of rows of these types.
+pub fn grouped_types(
+    alloc: Global,
+    types: &[SqlType],
+    keys: &[u32],
+    calls: &[Call],
+) -> Result<Types, Memory>
+    ensures { IfOk result
+        (λ given. given ≡ map (type_at types.now) keys.now ++ map (call_kind types.now) calls.now) }
+{
+    let mut given = Types::new(alloc);
+    append_key_types(&mut given, types, keys)?;
+    append_call_types(&mut given, types, calls)?;
+    Ok(given)
 }
 
 pub fn append_key_types(kinds: &mut Types, types: &[SqlType], keys: &[u32]) -> Result<(), Memory>

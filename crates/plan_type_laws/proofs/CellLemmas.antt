@@ -14,10 +14,10 @@ use Rattle.sql_values.specs.Texts.{value_of_text}
 use Rattle.sql_values.specs.Types.{IsType, has_type, row_has_types}
 use Rattle.sql_functions.specs.CallTypes.{type_at}
 use Rattle.plan_grammar.specs.Json.{entries_in, text_of}
-use Rattle.plan_docs.specs.Cells.{cell_by, cell_of, cells_from, misfit, row_of, rows_of}
+use Rattle.plan_docs.specs.Cells.{cell_by, cell_of, cells_from, misfit, row_of_entries, rows_of_node}
 use Rattle.plan_docs.specs.Parts.{kinds_of}
 use Rattle.plan_docs.specs.Words.{type_of}
-use Rattle.page_judges.specs.Typed.{AllFit}
+use Rattle.col_pages.specs.Fits.{AllFit}
 use Rattle.plan_spreads.proofs.EachLemmas.{first_true, second_true}
 use Rattle.text_type_laws.proofs.TextLemmas.{parsed_has_type}
 use Rattle.tree_type_laws.specs.TypedTrees.{HaveTypes}
@@ -74,12 +74,12 @@ kinds_are_types ds = All-map IsType type_of ds (λ k d within. named_type (text_
 abbrev Fits : List SqlType → List Value → Type 0
 Fits kinds row = fits_row kinds row ≡ true
 
-rows_typed : (kinds : List SqlType) (ds : List Data) → All IsType kinds → AllFit kinds (rows_of kinds ds) → HaveTypes kinds (rows_of kinds ds)
+rows_typed : (kinds : List SqlType) (ds : List Data) → All IsType kinds → AllFit kinds (rows_of_node kinds ds) → HaveTypes kinds (rows_of_node kinds ds)
 rows_typed kinds [] are fit = refl
 rows_typed kinds (d ∷ ds) are fit =
-    let here : row_has_types kinds (row_of kinds d) ≡ true = cells_typed [] kinds (entries_in d) are (All-head (Fits kinds) (row_of kinds d) (rows_of kinds ds) fit) in
-    let rest : HaveTypes kinds (rows_of kinds ds) = rows_typed kinds ds are (All-tail (Fits kinds) (row_of kinds d) (rows_of kinds ds) fit) in
+    let here : row_has_types kinds (row_of_entries kinds d) ≡ true = cells_typed [] kinds (entries_in d) are (All-head (Fits kinds) (row_of_entries kinds d) (rows_of_node kinds ds) fit) in
+    let rest : HaveTypes kinds (rows_of_node kinds ds) = rows_typed kinds ds are (All-tail (Fits kinds) (row_of_entries kinds d) (rows_of_node kinds ds) fit) in
     rw here rest
 
-pub constants_typed : (ts ds : List Data) → AllFit (kinds_of ts) (rows_of (kinds_of ts) ds) → HaveTypes (kinds_of ts) (rows_of (kinds_of ts) ds)
+pub constants_typed : (ts ds : List Data) → AllFit (kinds_of ts) (rows_of_node (kinds_of ts) ds) → HaveTypes (kinds_of ts) (rows_of_node (kinds_of ts) ds)
 constants_typed ts ds fit = rows_typed (kinds_of ts) ds (kinds_are_types ts) fit

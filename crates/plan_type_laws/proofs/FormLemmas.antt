@@ -7,7 +7,7 @@ use Rattle.sql_values.specs.declared.types.SqlType.TheVariants as kind
 use Rattle.sql_values.specs.Types.{IsType}
 use Rattle.sql_values.specs.TypeTexts.{type_of_text}
 use Rattle.sql_exprs.specs.Forms.{Form, choices_of, forms_of}
-use Rattle.plan_places.specs.declared.key.Key.TheVariants as key
+use Rattle.json_paths.specs.declared.key.Key.TheVariants as key
 use Rattle.plan_grammar.specs.declared.words.FormWord.{FormWord}
 use Rattle.plan_grammar.specs.declared.words.FormWord.TheVariants as word
 use Rattle.plan_grammar.specs.Json.{entries_under, text_under, under}

@@ -4,7 +4,7 @@ use Rattle.std.specs.Prelude.{slice_get}
 use Rattle.serde_json.specs.Data.{Data}
 use Rattle.sql_values.specs.declared.table.Table.{Table}
 use Rattle.sql_values.specs.declared.value.Value.{Value}
-use Rattle.plan_places.specs.declared.key.Key.TheVariants as key
+use Rattle.json_paths.specs.declared.key.Key.TheVariants as key
 use Rattle.plan_grammar.specs.declared.words.OpWord.{OpWord}
 use Rattle.plan_grammar.specs.declared.words.OpWord.TheVariants as op
 use Rattle.plan_grammar.specs.declared.words.StepWord.{StepWord}
@@ -19,11 +19,11 @@ use Rattle.plan_docs.specs.Plans.{FragmentForm}
 use Rattle.plan_reader.specs.Trees.{fragment_tree, node_tree, root_tree, whole, whole_over}
 use Rattle.plan_trees.specs.TreeForms.{TreeForm}
 use Rattle.plan_trees.specs.TreeForms as tree
-use Rattle.page_judges.specs.Typed.{AllFit}
+use Rattle.col_pages.specs.Fits.{AllFit}
 use Rattle.tree_evaluator.specs.Fits.{FitsTables}
-use Rattle.tree_evaluator.specs.Stops.{rows_of}
-use Rattle.plan_fits.specs.Tables.{HaveColumns}
-use Rattle.plan_fits.proofs.SoundLemmas.{AllWellMade, IsWellMade}
+use Rattle.tree_evaluator.specs.Stops.{rows_of_table}
+use Rattle.plan_fit_laws.specs.Tables.{HaveColumns}
+use Rattle.plan_fit_laws.proofs.SoundLemmas.{AllWellMade, IsWellMade}
 use Rattle.type_laws.specs.Keeps.{CastsToTypes}
 use Rattle.tree_type_laws.specs.TypedTrees.{EachCastsToTypes, HaveTypes, TypedTables}
 use Rattle.plan_type_laws.specs.Tables.{TablesTyped}
@@ -114,7 +114,7 @@ whole_kept views id t h = h
 
 module _ (docs : List TableDoc) (tables : List Table) (own : HaveColumns docs tables) (typed : TablesTyped tables) where
   abbrev views : List (List (List Value))
-  views = map rows_of tables
+  views = map rows_of_table tables
 
   node_kept : (reads : ℕ → TreeForm) → ((k : ℕ) → IsKept views (reads k)) → (form : NodeForm) → IsWellMade docs form → NamesTypes form → IsKept views (node_tree reads form)
   node_kept reads known (scan id table columns types) made names = λ fit. scan_typed docs tables table columns types own typed made.1 made.2

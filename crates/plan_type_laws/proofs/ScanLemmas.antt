@@ -13,12 +13,13 @@ use Rattle.sql_values.specs.Types.{has_type, row_has_types}
 use Rattle.sql_values.proofs.BlockLemmas.{typed_fits}
 use Rattle.plan_docs.specs.declared.plan.TableDoc.{TableDoc}
 use Rattle.plan_trees.specs.Allowed.{scanned}
-use Rattle.page_judges.specs.Typed.{AllFit}
-use Rattle.tree_evaluator.specs.Fits.{ColumnFits, ColumnsFit, TablesFit, kinds}
-use Rattle.tree_evaluator.specs.Stops.{rows_of}
-use Rattle.plan_fits.specs.Tables.{HaveColumns}
+use Rattle.col_pages.specs.Fits.{AllFit}
+use Rattle.sql_values.specs.Columns.{kinds}
+use Rattle.tree_evaluator.specs.Fits.{ColumnFits, ColumnsFit, TablesFit}
+use Rattle.tree_evaluator.specs.Stops.{rows_of_table}
+use Rattle.plan_fit_laws.specs.Tables.{HaveColumns}
 use Rattle.plan_spreads.proofs.EachLemmas.{first_true, second_true}
-use Rattle.plan_fits.proofs.ScanLemmas.{ScanFits}
+use Rattle.plan_fit_laws.proofs.ScanLemmas.{ScanFits}
 use Rattle.tree_type_laws.specs.TypedTrees.{HaveTypes}
 use Rattle.plan_type_laws.specs.Tables.{TablesTyped}
 
@@ -47,7 +48,7 @@ rows_cut own (row ∷ rows) columns types l f h =
     (cut_typed own row columns types l first h) (rows_cut own rows columns types l rest h)
 
 pub scan_typed : (docs : List TableDoc) (tables : List Table) (n : ℕ) (columns : List ℕ) (types : List SqlType) → HaveColumns docs tables → TablesTyped tables
-    → length types ≡ length columns → ScanFits (slice_get docs n) columns types → HaveTypes types (scanned (map rows_of tables) n columns)
+    → length types ≡ length columns → ScanFits (slice_get docs n) columns types → HaveTypes types (scanned (map rows_of_table tables) n columns)
 scan_typed docs [] n columns types own typed beside h = refl
 scan_typed [] (t ∷ tables) n columns types own typed beside h = absurd cc
 scan_typed (doc ∷ docs) (t ∷ tables) zero columns types own typed beside h =

@@ -2,8 +2,8 @@ ghost use Rattle.std.specs.Prelude.{All, map};
 ghost use Rattle.sql_values.specs.Types.{IsType};
 ghost use Rattle.plan_docs.specs.Plans.{plan_view};
 ghost use Rattle.plan_reader.specs.Trees.{tree_of};
-ghost use Rattle.tree_evaluator.specs.Stops.{rows_of};
-ghost use Rattle.plan_fits.specs.Tables.{HaveColumns, WasRead};
+ghost use Rattle.tree_evaluator.specs.Stops.{rows_of_table};
+ghost use Rattle.plan_fit_laws.specs.Tables.{HaveColumns, WasRead};
 ghost use Rattle.tree_type_laws.specs.TypedTrees.{TypedTables};
 ghost use Rattle.plan_type_laws.specs.Tables.{TablesTyped};
 
@@ -17,7 +17,7 @@ pub fn tree_of_a_plan_is_typed(plan: &Plan, tables: &[Table])
     requires read { WasRead (plan_view plan.now) }
     requires columns { HaveColumns (plan_view plan.now).tables tables.now }
     requires typed { TablesTyped tables.now }
-    ensures { TypedTables (tree_of (plan_view plan.now)) (map rows_of tables.now) }
+    ensures { TypedTables (tree_of (plan_view plan.now)) (map rows_of_table tables.now) }
 {}
 
 /// The law that each column of a table that a plan declares has a type: a decimal of 1 to 38 digits, and

@@ -4,7 +4,7 @@ use Rattle.sql_values.specs.declared.types.SqlType.{SqlType}
 use Rattle.sql_values.specs.declared.value.Value.{Value}
 use Rattle.sql_values.specs.Blocks.{fits}
 use Rattle.sql_values.specs.Cells.{cell}
-use Rattle.plan_places.specs.declared.key.Key.TheVariants as key
+use Rattle.json_paths.specs.declared.key.Key.TheVariants as key
 use Rattle.sql_exprs.specs.Typing.{Path, entry, under}
 use Rattle.plan_docs.specs.Words.{small}
 

@@ -1,6 +1,6 @@
 -- Where a list does not fit: at the first of its entries that does not.
 use Rattle.std.specs.Prelude.{◌≡◌, ℕ, Option, Some, None, Result, Err}
-use Rattle.plan_places.specs.declared.key.Key.{Key}
+use Rattle.json_paths.specs.declared.key.Key.{Key}
 use Rattle.sql_exprs.specs.declared.typing.Misfit.{Misfit}
 use Rattle.sql_exprs.specs.declared.typing.Misfit.TheVariants as misfit
 use Rattle.sql_exprs.specs.Typing.{Path, entry, under}

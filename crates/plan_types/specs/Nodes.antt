@@ -1,6 +1,6 @@
 -- The types of a node's rows, from its inputs up.
 use Rattle.std.specs.Prelude.{ℕ, ◌-◌, List, [], slice_get, unwrap_or, Result, Ok}
-use Rattle.plan_places.specs.declared.key.Key.TheVariants as key
+use Rattle.json_paths.specs.declared.key.Key.TheVariants as key
 use Rattle.sql_exprs.specs.Typing.{Path, typed_then, under}
 use Rattle.plan_docs.specs.Nodes.{NodeForm, scan, values, remote, filter, project, join, aggregate, aggregate_final, sort, top_n, top_n_final, limit, limit_final, union}
 use Rattle.plan_types.specs.declared.row_types.RowTypes.{RowTypes}

@@ -7,7 +7,7 @@ use Rattle.sql_values.specs.declared.value.Value.{Value}
 use Rattle.sql_values.specs.declared.relational.Call.{Call}
 use Rattle.sql_values.specs.declared.order.KeySpec.{KeySpec}
 use Rattle.sql_functions.specs.CallTypes.{is_boolean, same_type}
-use Rattle.plan_places.specs.declared.key.Key.TheVariants as key
+use Rattle.json_paths.specs.declared.key.Key.TheVariants as key
 use Rattle.sql_exprs.specs.Forms.{Form}
 use Rattle.sql_exprs.specs.Typing.{Path, entry, form_type, typed_then, under}
 use Rattle.plan_trees.specs.declared.tree.Pair.{Pair}

@@ -2,8 +2,8 @@
 use Rattle.std.specs.Prelude.{ℕ, ◌+◌, List, [], ◌∷◌, length, slice_get, nat_le, ◌==◌, if◌then◌else◌, Option, Some, None, Result, Ok}
 use Rattle.std.specs.List.{position_from}
 use Rattle.sql_values.specs.declared.types.SqlType.{SqlType}
-use Rattle.plan_places.specs.declared.key.Key.TheVariants as key
-use Rattle.plan_places.specs.declared.step.Step.TheVariants as step
+use Rattle.json_paths.specs.declared.key.Key.TheVariants as key
+use Rattle.json_paths.specs.declared.step.Step.TheVariants as step
 use Rattle.sql_exprs.specs.Typing.{Path, typed_then}
 use Rattle.plan_docs.specs.declared.plan.Output.{Output}
 use Rattle.plan_docs.specs.declared.plan.Output.TheVariants as output

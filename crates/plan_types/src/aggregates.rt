@@ -4,7 +4,7 @@ ghost use Rattle.plan_types.specs.Aggregates.{has_column, is_short, is_summed, s
 
 use crate::row_types::{RowTypes, plain};
 use plan_docs::NodeStep;
-use plan_trees::{append_call_types, append_key_types, partial_types, type_at};
+use plan_trees::{grouped_types, partial_types, type_at};
 use sql_values::{Call, Memory, SqlType, Types};
 use std::alloc::Global;
 
@@ -83,8 +83,5 @@ fn whole_types(
 ) -> Result<Types, Memory>
     ensures { IfOk result (λ ts. ts ≡ whole_types types.now keys.now calls.now) }
 {
-    let mut kinds = Types::new(alloc);
-    append_key_types(&mut kinds, types, keys)?;
-    append_call_types(&mut kinds, types, calls)?;
-    Ok(kinds)
+    grouped_types(alloc, types, keys, calls)
 }

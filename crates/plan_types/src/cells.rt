@@ -5,7 +5,7 @@ ghost use Rattle.plan_docs.specs.Words.{small};
 ghost use Rattle.plan_types.specs.Cells.{cell_fault, misfit_from, misfit_in};
 ghost use Rattle.plan_types.specs.Faults.{StandsIn};
 
-use plan_places::{Key, Step, then};
+use json_paths::{Key, Step, then};
 use sql_exprs::Misfit;
 use sql_values::{RowList, SqlType, ValueRef};
 use std::alloc::Global;

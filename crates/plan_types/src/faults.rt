@@ -3,7 +3,7 @@ ghost use Rattle.std.specs.List.{position_from};
 ghost use Rattle.sql_exprs.specs.Typing.{StandsAt};
 ghost use Rattle.plan_types.specs.Faults.{StandsIn, entry_fault};
 
-use plan_places::{Key, Step, then};
+use json_paths::{Key, Step, then};
 use sql_exprs::Misfit;
 use std::alloc::Global;
 

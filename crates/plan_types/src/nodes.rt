@@ -7,15 +7,15 @@ use crate::operators::{
     aggregate_types, filter_types, join_types, project_types, sort_types, union_types, values_types,
 };
 use crate::row_types::{RowTypes, plain, whole_of};
+use json_paths::{Key, Step, then};
 use plan_docs::Node;
-use plan_places::{Key, Step, then};
 use plan_trees::copy_types;
 use sql_exprs::Misfit;
 use sql_values::{Memory, Types};
 use std::alloc::Global;
 
 /// The types of the fragments from one on.
-#[derive(Clone, Copy, Debug)]
+#[derive(Clone, Copy)]
 pub struct Later<'a> {
     pub first: usize,
     pub types: &'a [RowTypes],

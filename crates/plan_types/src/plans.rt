@@ -7,8 +7,8 @@ ghost use Rattle.plan_types.specs.Plans.{all_types, fragment_types, output_fault
 use crate::faults::{first_beyond, pass};
 use crate::nodes::{Later, node_types};
 use crate::row_types::RowTypes;
+use json_paths::{Key, Step};
 use plan_docs::{Fragment, Output, Plan};
-use plan_places::{Key, Step};
 use sql_exprs::Misfit;
 use sql_values::{Memory, SqlType};
 use std::alloc::Global;

@@ -1,12 +1,12 @@
-ghost use Rattle.std.specs.Prelude.{◌≡◌, IfOk};
+ghost use Rattle.std.specs.Prelude.{◌≡◌, Some, IfOk};
 ghost use Rattle.plan_types.specs.RowTypes.{plain, whole_of};
 
 use plan_trees::copy_types;
-use sql_values::{Memory, Types};
+use sql_values::{Memory, SqlType, Types};
 use std::alloc::Global;
 
 /// The types of the rows of a node.
-#[derive(Debug, Drop)]
+#[derive(Drop)]
 pub struct RowTypes {
     pub columns: Types,
     /// The columns that the FINAL node makes of the rows of a PARTIAL aggregate.
@@ -48,7 +48,13 @@ fn copy_whole(alloc: Global, whole: &Option<Types>) -> Result<Option<Types>, Mem
     ensures { IfOk result (λ w. w ≡ whole.now) }
 {
     match whole {
-        Some(types) => Ok(Some(copy_types(alloc, types.as_slice())?)),
+        Some(types) => copy_some(alloc, types.as_slice()),
         None => Ok(None),
     }
+}
+
+fn copy_some(alloc: Global, types: &[SqlType]) -> Result<Option<Types>, Memory>
+    ensures { IfOk result (λ w. w ≡ Some types.now) }
+{
+    Ok(Some(copy_types(alloc, types)?))
 }

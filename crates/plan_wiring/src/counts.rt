@@ -13,20 +13,14 @@ use sql_values::{Memory, Table};
 fn add(left: u32, right: u32) -> Result<u32, Memory>
     ensures { IfOk result (λ n. n ≡ left + right) }
 {
-    match left.checked_add(right) {
-        Some(sum) => Ok(sum),
-        None => Err(Memory),
-    }
+    left.checked_add(right).ok_or(Memory)
 }
 
 /// The drivers of a pipe in all tasks. More than 32 bits count is answered with want of memory.
 pub fn drivers_of(pipe: &Pipe<'_>) -> Result<u32, Memory>
     ensures { IfOk result (λ n. n ≡ (pipe_view pipe.now).tasks * (pipe_view pipe.now).drivers) }
 {
-    match pipe.tasks.checked_mul(pipe.drivers) {
-        Some(product) => Ok(product),
-        None => Err(Memory),
-    }
+    pipe.tasks.checked_mul(pipe.drivers).ok_or(Memory)
 }
 
 fn count_if(is_so: bool, count: u32) -> u32

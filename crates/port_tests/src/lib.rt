@@ -3,11 +3,14 @@
 //! - `ports`: files, sinks, couriers and meetings of `run_ports`
 //! - `words`: the words of `command_line`, and what they ask for
 //! - `tables`: texts in CSV, read and printed by `csv_tables`
+//! - `parts`: the same texts, read as parts by `table_parts`
 //! - `demo`: the documents of `demo_documents`
 #![tactic(auto)]
 
 #[cfg(test)]
 mod demo;
+#[cfg(test)]
+mod parts;
 #[cfg(test)]
 mod ports;
 #[cfg(test)]

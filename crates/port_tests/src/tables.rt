@@ -21,7 +21,7 @@ fn number(alloc: Global) -> Result<Vec<Column>, Memory> {
 }
 
 /// A number in `a` and a text in `c`.
-fn pair(alloc: Global) -> Result<Vec<Column>, Memory> {
+pub(crate) fn pair(alloc: Global) -> Result<Vec<Column>, Memory> {
     let mut columns = number(alloc)?;
     push_column(alloc, &mut columns, "c", SqlType::Varchar)?;
     Ok(columns)
@@ -53,7 +53,7 @@ fn types_of(alloc: Global, columns: &[Column]) -> Result<Vec<SqlType>, Memory> {
     Ok(types)
 }
 
-fn print(alloc: Global, table: &Table) -> Result<Vec<u8>, Memory> {
+pub(crate) fn print(alloc: Global, table: &Table) -> Result<Vec<u8>, Memory> {
     let names = names_of(alloc, table.columns.as_slice())?;
     let types = types_of(alloc, table.columns.as_slice())?;
     text_of(alloc, names.as_slice(), types.as_slice(), &table.rows)

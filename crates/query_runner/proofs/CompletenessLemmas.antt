@@ -9,7 +9,7 @@ use Rattle.plan_checks.specs.declared.fault.PlanFault.TheVariants as plan_fault
 use Rattle.command_line.specs.Words.{Job}
 use Rattle.query_runner.specs.Jobs.{AreTablesAsked, IsPlanAsked, Row}
 use Rattle.query_runner.specs.Loading.{IsNoPlan, PlanFails, TableIsRefused}
-use Rattle.query_runner.specs.Answers.{Answered, Heard, IsComplete, IsSound, JobAnswered, MetNoFault, PlanAnswered, Seen, seen_for}
+use Rattle.query_runner.specs.Answers.{Answered, Heard, IsComplete, IsSound, JobAnswered, MetNoFault, PlanAnswered, SeenOutside, seen_for}
 use Rattle.query_runner.specs.declared.status.Status.{Status}
 use Rattle.query_runner.specs.declared.status.Status.TheVariants as status
 use Rattle.query_runner.proofs.TableLemmas.{all_have_files, one_list_of_tables, tables_serve}
@@ -39,7 +39,7 @@ one_plan_asked held job a b p q =
     one_plan q.bytes a b (subst (λ (bytes : List ℕ). IsPlan bytes a) same p.is_plan) q.is_plan
 
 -- no plan was read, though there is one
-unread : (job : Job) (seen : Seen) (answer : Status) (held : List ℕ → Option (List ℕ)) (plan : PlanForm)
+unread : (job : Job) (seen : SeenOutside) (answer : Status) (held : List ℕ → Option (List ℕ)) (plan : PlanForm)
     → PlanFails (Some held) job seen.read_faults_before seen.read_faults_after seen.refused answer
     → IsPlanAsked (Some held) job plan → MetNoFault seen → (answer ≡ status.Ok) ⊎ (answer ≡ status.Memory)
 unread job seen status.Ok held plan why good calm = inl refl
@@ -52,7 +52,7 @@ unread job seen (status.ExprFailed node kind) held plan why good calm = absurd w
 unread job seen status.WriteFault held plan why good calm = absurd why
 
 -- the plan was read
-ran : (job : Job) (seen : Seen) (answer : Status) (held : List ℕ → Option (List ℕ)) (plan : PlanForm) (tables : List (List Row))
+ran : (job : Job) (seen : SeenOutside) (answer : Status) (held : List ℕ → Option (List ℕ)) (plan : PlanForm) (tables : List (List Row))
     → PlanAnswered job plan seen answer → seen.held ≡ Some held → IsSound (Some held) job plan tables
     → MetNoFault seen → (answer ≡ status.Ok) ⊎ (answer ≡ status.Memory)
 ran job seen status.Ok held plan tables answered tells sound calm = inl refl
@@ -74,7 +74,7 @@ ran job seen (status.ExprFailed node kind) held plan tables answered tells sound
     absurd (sound.calm node kind (subst (λ (t : List (List Row)). MayFail (tree_of plan) t node kind) same failed.may_fail))
 ran job seen status.WriteFault held plan tables answered tells sound calm = absurd (calm.writes answered.rose)
 
-job_complete : (job : Job) (seen : Seen) (heard : Heard) (answer : Status) (held : List ℕ → Option (List ℕ)) (plan : PlanForm) (tables : List (List Row))
+job_complete : (job : Job) (seen : SeenOutside) (heard : Heard) (answer : Status) (held : List ℕ → Option (List ℕ)) (plan : PlanForm) (tables : List (List Row))
     → JobAnswered job seen heard answer → seen.held ≡ Some held → IsSound (Some held) job plan tables
     → MetNoFault seen → (answer ≡ status.Ok) ⊎ (answer ≡ status.Memory)
 job_complete job seen heard answer held plan tables (inl bad) tells sound calm =
@@ -83,7 +83,7 @@ job_complete job seen heard answer held plan tables (inr good) tells sound calm 
     let same = one_plan_asked held job good.plan plan (subst (λ h. IsPlanAsked h job good.plan) tells good.is_plan) sound.is_plan in
     ran job seen answer held plan tables (subst (λ (p : PlanForm). PlanAnswered job p seen answer) same good.answered) tells sound calm
 
-complete_by : (asked : Option Job) (seen : Seen) (heard : Heard) (answer : Status) (job : Job) (held : List ℕ → Option (List ℕ)) (plan : PlanForm) (tables : List (List Row))
+complete_by : (asked : Option Job) (seen : SeenOutside) (heard : Heard) (answer : Status) (job : Job) (held : List ℕ → Option (List ℕ)) (plan : PlanForm) (tables : List (List Row))
     → Answered asked seen heard answer → asked ≡ Some job → (seen_for job.demo seen).held ≡ Some held → IsSound (Some held) job plan tables
     → MetNoFault (seen_for job.demo seen) → (answer ≡ status.Ok) ⊎ (answer ≡ status.Memory)
 complete_by None seen heard answer job held plan tables answered is tells sound calm = absurd cc
@@ -91,13 +91,13 @@ complete_by (Some found) seen heard answer job held plan tables answered is tell
     let same : found ≡ job = cc in
     job_complete job (seen_for job.demo seen) heard answer held plan tables (subst (λ (j : Job). JobAnswered j (seen_for j.demo seen) heard answer) same answered) tells sound calm
 
-pub complete : (asked : Option Job) (seen : Seen) (heard : Heard) (answer : Status) → Answered asked seen heard answer → IsComplete asked seen answer
+pub complete : (asked : Option Job) (seen : SeenOutside) (heard : Heard) (answer : Status) → Answered asked seen heard answer → IsComplete asked seen answer
 complete asked seen heard answer answered = record {
   ends_well = λ job held plan tables is tells sound calm. complete_by asked seen heard answer job held plan tables answered is tells sound calm;
 }
 
 -- what is answered of the documents of a demo is answered of a job of this demo
-pub demo_answered : (job : Job) (demo : Option ℕ) (number : ℕ) (seen : Seen) (heard : Heard) (answer : Status) → demo ≡ Some number
+pub demo_answered : (job : Job) (demo : Option ℕ) (number : ℕ) (seen : SeenOutside) (heard : Heard) (answer : Status) → demo ≡ Some number
     → JobAnswered job (seen_for (Some number) seen) heard answer → JobAnswered job (seen_for demo seen) heard answer
 demo_answered job demo number seen heard answer is answered =
     subst (λ (d : Option ℕ). JobAnswered job (seen_for d seen) heard answer) (sym is) answered

@@ -5,13 +5,15 @@ use Rattle.std.specs.List.{position_from}
 use Rattle.run_ports.specs.Reading.{AreBytesOf}
 use Rattle.plan_docs.specs.declared.plan.TableDoc.{TableDoc}
 use Rattle.command_line.specs.Words.{Job, file_of}
-use Rattle.query_runner.specs.Jobs.{AreTablesAsked, Contents, first_without_file, IsFileOf, IsTableAsked, Row, rows_of}
+use Rattle.query_runner.specs.Jobs.{AreTablesAsked, Contents, first_without_file, IsFileOf, IsTableAsked, Row}
+use Rattle.tree_evaluator.specs.Stops.{rows_of_table}
 use Rattle.sql_values.specs.declared.table.Table.{Table}
 use Rattle.std.proofs.lemmas.List.{map-append}
 use Rattle.std.proofs.lemmas.List.Elements.{All-push}
-use Rattle.page_judges.specs.Typed.{AllFit}
-use Rattle.plan_fits.specs.Tables.{HaveColumns}
-use Rattle.tree_evaluator.specs.Fits.{TablesFit, kinds}
+use Rattle.col_pages.specs.Fits.{AllFit}
+use Rattle.plan_fit_laws.specs.Tables.{HaveColumns}
+use Rattle.sql_values.specs.Columns.{kinds}
+use Rattle.tree_evaluator.specs.Fits.{TablesFit}
 use Rattle.task_executor.specs.Shapes.{AreFew}
 use Rattle.query_runner.specs.Loading.{TableFails, TableIsRefused, TablesFail}
 use Rattle.query_runner.specs.declared.status.Status.{Status}
@@ -145,14 +147,14 @@ one_place_more held job (d ∷ ds) (r ∷ rs) (suc i) doc rows done is one = (do
 
 -- the step of a loop over tables
 pub loop_step : (before held : Contents) (job : Job) (docs : List TableDoc) (xs ys : List Table) (table : Table) (i : ℕ) (doc : TableDoc)
-    → AreTablesAsked before job (take i docs) (map rows_of xs) → held ≡ before → slice_get docs i ≡ Some doc
-    → IsTableAsked held job doc (rows_of table) → ys ≡ xs ++ table ∷ []
-    → AreTablesAsked before job (take (i + 1) docs) (map rows_of ys)
+    → AreTablesAsked before job (take i docs) (map rows_of_table xs) → held ≡ before → slice_get docs i ≡ Some doc
+    → IsTableAsked held job doc (rows_of_table table) → ys ≡ xs ++ table ∷ []
+    → AreTablesAsked before job (take (i + 1) docs) (map rows_of_table ys)
 loop_step before held job docs xs ys table i doc done same is one grown =
-    let here = subst (λ h. IsTableAsked h job doc (rows_of table)) same one in
-    let step = one_place_more before job docs (map rows_of xs) i doc (rows_of table) done is here in
-    let whole : map rows_of xs ++ rows_of table ∷ [] ≡ map rows_of ys = sym (map-append rows_of xs (table ∷ [])) ∙ ap (map rows_of) (sym grown) in
-    subst (λ (n : ℕ). AreTablesAsked before job (take n docs) (map rows_of ys)) (sym (add-one i))
+    let here = subst (λ h. IsTableAsked h job doc (rows_of_table table)) same one in
+    let step = one_place_more before job docs (map rows_of_table xs) i doc (rows_of_table table) done is here in
+    let whole : map rows_of_table xs ++ rows_of_table table ∷ [] ≡ map rows_of_table ys = sym (map-append rows_of_table xs (table ∷ [])) ∙ ap (map rows_of_table) (sym grown) in
+    subst (λ (n : ℕ). AreTablesAsked before job (take n docs) (map rows_of_table ys)) (sym (add-one i))
     (subst (λ (t : List (List Row)). AreTablesAsked before job (take (suc i) docs) t) whole step)
 
 -- one table more that fits its columns

@@ -1,7 +1,7 @@
 -- What is told of an answer.
 use Rattle.std.proofs.Common.{◌≡◌, ℕ, List, refl}
 use Rattle.std.specs.Io.KnownBytes.{Appends}
-use Rattle.run_ports.specs.Counts.{Rose}
+use Rattle.count_laws.specs.Counts.{Rose}
 use Rattle.run_ports.specs.Writing.{AppendsPrefix}
 use Rattle.query_runner.specs.Answers.{Heard, Told}
 use Rattle.query_runner.specs.Lines.{line}

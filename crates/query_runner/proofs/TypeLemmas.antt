@@ -12,15 +12,17 @@ use Rattle.plan_reader.specs.Trees.{tree_of}
 use Rattle.csv_tables.specs.Tables.{records_of}
 use Rattle.csv_tables.proofs.FitLemmas.{table_has_types}
 use Rattle.command_line.specs.Words.{Job}
-use Rattle.tree_evaluator.specs.Fits.{TablesFit, kinds}
-use Rattle.plan_fits.specs.Tables.{HaveColumns, WasRead}
-use Rattle.plan_links.proofs.DocumentLemmas.{read_consistent}
-use Rattle.plan_fits.proofs.ConsistentLemmas.{consistent_fits}
+use Rattle.sql_values.specs.Columns.{kinds}
+use Rattle.tree_evaluator.specs.Fits.{TablesFit}
+use Rattle.plan_fit_laws.specs.Tables.{HaveColumns, WasRead}
+use Rattle.plan_link_laws.proofs.DocumentLemmas.{read_consistent}
+use Rattle.plan_fit_laws.proofs.ConsistentLemmas.{consistent_fits}
 use Rattle.tree_type_laws.specs.TypedTrees.{HaveTypes}
 use Rattle.tree_type_laws.proofs.TreeLemmas.{rows_keep}
 use Rattle.plan_type_laws.specs.Tables.{TablesTyped}
 use Rattle.plan_type_laws.proofs.PlanLemmas.{declared_types, plan_typed}
-use Rattle.query_runner.specs.Jobs.{AreTablesAsked, Contents, row_limit, rows_of}
+use Rattle.query_runner.specs.Jobs.{AreTablesAsked, Contents, row_limit}
+use Rattle.tree_evaluator.specs.Stops.{rows_of_table}
 use Rattle.query_runner.specs.Answers.{IsResult, IsTextOf}
 
 abbrev AreTypes : TableDoc → Type 0
@@ -31,7 +33,7 @@ IsTyped table = HaveTypes (kinds table.columns) table.rows
 
 -- each table has its columns' types, since it was read by them
 asked_typed : (held : Contents) (job : Job) (docs : List TableDoc) (tables : List Table) → HaveColumns docs tables → All AreTypes docs
-    → AreTablesAsked held job docs (map rows_of tables) → TablesTyped tables
+    → AreTablesAsked held job docs (map rows_of_table tables) → TablesTyped tables
 asked_typed held job [] [] own types asked = All-nil IsTyped
 asked_typed held job [] (table ∷ tables) own types asked = absurd asked
 asked_typed held job (doc ∷ docs) [] own types asked = absurd asked
@@ -44,11 +46,11 @@ asked_typed held job (doc ∷ docs) (table ∷ tables) own types asked =
     (asked_typed held job docs tables rest (All-tail AreTypes doc docs types) asked.1)
 
 pub result_typed : (held : Contents) (job : Job) (plan : PlanForm) (tables : List Table) (text : List ℕ) → WasRead plan → HaveColumns plan.tables tables
-    → TablesFit tables → AreTablesAsked held job plan.tables (map rows_of tables) → IsTextOf plan (map rows_of tables) text → IsResult held job plan text
+    → TablesFit tables → AreTablesAsked held job plan.tables (map rows_of_table tables) → IsTextOf plan (map rows_of_table tables) text → IsResult held job plan text
 result_typed held job plan tables text read own fit asked is = record {
-  tables = map rows_of tables;
+  tables = map rows_of_table tables;
   are_tables = asked;
   is_text = is;
-  typed = rows_keep strict (tree_of plan) (map rows_of tables) (consistent_fits plan (read_consistent plan read.bytes read.is_plan) tables own fit)
+  typed = rows_keep strict (tree_of plan) (map rows_of_table tables) (consistent_fits plan (read_consistent plan read.bytes read.is_plan) tables own fit)
       (plan_typed plan tables read own (asked_typed held job plan.tables tables own (declared_types plan read) asked)) is.list is.allowed;
 }

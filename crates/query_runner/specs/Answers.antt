@@ -3,8 +3,10 @@ use Rattle.std.specs.Prelude.{◌≡◌, ◌⊎◌, ℕ, List, [], IsTrue, Optio
 use Rattle.std.specs.Io.KnownBytes.{Appends}
 use Rattle.sql_values.specs.declared.fail.Fail.{Fail}
 use Rattle.sql_values.specs.Types.{rows_have_types}
-use Rattle.run_ports.specs.Counts.{Rose}
+use Rattle.count_laws.specs.Counts.{Rose}
 use Rattle.run_ports.specs.Writing.{AppendsPrefix}
+use Rattle.run_ports.specs.declared.files.Files.{Ghosts as FilesGhosts}
+use Rattle.run_ports.specs.declared.sink.Sink.{Ghosts as SinkGhosts}
 use Rattle.plan_docs.specs.Plans.{PlanForm}
 use Rattle.plan_trees.specs.TreeTypes.{types_of}
 use Rattle.plan_trees.specs.Allowed.{Allows}
@@ -23,7 +25,7 @@ use Rattle.query_runner.specs.declared.status.Status.{Status}
 use Rattle.query_runner.specs.declared.status.Status.TheVariants as status
 
 -- what is seen of a run from outside, before it and after it: files and output
-pub record Seen : Type 0 where
+pub record SeenOutside : Type 0 where
   pub held : Contents
   pub read_faults_before : ℕ
   pub read_faults_after : ℕ
@@ -40,6 +42,28 @@ pub record Heard : Type 0 where
   pub faults_before : ℕ
   pub faults_after : ℕ
 
+-- what is seen of a run over these files and this output, as they were before it and are after it
+abbrev pub seen_of : {F O : Type 0} → FilesGhosts F → SinkGhosts O → F → F → O → O → SeenOutside
+seen_of of_files of_output files files_after out out_after = record {
+  held = of_files.holds files;
+  read_faults_before = of_files.faults files;
+  read_faults_after = of_files.faults files_after;
+  refused = of_files.refused files_after;
+  written_before = of_output.written out;
+  written_after = of_output.written out_after;
+  write_faults_before = of_output.faults out;
+  write_faults_after = of_output.faults out_after;
+}
+
+-- what was told on these errors
+abbrev pub heard_on : {E : Type 0} → SinkGhosts E → E → E → Heard
+heard_on of_errors err err_after = record {
+  told_before = of_errors.written err;
+  told_after = of_errors.written err_after;
+  faults_before = of_errors.faults err;
+  faults_after = of_errors.faults err_after;
+}
+
 -- the text of a list of rows that the plan's tree allows over its tables
 pub record IsTextOf (plan : PlanForm) (tables : List (List Row)) (text : List ℕ) : Type 0 where
   pub list : List Row
@@ -54,26 +78,26 @@ pub record IsResult (held : Contents) (job : Job) (plan : PlanForm) (text : List
   pub typed : IsTrue (rows_have_types (types_of (tree_of plan)) is_text.list)
 
 -- the result was written whole, and nothing else
-pub record WroteResult (job : Job) (plan : PlanForm) (seen : Seen) : Type 0 where
+pub record WroteResult (job : Job) (plan : PlanForm) (seen : SeenOutside) : Type 0 where
   pub text : List ℕ
   pub is_result : IsResult seen.held job plan text
   pub appends : Appends seen.written_before seen.written_after text
 
 -- a beginning of the result was written, and then a write failed
-pub record StoppedWriting (job : Job) (plan : PlanForm) (seen : Seen) : Type 0 where
+pub record StoppedWriting (job : Job) (plan : PlanForm) (seen : SeenOutside) : Type 0 where
   pub text : List ℕ
   pub is_result : IsResult seen.held job plan text
   pub appends : AppendsPrefix seen.written_before seen.written_after text
   pub rose : Rose seen.write_faults_before seen.write_faults_after
 
--- an expression of the plan may fail so on a row that it may have been given
+-- an expression of the plan may fail with this kind on a row that it may have been given
 pub record MayHaveFailed (held : Contents) (job : Job) (plan : PlanForm) (node : ℕ) (kind : Fail) : Type 0 where
   pub tables : List (List Row)
   pub are_tables : AreTablesAsked held job plan.tables tables
   pub may_fail : MayFail (tree_of plan) tables node kind
 
 -- nothing was written
-abbrev pub WroteNothing : Seen → Type 0
+abbrev pub WroteNothing : SeenOutside → Type 0
 WroteNothing seen = seen.written_after ≡ seen.written_before
 
 -- why a plan that was read gave no result
@@ -83,7 +107,7 @@ RunFails plan tables (status.ExprFailed node kind) = MayFail (tree_of plan) tabl
 RunFails plan tables _ = ⊥
 
 -- what an answer means once the plan was read
-abbrev pub PlanAnswered : Job → PlanForm → Seen → Status → Type 0
+abbrev pub PlanAnswered : Job → PlanForm → SeenOutside → Status → Type 0
 PlanAnswered job plan seen status.Ok = WroteResult job plan seen
 PlanAnswered job plan seen status.Memory = WroteNothing seen
 PlanAnswered job plan seen status.BadWords = ⊥
@@ -107,20 +131,20 @@ Told heard text status.Ok = heard.told_after ≡ heard.told_before
 Told heard text _ = ToldLine heard text
 
 -- no plan was read
-pub record PlanIsUnread (job : Job) (seen : Seen) (heard : Heard) (answer : Status) : Type 0 where
+pub record PlanIsUnread (job : Job) (seen : SeenOutside) (heard : Heard) (answer : Status) : Type 0 where
   pub why : PlanFails seen.held job seen.read_faults_before seen.read_faults_after seen.refused answer
   pub nothing : WroteNothing seen
   pub told : Told heard (message job [] answer) answer
 
 -- the plan's file holds this plan, and it was run
-pub record PlanRan (job : Job) (seen : Seen) (heard : Heard) (answer : Status) : Type 0 where
+pub record PlanRan (job : Job) (seen : SeenOutside) (heard : Heard) (answer : Status) : Type 0 where
   pub plan : PlanForm
   pub is_plan : IsPlanAsked seen.held job plan
   pub answered : PlanAnswered job plan seen answer
   pub told : Told heard (message job plan.tables answer) answer
 
 -- what an answer means where the words ask for this
-abbrev pub JobAnswered : Job → Seen → Heard → Status → Type 0
+abbrev pub JobAnswered : Job → SeenOutside → Heard → Status → Type 0
 JobAnswered job seen heard answer = PlanIsUnread job seen heard answer ⊎ PlanRan job seen heard answer
 
 -- the number of the demo that is asked for, if one is
@@ -129,7 +153,7 @@ demo_of None = None
 demo_of (Some job) = job.demo
 
 -- what is seen of a run with a demo: its documents are what the files hold, and no read of them fails
-abbrev pub seen_for : Option ℕ → Seen → Seen
+abbrev pub seen_for : Option ℕ → SeenOutside → SeenOutside
 seen_for None seen = seen
 seen_for (Some number) seen = record seen {
   held = Some (demo_contents number);
@@ -144,13 +168,13 @@ status_of_words fault.Bad = status.BadWords
 status_of_words fault.Memory = status.Memory
 
 -- the words are no command line: that is told, or memory was wanting
-pub record WordsAreBad (seen : Seen) (heard : Heard) (answer : Status) : Type 0 where
+pub record WordsAreBad (seen : SeenOutside) (heard : Heard) (answer : Status) : Type 0 where
   pub is : (answer ≡ status.BadWords) ⊎ (answer ≡ status.Memory)
   pub nothing : WroteNothing seen
   pub told : Told heard (message no_job [] answer) answer
 
 -- what an answer means
-abbrev pub Answered : Option Job → Seen → Heard → Status → Type 0
+abbrev pub Answered : Option Job → SeenOutside → Heard → Status → Type 0
 Answered None seen heard answer = WordsAreBad seen heard answer
 Answered (Some job) seen heard answer = JobAnswered job (seen_for job.demo seen) heard answer
 
@@ -160,7 +184,7 @@ status_of (Ok x) = status.Ok
 status_of (Err s) = s
 
 -- no read and no write failed
-pub record MetNoFault (seen : Seen) : Type 0 where
+pub record MetNoFault (seen : SeenOutside) : Type 0 where
   pub reads : ¬ Rose seen.read_faults_before seen.read_faults_after
   pub writes : ¬ Rose seen.write_faults_before seen.write_faults_after
 
@@ -171,7 +195,7 @@ pub record IsSound (held : Contents) (job : Job) (plan : PlanForm) (tables : Lis
   pub calm : CannotFail (tree_of plan) tables
 
 -- a run of what is sound that met no fault of the outside gave the result, or memory was wanting
-pub record IsComplete (asked : Option Job) (seen : Seen) (answer : Status) : Type 0 where
+pub record IsComplete (asked : Option Job) (seen : SeenOutside) (answer : Status) : Type 0 where
   pub ends_well : (job : Job) (held : List ℕ → Option (List ℕ)) (plan : PlanForm) (tables : List (List Row))
       → asked ≡ Some job → (seen_for job.demo seen).held ≡ Some held → IsSound (Some held) job plan tables
       → MetNoFault (seen_for job.demo seen) → (answer ≡ status.Ok) ⊎ (answer ≡ status.Memory)

@@ -21,10 +21,6 @@ Contents = Option (List ℕ → Option (List ℕ))
 abbrev pub Row : Type 0
 Row = List Value
 
--- the rows of a table
-abbrev pub rows_of : Table → List Row
-rows_of table = table.rows
-
 -- the plan's file holds this plan
 pub record IsPlanAsked (held : Contents) (job : Job) (plan : PlanForm) : Type 0 where
   pub bytes : List ℕ

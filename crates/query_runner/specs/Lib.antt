@@ -4,3 +4,4 @@ pub mod Jobs
 pub mod Demos
 pub mod Loading
 pub mod Answers
+pub use Rattle.task_executor.specs.Shapes

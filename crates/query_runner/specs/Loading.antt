@@ -1,10 +1,10 @@
 -- Why a plan or its tables were not read.
 use Rattle.std.specs.Prelude.{◌≡◌, ℕ, ◌+◌, ◌-◌, ◌^◌, min, List, [], ◌∷◌, take, Option, Some, None, slice_get}
-use Rattle.run_ports.specs.Counts.{Rose}
+use Rattle.count_laws.specs.Counts.{Rose}
 use Rattle.run_ports.specs.Reading.{AreBytesOf}
-use Rattle.plan_places.specs.Places.{pointer_text}
-use Rattle.plan_places.specs.declared.key.Key.TheVariants as key
-use Rattle.plan_places.specs.declared.step.Step.TheVariants as step
+use Rattle.json_paths.specs.Places.{pointer_text}
+use Rattle.json_paths.specs.declared.key.Key.TheVariants as key
+use Rattle.json_paths.specs.declared.step.Step.TheVariants as step
 use Rattle.plan_docs.specs.declared.plan.TableDoc.{TableDoc}
 use Rattle.plan_reader.specs.Judgement.{RefusedFor}
 use Rattle.plan_checks.specs.declared.fault.PlanFault.TheVariants as plan_fault

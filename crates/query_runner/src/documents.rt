@@ -1,6 +1,6 @@
 //! The documents of a demo, in the place of files.
 ghost use Rattle.std.specs.Prelude.{◌≡◌, ◌≤◌, Some, None, IfOk};
-ghost use Rattle.run_ports.specs.Counts.{Rose};
+ghost use Rattle.count_laws.specs.Counts.{Rose};
 ghost use Rattle.run_ports.specs.Reading.{AreBytesOf, IfFailed, refused_after};
 ghost use Rattle.query_runner.specs.Demos.{contents_with, demo_contents, document_named};
 

@@ -26,5 +26,6 @@ pub use lines::tell_first;
 pub use load::{ROW_LIMIT, files_of, load_plan, load_tables};
 pub use results::{result_alone, result_of};
 pub use status::Status;
+pub use task_executor::Shape;
 pub use top::{run, shape_of};
 pub use words::words_of;

@@ -1,10 +1,10 @@
 ghost use Rattle.std.specs.Prelude.{◌≡◌, ◌≤◌, ◌++◌, codes, List, [], ℕ, Option, OnOk, OnErr};
 ghost use Rattle.std.specs.Fmt.{decimal};
 ghost use Rattle.std.specs.Io.KnownBytes.{Appends};
-ghost use Rattle.run_ports.specs.Counts.{Rose};
+ghost use Rattle.count_laws.specs.Counts.{Rose};
 ghost use Rattle.run_ports.specs.Writing.{AppendsPrefix};
 ghost use Rattle.command_line.specs.Words.{asked, no_job};
-ghost use Rattle.query_runner.specs.Answers.{Told};
+ghost use Rattle.query_runner.specs.Answers.{Told, heard_on};
 ghost use Rattle.query_runner.specs.Lines.{failure_message, file_numbered, kind_number, line, message, plan_message, read_message, table_message, table_named};
 
 use crate::status::Status;
@@ -18,12 +18,7 @@ use std::alloc::Global;
 /// Writes the line of an answer to the errors, where it is not Ok. It takes no memory. A write that
 /// fails ends it.
 pub fn tell<E: Sink>(err: &mut E, job: &Job<'_>, tables: &[TableDoc], status: &Status)
-    ensures { Told (record {
-      told_before = E.written err.old;
-      told_after = E.written err.new;
-      faults_before = E.faults err.old;
-      faults_after = E.faults err.new;
-    }) (message (asked job.now) tables.now status.now) status.now }
+    ensures { Told (heard_on E.Sink err.old err.new) (message (asked job.now) tables.now status.now) status.now }
 {
     if let Status::Ok = status {
         return;
@@ -33,12 +28,7 @@ pub fn tell<E: Sink>(err: &mut E, job: &Job<'_>, tables: &[TableDoc], status: &S
 
 /// The same of an answer before there is a job.
 pub fn tell_first<E: Sink>(alloc: Global, err: &mut E, status: &Status)
-    ensures { Told (record {
-      told_before = E.written err.old;
-      told_after = E.written err.new;
-      faults_before = E.faults err.old;
-      faults_after = E.faults err.new;
-    }) (message no_job [] status.now) status.now }
+    ensures { Told (heard_on E.Sink err.old err.new) (message no_job [] status.now) status.now }
 {
     tell(err, &Job::none(alloc), &[], status);
 }

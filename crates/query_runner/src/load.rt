@@ -2,21 +2,25 @@ ghost use Rattle.std.specs.Prelude.{◌≡◌, ◌<◌, ◌≤◌, ◌^◌, IfOk
 ghost use Rattle.run_ports.specs.Reading.{AreBytesOf};
 ghost use Rattle.plan_docs.specs.Plans.{plan_view};
 ghost use Rattle.command_line.specs.Words.{asked, asked_file, file_of};
-ghost use Rattle.page_judges.specs.Typed.{AllFit};
+ghost use Rattle.col_pages.specs.Fits.{AllFit};
 ghost use Rattle.task_executor.specs.Shapes.{AreFew};
-ghost use Rattle.tree_evaluator.specs.Fits.{TablesFit, kinds};
-ghost use Rattle.plan_fits.specs.Tables.{HaveColumns, WasRead};
-ghost use Rattle.query_runner.specs.Jobs.{AreTablesAsked, first_without_file, IsPlanAsked, IsTableAsked, rows_of};
+ghost use Rattle.sql_values.specs.Columns.{kinds};
+ghost use Rattle.tree_evaluator.specs.Fits.{TablesFit};
+ghost use Rattle.plan_fit_laws.specs.Tables.{HaveColumns, WasRead};
+ghost use Rattle.query_runner.specs.Jobs.{AreTablesAsked, first_without_file, IsPlanAsked, IsTableAsked};
+ghost use Rattle.tree_evaluator.specs.Stops.{rows_of_table};
 ghost use Rattle.query_runner.specs.Loading.{FilesFail, PlanFails, name_path, ReadFails, TableFails, TablesFail};
 
 use crate::status::Status;
 use command_line::{Job, TableFile};
-use csv_tables::{TableFault, read_table, rows_of_a_table_are_few, rows_of_a_table_fit};
-use plan_places::{Key, Step, pointer_of};
+use csv_tables::{TableFault, rows_of_a_table_are_few, rows_of_a_table_fit};
+use json_paths::{Key, Step, pointer_of};
 use plan_reader::{Plan, PlanFault, TableDoc, read_plan};
 use run_ports::{FileFault, Files};
 use sql_values::{Memory, Table};
 use std::alloc::Global;
+use std::thread::Threads;
+use table_parts::{part_count, read_table_in_parts};
 
 /// How many rows a table may have.
 pub const ROW_LIMIT: u32 = 16_000_000;
@@ -102,9 +106,10 @@ fn has_no_file(
     })
 }
 
-/// Reads the tables of a plan, each from its file.
+/// Reads the tables of a plan, each from its file and with the workers that the words ask for.
 #[tactic(auto, using(crate::proofs::TableLemmas::images_at, crate::proofs::TableLemmas::item_there, crate::proofs::TableLemmas::one_table_more, crate::proofs::TableLemmas::table_fails))]
-pub fn load_tables<F: Files>(
+pub fn load_tables<R: Threads + Sync, F: Files>(
+    rt: &R,
     alloc: Global,
     job: &Job<'_>,
     docs: &[TableDoc],
@@ -121,20 +126,21 @@ pub fn load_tables<F: Files>(
     ensures later { F.faults files.old ≤ F.faults files.new }
     ensures answer { MatchResult result
         (λ tables. AreTablesAsked (F.holds files.old) (asked job.now) docs.now
-        (map rows_of tables.items))
+        (map rows_of_table tables.items))
         (TablesFail (F.holds files.old) (asked job.now) docs.now
         (F.faults files.old) (F.faults files.new) (F.refused files.new)) }
 {
     let mut tables = Vec::with_capacity(alloc, docs.len())?;
     for place in 0..docs.len().min(found.len()) {
-        let table = load_table(alloc, job, &docs[place], place, found[place], files)?;
+        let table = load_table(rt, alloc, job, &docs[place], place, found[place], files)?;
         tables.push(table)?;
     }
     Ok(tables)
 }
 
 /// Reads one table, which has this place in the plan.
-fn load_table<F: Files>(
+fn load_table<R: Threads + Sync, F: Files>(
+    rt: &R,
     alloc: Global,
     job: &Job<'_>,
     doc: &TableDoc,
@@ -155,9 +161,10 @@ fn load_table<F: Files>(
 {
     let number = u32::try_from(found.place.saturating_add(1)).unwrap_or(u32::MAX);
     let bytes = read_file(alloc, files, found.file, number)?;
-    match read_table(alloc, doc.columns.as_slice(), ROW_LIMIT, bytes.as_slice()) {
+    let columns = doc.columns.as_slice();
+    let parts = part_count(job.workers, bytes.len());
+    match read_table_in_parts(rt, alloc, parts, columns, ROW_LIMIT, bytes.as_slice()) {
         Ok(table) => {
-            let columns = doc.columns.as_slice();
             rows_of_a_table_fit(columns, ROW_LIMIT, bytes.as_slice(), &table.rows);
             rows_of_a_table_are_few(columns, ROW_LIMIT, bytes.as_slice(), &table.rows);
             Ok(table)

@@ -1,18 +1,18 @@
 //! The text of what a plan gives over its tables: on the workers of a shape, or on one thread under picks.
 ghost use Rattle.std.specs.Prelude.{map, MatchResult};
 ghost use Rattle.plan_docs.specs.Plans.{plan_view};
-ghost use Rattle.plan_fits.specs.Tables.{HaveColumns, WasRead};
+ghost use Rattle.plan_fit_laws.specs.Tables.{HaveColumns, WasRead};
 ghost use Rattle.plan_reader.specs.Trees.{tree_of};
 ghost use Rattle.plan_trees.specs.Allowed.{Allows};
 ghost use Rattle.task_executor.specs.Nets.{FailsFor};
 ghost use Rattle.task_executor.specs.Shapes.{AreFew, IsShape};
 ghost use Rattle.tree_evaluator.specs.Fits.{TablesFit};
 ghost use Rattle.query_runner.specs.Answers.{IsTextOf, RunFails};
-ghost use Rattle.query_runner.specs.Jobs.{rows_of};
+ghost use Rattle.tree_evaluator.specs.Stops.{rows_of_table};
 
 use crate::status::Status;
 use csv_tables::text_of;
-use plan_links::read_plans_are_consistent;
+use plan_link_laws::read_plans_are_consistent;
 use plan_reader::{Plan, tree};
 use plan_trees::types_of_tree;
 use run_ports::{Courier, Meet};
@@ -43,8 +43,8 @@ where
     requires fit { TablesFit tables.now }
     requires few { AreFew tables.now }
     ensures { MatchResult result
-        (λ text. IsTextOf (plan_view plan.now) (map rows_of tables.now) text.items)
-        (RunFails (plan_view plan.now) (map rows_of tables.now)) }
+        (λ text. IsTextOf (plan_view plan.now) (map rows_of_table tables.now) text.items)
+        (RunFails (plan_view plan.now) (map rows_of_table tables.now)) }
 {
     let done = run_of(rt, alloc, shape, plan, tables, courier, meet);
     text_of_run(alloc, plan, tables, done)
@@ -69,8 +69,8 @@ where
     requires fit { TablesFit tables.now }
     requires few { AreFew tables.now }
     ensures { MatchResult result
-        (λ text. IsTextOf (plan_view plan.now) (map rows_of tables.now) text.items)
-        (RunFails (plan_view plan.now) (map rows_of tables.now)) }
+        (λ text. IsTextOf (plan_view plan.now) (map rows_of_table tables.now) text.items)
+        (RunFails (plan_view plan.now) (map rows_of_table tables.now)) }
 {
     let done = run_alone_of(rt, alloc, shape, plan, tables, courier, picks);
     text_of_run(alloc, plan, tables, done)
@@ -87,11 +87,11 @@ fn text_of_run(
     requires columns { HaveColumns (plan_view plan.now).tables tables.now }
     requires fit { TablesFit tables.now }
     requires done { MatchResult done
-        (λ done. Allows (tree_of (plan_view plan.now)) (map rows_of tables.now) done.rows)
-        (FailsFor (tree_of (plan_view plan.now)) (map rows_of tables.now)) }
+        (λ done. Allows (tree_of (plan_view plan.now)) (map rows_of_table tables.now) done.rows)
+        (FailsFor (tree_of (plan_view plan.now)) (map rows_of_table tables.now)) }
     ensures { MatchResult result
-        (λ text. IsTextOf (plan_view plan.now) (map rows_of tables.now) text.items)
-        (RunFails (plan_view plan.now) (map rows_of tables.now)) }
+        (λ text. IsTextOf (plan_view plan.now) (map rows_of_table tables.now) text.items)
+        (RunFails (plan_view plan.now) (map rows_of_table tables.now)) }
 {
     match done {
         Ok(done) => {
@@ -123,8 +123,8 @@ where
     requires fit { TablesFit tables.now }
     requires few { AreFew tables.now }
     ensures { MatchResult result
-        (λ done. Allows (tree_of (plan_view plan.now)) (map rows_of tables.now) done.rows)
-        (FailsFor (tree_of (plan_view plan.now)) (map rows_of tables.now)) }
+        (λ done. Allows (tree_of (plan_view plan.now)) (map rows_of_table tables.now) done.rows)
+        (FailsFor (tree_of (plan_view plan.now)) (map rows_of_table tables.now)) }
 {
     read_plans_are_consistent(plan);
     let Ok(mut wiring) = Wiring::build(alloc, plan, tables, shape) else {
@@ -155,8 +155,8 @@ where
     requires fit { TablesFit tables.now }
     requires few { AreFew tables.now }
     ensures { MatchResult result
-        (λ done. Allows (tree_of (plan_view plan.now)) (map rows_of tables.now) done.rows)
-        (FailsFor (tree_of (plan_view plan.now)) (map rows_of tables.now)) }
+        (λ done. Allows (tree_of (plan_view plan.now)) (map rows_of_table tables.now) done.rows)
+        (FailsFor (tree_of (plan_view plan.now)) (map rows_of_table tables.now)) }
 {
     read_plans_are_consistent(plan);
     let Ok(mut wiring) = Wiring::build(alloc, plan, tables, shape) else {

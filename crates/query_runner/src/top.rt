@@ -1,12 +1,13 @@
 ghost use Rattle.std.specs.Prelude.{◌≡◌, ◌⊎◌, ◌≤◌, ℕ, [], map, None, Some, Ok, Err, IfOk, MatchResult};
 ghost use Rattle.plan_docs.specs.Plans.{plan_view};
 ghost use Rattle.command_line.specs.Words.{HasBounds, Job as Asked, asked, job_of, no_job};
-ghost use Rattle.plan_fits.specs.Tables.{HaveColumns, WasRead};
+ghost use Rattle.plan_fit_laws.specs.Tables.{HaveColumns, WasRead};
 ghost use Rattle.task_executor.specs.Shapes.{IsShape};
 ghost use Rattle.tree_evaluator.specs.Fits.{TablesFit};
-ghost use Rattle.query_runner.specs.Answers.{Answered, IsComplete, IsResult, IsTextOf, JobAnswered, PlanAnswered, Told, demo_of, seen_for, status_of, status_of_words};
+ghost use Rattle.query_runner.specs.Answers.{Answered, IsComplete, IsResult, IsTextOf, JobAnswered, PlanAnswered, Told, demo_of, heard_on, seen_for, seen_of, status_of, status_of_words};
 ghost use Rattle.query_runner.specs.Lines.{message};
-ghost use Rattle.query_runner.specs.Jobs.{AreTablesAsked, Contents, rows_of};
+ghost use Rattle.query_runner.specs.Jobs.{AreTablesAsked, Contents};
+ghost use Rattle.tree_evaluator.specs.Stops.{rows_of_table};
 ghost use Rattle.query_runner.specs.Demos.{demo_contents};
 
 use crate::documents::Documents;
@@ -48,31 +49,11 @@ where
     ensures no_words { job_of words.now ≡ None → (result ≡ Status.BadWords) ⊎ (result ≡ Status.Memory) }
     ensures no_words_do_nothing { job_of words.now ≡ None
         → (files.new ≡ files.old) × (out.new ≡ out.old) }
-    ensures answer { Answered (job_of words.now) (record {
-      held = F.holds files.old;
-      read_faults_before = F.faults files.old;
-      read_faults_after = F.faults files.new;
-      refused = F.refused files.new;
-      written_before = O.written out.old;
-      written_after = O.written out.new;
-      write_faults_before = O.faults out.old;
-      write_faults_after = O.faults out.new;
-    }) (record {
-      told_before = E.written err.old;
-      told_after = E.written err.new;
-      faults_before = E.faults err.old;
-      faults_after = E.faults err.new;
-    }) result }
-    ensures complete { IsComplete (job_of words.now) (record {
-      held = F.holds files.old;
-      read_faults_before = F.faults files.old;
-      read_faults_after = F.faults files.new;
-      refused = F.refused files.new;
-      written_before = O.written out.old;
-      written_after = O.written out.new;
-      write_faults_before = O.faults out.old;
-      write_faults_after = O.faults out.new;
-    }) result }
+    ensures answer { Answered (job_of words.now)
+        (seen_of F.Files O.Sink files.old files.new out.old out.new)
+        (heard_on E.Sink err.old err.new) result }
+    ensures complete { IsComplete (job_of words.now)
+        (seen_of F.Files O.Sink files.old files.new out.old out.new) result }
     ensures demo_reads_no_file { (number : ℕ)
         → demo_of (job_of words.now) ≡ Some number → files.new ≡ files.old }
 {
@@ -88,12 +69,7 @@ where
 /// Tells why the words were not read.
 fn refuse<E: Sink>(alloc: Global, err: &mut E, fault: WordsFault) -> Status
     ensures status { result ≡ status_of_words fault }
-    ensures told { Told (record {
-      told_before = E.written err.old;
-      told_after = E.written err.new;
-      faults_before = E.faults err.old;
-      faults_after = E.faults err.new;
-    }) (message no_job [] result) result }
+    ensures told { Told (heard_on E.Sink err.old err.new) (message no_job [] result) result }
 {
     let status = match fault {
         WordsFault::Bad => Status::BadWords,
@@ -122,21 +98,9 @@ where
     C: Courier + Send,
     M: Meet + Sync,
     requires { HasBounds (asked job.now) }
-    ensures answer { JobAnswered (asked job.now) (seen_for (asked job.now).demo (record {
-      held = F.holds files.old;
-      read_faults_before = F.faults files.old;
-      read_faults_after = F.faults files.new;
-      refused = F.refused files.new;
-      written_before = O.written out.old;
-      written_after = O.written out.new;
-      write_faults_before = O.faults out.old;
-      write_faults_after = O.faults out.new;
-    })) (record {
-      told_before = E.written err.old;
-      told_after = E.written err.new;
-      faults_before = E.faults err.old;
-      faults_after = E.faults err.new;
-    }) result }
+    ensures answer { JobAnswered (asked job.now)
+        (seen_for (asked job.now).demo (seen_of F.Files O.Sink files.old files.new out.old out.new))
+        (heard_on E.Sink err.old err.new) result }
     ensures demo_reads_no_file { (number : ℕ)
         → (asked job.now).demo ≡ Some number → files.new ≡ files.old }
 {
@@ -173,12 +137,7 @@ where
       written_after = O.written out.new;
       write_faults_before = O.faults out.old;
       write_faults_after = O.faults out.new;
-    }) (record {
-      told_before = E.written err.old;
-      told_after = E.written err.new;
-      faults_before = E.faults err.old;
-      faults_after = E.faults err.new;
-    }) result }
+    }) (heard_on E.Sink err.old err.new) result }
 {
     let Ok(mut documents) = Documents::of(alloc, number) else {
         tell(err, job, &[], &Status::Memory);
@@ -206,21 +165,9 @@ where
     C: Courier + Send,
     M: Meet + Sync,
     requires { HasBounds (asked job.now) }
-    ensures answer { JobAnswered (asked job.now) (record {
-      held = F.holds files.old;
-      read_faults_before = F.faults files.old;
-      read_faults_after = F.faults files.new;
-      refused = F.refused files.new;
-      written_before = O.written out.old;
-      written_after = O.written out.new;
-      write_faults_before = O.faults out.old;
-      write_faults_after = O.faults out.new;
-    }) (record {
-      told_before = E.written err.old;
-      told_after = E.written err.new;
-      faults_before = E.faults err.old;
-      faults_after = E.faults err.new;
-    }) result }
+    ensures answer { JobAnswered (asked job.now)
+        (seen_of F.Files O.Sink files.old files.new out.old out.new)
+        (heard_on E.Sink err.old err.new) result }
 {
     let plan = match load_plan(alloc, job, files) {
         Ok(plan) => plan,
@@ -279,7 +226,14 @@ where
         }) (status_of result) }
 {
     let found = files_of(alloc, job, plan.tables.as_slice())?;
-    let tables = load_tables(alloc, job, plan.tables.as_slice(), found.as_slice(), files)?;
+    let tables = load_tables(
+        rt,
+        alloc,
+        job,
+        plan.tables.as_slice(),
+        found.as_slice(),
+        files,
+    )?;
     let text = result_of(
         rt,
         alloc,
@@ -300,8 +254,8 @@ fn results_are_typed(plan: &Plan, tables: &[Table], text: &[u8])
     requires columns { HaveColumns (plan_view plan.now).tables tables.now }
     requires fit { TablesFit tables.now }
     ensures { (held : Contents) (job : Asked)
-        → AreTablesAsked held job (plan_view plan.now).tables (map rows_of tables.now)
-        → IsTextOf (plan_view plan.now) (map rows_of tables.now) text.now
+        → AreTablesAsked held job (plan_view plan.now).tables (map rows_of_table tables.now)
+        → IsTextOf (plan_view plan.now) (map rows_of_table tables.now) text.now
         → IsResult held job (plan_view plan.now) text.now }
 {}
 

@@ -7,12 +7,12 @@ use Rattle.sql_values.specs.declared.fail.Fail.{Fail}
 use Rattle.col_pages.specs.Pages.{TypedPage}
 use Rattle.operator_core.specs.Samples.{has_row}
 use Rattle.operator_core.specs.declared.fault.OpFault.TheVariants.{Expr}
-use Rattle.relations.specs.Verdicts.{Verdict}
+use Rattle.relation_laws.specs.Verdicts.{Verdict}
 use Rattle.sql_exprs.specs.declared.expr.Expr.{Expr as Expression}
 use Rattle.sql_exprs.specs.Forms.{form_view}
-use Rattle.page_judges.specs.declared.judged.Judged.{Judged}
-use Rattle.page_judges.specs.Judged.{first_failure, judged, rows_before}
-use Rattle.row_ops.specs.RowJudges.{kinds, row_judge}
+use Rattle.page_processor.specs.declared.judged.Judged.{Judged}
+use Rattle.page_processor.specs.Judged.{first_failure, judged, rows_before}
+use Rattle.row_ops.specs.RowJudges.{kinds_of_forms, row_judge}
 use Rattle.row_ops.specs.RowsHeld.{FilterFails, FilterGives, FilterState, judge_in, rows_held, unless_failed}
 use Rattle.row_ops.proofs.JudgeLemmas.{failure-later, rows-later}
 
@@ -61,11 +61,11 @@ some_row (row ∷ rows) h = refl
 
 -- what the expressions make of a page of the input's types
 module _ (s : FilterState) (page : TypedPage) (columns : List Expression) (j : Judged) (same : columns ≡ s.columns) (types : page.types ≡ s.types)
-    (is : j ≡ judged (row_judge page.types (option_map form_view s.predicate) (map form_view columns)) (kinds page.types (map form_view columns)) page.rows) where
-  is-judged : j ≡ judged (judge_in s) (kinds s.types (map form_view s.columns)) page.rows
+    (is : j ≡ judged (row_judge page.types (option_map form_view s.predicate) (map form_view columns)) (kinds_of_forms page.types (map form_view columns)) page.rows) where
+  is-judged : j ≡ judged (judge_in s) (kinds_of_forms s.types (map form_view s.columns)) page.rows
   is-judged =
-      is ∙ ap (λ ts. judged (row_judge ts (option_map form_view s.predicate) (map form_view columns)) (kinds ts (map form_view columns)) page.rows) types
-      ∙ ap (λ (cs : List Expression). judged (row_judge s.types (option_map form_view s.predicate) (map form_view cs)) (kinds s.types (map form_view cs)) page.rows) same
+      is ∙ ap (λ ts. judged (row_judge ts (option_map form_view s.predicate) (map form_view columns)) (kinds_of_forms ts (map form_view columns)) page.rows) types
+      ∙ ap (λ (cs : List Expression). judged (row_judge s.types (option_map form_view s.predicate) (map form_view cs)) (kinds_of_forms s.types (map form_view cs)) page.rows) same
 
   first-here : j.failure ≡ first_failure (judge_in s) page.rows
   first-here = ap (λ (k : Judged). k.failure) is-judged
@@ -84,7 +84,7 @@ module _ (s : FilterState) (page : TypedPage) (columns : List Expression) (j : J
   page-fault-here none kind some X = failed-here (judge_in s) s.node s.failure j.failure page.rows X kind none first-here some
 
 module _ (s now : FilterState) (at : s ≡ now) (page : TypedPage) (columns : List Expression) (j : Judged) (same : columns ≡ s.columns) (types : page.types ≡ now.types)
-    (is : j ≡ judged (row_judge page.types (option_map form_view s.predicate) (map form_view columns)) (kinds page.types (map form_view columns)) page.rows) where
+    (is : j ≡ judged (row_judge page.types (option_map form_view s.predicate) (map form_view columns)) (kinds_of_forms page.types (map form_view columns)) page.rows) where
   types-here : page.types ≡ s.types
   types-here = types ∙ sym (ap (λ (k : FilterState). k.types) at)
 

@@ -7,10 +7,10 @@ use Rattle.sql_values.specs.declared.fail.Fail.{Fail}
 use Rattle.sql_exprs.specs.Forms.{Form}
 use Rattle.sql_exprs.specs.Meaning.{kind_of}
 use Rattle.plan_trees.specs.Judges.{filter_judge, project_judge}
-use Rattle.relations.specs.Verdicts.{Verdict, keeps, drops, fails}
-use Rattle.page_judges.specs.declared.judged.Judged.{Judged}
-use Rattle.page_judges.specs.Judged.{judged, failed_first, first_failure, given_first, rows_before}
-use Rattle.row_ops.specs.RowJudges.{and_then, kinds, row_judge}
+use Rattle.relation_laws.specs.Verdicts.{Verdict, keeps, drops, fails}
+use Rattle.page_processor.specs.declared.judged.Judged.{Judged}
+use Rattle.page_processor.specs.Judged.{judged, failed_first, first_failure, given_first, rows_before}
+use Rattle.row_ops.specs.RowJudges.{and_then, kinds_of_forms, row_judge}
 use Rattle.row_ops.specs.RowsHeld.{unless_failed}
 
 module _ (f g : List Value → Verdict) where
@@ -61,7 +61,7 @@ pub then-project : (types : List SqlType) (predicate : Form) (columns : List For
     → kept ≡ judged (filter_judge types predicate) types rows
     → mapped ≡ judged (project_judge kept.page.types columns) (map (kind_of kept.page.types) columns) kept.page.rows
     → whole.page ≡ mapped.page → whole.failure ≡ option_or mapped.failure kept.failure
-    → whole ≡ judged (row_judge types (Some predicate) columns) (kinds types columns) rows
+    → whole ≡ judged (row_judge types (Some predicate) columns) (kinds_of_forms types columns) rows
 then-project types predicate columns rows kept mapped whole k m page failure =
     let same : kept.page.types ≡ types = ap (λ (j : Judged). j.page.types) k in
     let m' : mapped ≡ judged (project_judge types columns) (map (kind_of types) columns) kept.page.rows =

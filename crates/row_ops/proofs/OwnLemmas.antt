@@ -18,15 +18,15 @@ use Rattle.sql_exprs.specs.declared.expr.Expr.TheFolds.{fold-roll-Expr}
 use Rattle.sql_exprs.specs.declared.expr.Expr.TheVariants.{Column, rolls-Column}
 use Rattle.sql_exprs.specs.Forms.{Form, branch_step, column, form_step, form_view}
 use Rattle.sql_exprs.specs.Meaning.{kind_of, value_of}
-use Rattle.relations.specs.Aggregates.{all_values, with_first}
-use Rattle.relations.specs.Verdicts.{Verdict, keeps, drops, verdict_of}
+use Rattle.relation_laws.specs.Aggregates.{all_values, with_first}
+use Rattle.relation_laws.specs.Verdicts.{Verdict, keeps, drops, verdict_of}
 use Rattle.plan_trees.specs.Judges.{filter_judge, filtered, project_judge}
-use Rattle.page_judges.specs.declared.judged.Judged.{Judged}
-use Rattle.page_judges.specs.Judged.{judged}
-use Rattle.page_judges.specs.Typed.{AllFit}
-use Rattle.page_judges.proofs.FilterLemmas.{Agree, first_fits, rest_fits, same_failure, same_rows}
+use Rattle.page_processor.specs.declared.judged.Judged.{Judged}
+use Rattle.page_processor.specs.Judged.{judged}
+use Rattle.col_pages.specs.Fits.{AllFit}
+use Rattle.page_processor.proofs.FilterLemmas.{Agree, first_fits, rest_fits, same_failure, same_rows}
 use Rattle.operator_core.specs.Rows.{Row}
-use Rattle.row_ops.specs.RowJudges.{and_then, columns_in, kinds, row_judge}
+use Rattle.row_ops.specs.RowJudges.{and_then, columns_in, kinds_of_forms, row_judge}
 
 -- the columns of a row are the row
 columns-from : (types : List SqlType) (done row : Row) (n : ℕ) → n ≡ length done
@@ -95,34 +95,34 @@ kind-at : (done types : List SqlType) (kind : SqlType) (n : ℕ) → n ≡ lengt
 kind-at done types kind n e =
     unwrap_or-slice_get (done ++ kind ∷ types) n Boolean ∙ ap (λ (k : ℕ). get_or (done ++ kind ∷ types) k Boolean) e ∙ get_or-append_seam done kind types Boolean
 
-kinds-from : (done types : List SqlType) (n : ℕ) → n ≡ length done → kinds (done ++ types) (map column (range_with_len n (length types))) ≡ types
+kinds-from : (done types : List SqlType) (n : ℕ) → n ≡ length done → kinds_of_forms (done ++ types) (map column (range_with_len n (length types))) ≡ types
 kinds-from done [] n e = refl
 kinds-from done (kind ∷ types) n e =
     let same : (done ++ kind ∷ []) ++ types ≡ done ++ kind ∷ types = append_assoc done (kind ∷ []) types in
-    let later : kinds ((done ++ kind ∷ []) ++ types) (map column (range_with_len (n + 1) (length types))) ≡ types =
+    let later : kinds_of_forms ((done ++ kind ∷ []) ++ types) (map column (range_with_len (n + 1) (length types))) ≡ types =
     kinds-from (done ++ kind ∷ []) types (n + 1) (omega (arith, e, length-append done (kind ∷ []))) in
-    let rest : kinds (done ++ kind ∷ types) (map column (range_with_len (n + 1) (length types))) ≡ types =
-    subst (λ (ts : List SqlType). kinds ts (map column (range_with_len (n + 1) (length types))) ≡ types) same later in
+    let rest : kinds_of_forms (done ++ kind ∷ types) (map column (range_with_len (n + 1) (length types))) ≡ types =
+    subst (λ (ts : List SqlType). kinds_of_forms ts (map column (range_with_len (n + 1) (length types))) ≡ types) same later in
     (λ i. kind-at done types kind n e i ∷ rest i)
 
-own_kinds : (types : List SqlType) → kinds types (columns_in types) ≡ types
+own_kinds : (types : List SqlType) → kinds_of_forms types (columns_in types) ≡ types
 own_kinds types = kinds-from [] types 0 refl
 
-pub own-kinds : (types : List SqlType) (columns : List Form) (n : ℕ) → columns ≡ map column (range_with_len 0 n) → n ≡ length types → kinds types columns ≡ types
-own-kinds types columns n same count = ap (kinds types) (same ∙ ap (λ (k : ℕ). map column (range_with_len 0 k)) count) ∙ own_kinds types
+pub own-kinds : (types : List SqlType) (columns : List Form) (n : ℕ) → columns ≡ map column (range_with_len 0 n) → n ≡ length types → kinds_of_forms types columns ≡ types
+own-kinds types columns n same count = ap (kinds_of_forms types) (same ∙ ap (λ (k : ℕ). map column (range_with_len 0 k)) count) ∙ own_kinds types
 
 -- what a filter keeps of a page is what its columns are of that
 pub filter-alone : (types : List SqlType) (predicate : Form) (columns : List Form) (n : ℕ) (rows : List Row) (kept : Judged) → AllFit types rows
     → columns ≡ map column (range_with_len 0 n) → n ≡ length types → kept ≡ judged (filter_judge types predicate) types rows
-    → kept ≡ judged (row_judge types (Some predicate) columns) (kinds types columns) rows
+    → kept ≡ judged (row_judge types (Some predicate) columns) (kinds_of_forms types columns) rows
 filter-alone types predicate columns n rows kept fit same count k =
     let theirs = row_judge types (Some predicate) (columns_in types) in
     let judge = filter_judge types predicate in
     let agree = filters-agree types predicate rows fit in
     let own : columns ≡ columns_in types = same ∙ ap (λ (k : ℕ). map column (range_with_len 0 k)) count in
-    let whole : judged theirs (kinds types (columns_in types)) rows ≡ judged judge types rows =
+    let whole : judged theirs (kinds_of_forms types (columns_in types)) rows ≡ judged judge types rows =
     (λ i. record { page = record { types = own_kinds types i; rows = same_rows theirs judge rows agree i }; failure = same_failure theirs judge rows agree i }) in
-    k ∙ sym whole ∙ ap (λ cs. judged (row_judge types (Some predicate) cs) (kinds types cs) rows) (sym own)
+    k ∙ sym whole ∙ ap (λ cs. judged (row_judge types (Some predicate) cs) (kinds_of_forms types cs) rows) (sym own)
 
 -- one place more at which a column of the input stands
 pub column-there : (columns : List Expr) (n : ℕ) (expr : Expr) → n < length columns → expr ≡ get_or columns n expr → form_view expr ≡ column n

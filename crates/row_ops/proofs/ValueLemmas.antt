@@ -10,9 +10,8 @@ use Rattle.sql_values.specs.Cells.{cell, cut}
 use Rattle.sql_values.specs.Blocks.{fits}
 use Rattle.sql_values.specs.ColumnRows.{fits_row}
 use Rattle.col_pages.specs.Pages.{TypedPage}
-use Rattle.page_judges.specs.Typed.{AllFit}
-use Rattle.page_judges.proofs.FilterLemmas.{first_fits, rest_fits}
-use Rattle.row_ops.specs.RowJudges.{IsOf}
+use Rattle.col_pages.specs.Fits.{AllFit, IsOfTypes}
+use Rattle.page_processor.proofs.FilterLemmas.{first_fits, rest_fits}
 
 cell_seam : (done row : List Value) (v : Value) (n : ℕ) → n ≡ length done → cell (done ++ v ∷ row) n ≡ v
 cell_seam [] row v n e = ap (cell (v ∷ row)) e
@@ -79,7 +78,7 @@ module _ (types : List SqlType) (rows : List (List Value)) (fit : AllFit types r
     pub page-next : drop low rows ≡ page.rows ++ drop high rows
     page-next = next_rows ∙ ap (λ (p : TypedPage). p.rows ++ drop high rows) (sym page-is)
 
-    pub page-of : IsOf types page
+    pub page-of : IsOfTypes types page
     unfolding part
     page-of =
         let rows-are : page.rows ≡ part = ap (λ (p : TypedPage). p.rows) page-is ∙ whole_rows types part part-fits in

@@ -7,9 +7,9 @@ use Rattle.col_pages.specs.Pages.{TypedPage}
 use Rattle.sql_exprs.specs.Forms.{Form, column}
 use Rattle.sql_exprs.specs.Meaning.{kind_of}
 use Rattle.sql_exprs.specs.Typing.{form_type}
-use Rattle.relations.specs.Verdicts.{Verdict, keeps, drops, fails}
+use Rattle.relation_laws.specs.Verdicts.{Verdict, keeps, drops, fails}
 use Rattle.plan_trees.specs.Judges.{filter_judge, project_judge}
-use Rattle.page_judges.specs.Typed.{AllFit, AllTyped, IsTyped}
+use Rattle.page_processor.specs.Typed.{AllTyped, IsTyped}
 
 -- a verdict, and for a row that is kept the next one
 abbrev pub and_then : Verdict → (List Value → Verdict) → Verdict
@@ -27,8 +27,8 @@ abbrev pub columns_in : List SqlType → List Form
 columns_in types = map column (range_with_len 0 (length types))
 
 -- the types of the columns
-abbrev pub kinds : List SqlType → List Form → List SqlType
-kinds types columns = map (kind_of types) columns
+abbrev pub kinds_of_forms : List SqlType → List Form → List SqlType
+kinds_of_forms types columns = map (kind_of types) columns
 
 abbrev pub IsTypedIf : List SqlType → Option Form → Type 0
 IsTypedIf types None = Unit {0}
@@ -55,8 +55,3 @@ pub record AreTyped (types : List SqlType) (predicate : Option Form) (columns : 
   pub some : 0 < length columns
   pub typed_if : IsTypedIf types predicate
   pub all_typed : AllTyped types columns
-
--- a page of these types, whose rows fit them
-pub record IsOf (types : List SqlType) (page : TypedPage) : Type 0 where
-  pub of_types : page.types ≡ types
-  pub fit : AllFit types page.rows

@@ -7,8 +7,8 @@ use Rattle.sql_values.specs.declared.fail.Fail.{Fail}
 use Rattle.col_pages.specs.Pages.{TypedPage}
 use Rattle.sql_exprs.specs.declared.expr.Expr.{Expr}
 use Rattle.sql_exprs.specs.Forms.{form_view}
-use Rattle.relations.specs.Verdicts.{Verdict}
-use Rattle.page_judges.specs.Judged.{first_failure, rows_before}
+use Rattle.relation_laws.specs.Verdicts.{Verdict}
+use Rattle.page_processor.specs.Judged.{first_failure, rows_before}
 use Rattle.row_ops.specs.RowJudges.{row_judge}
 
 -- its node, the types of its input, its expressions, the page that it has still to give, the failure of the

@@ -2,7 +2,7 @@
 use Rattle.std.specs.Prelude.{ℕ, ◌<◌, ◌≤◌, List, Bool, length, drop}
 use Rattle.sql_values.specs.declared.types.SqlType.{SqlType}
 use Rattle.sql_values.specs.declared.value.Value.{Value}
-use Rattle.page_judges.specs.Typed.{AllFit}
+use Rattle.col_pages.specs.Fits.{AllFit}
 
 -- its rows and their types, the size of its pages, how many rows it gave, and whether it was told to finish
 pub record ValuesState : Type 0 where
@@ -13,8 +13,8 @@ pub record ValuesState : Type 0 where
   pub is_told : Bool
 
 -- the rows that it has still to give
-abbrev pub rows_left : ValuesState → List (List Value)
-rows_left s = drop s.given s.rows
+abbrev pub rows_to_give : ValuesState → List (List Value)
+rows_to_give s = drop s.given s.rows
 
 pub record AreGivable (types : List SqlType) (page : ℕ) (rows : List (List Value)) : Type 0 where
   pub some : 0 < length types

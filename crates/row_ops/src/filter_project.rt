@@ -5,9 +5,10 @@ ghost use Rattle.col_pages.specs.Pages.{TypedPage, most_rows};
 ghost use Rattle.operator_core.specs.Rows.{Row};
 ghost use Rattle.operator_core.specs.Calls.{IsFresh};
 ghost use Rattle.operator_core.specs.Samples.{has_row};
-ghost use Rattle.page_judges.specs.Judged.{first_failure, rows_before};
+ghost use Rattle.page_processor.specs.Judged.{first_failure, rows_before};
 ghost use Rattle.sql_exprs.specs.Forms.{form_view};
-ghost use Rattle.row_ops.specs.RowJudges.{AreTyped, IsOf, row_judge};
+ghost use Rattle.col_pages.specs.Fits.{IsOfTypes};
+ghost use Rattle.row_ops.specs.RowJudges.{AreTyped, row_judge};
 ghost use Rattle.row_ops.specs.RowsHeld.{rows_held};
 
 use crate::expressions::{Expressions, SendExpressions};
@@ -76,7 +77,7 @@ impl FilterProject {
             × (first_failure (row_judge types.items (option_map form_view predicate)
             (map form_view columns.items)) X ≡ Some kind)) }
         ensures takes { (page : TypedPage) → ⟦<FilterProject as Operator>⟧.takes result page
-            ↔ IsOf types.items page }
+            ↔ IsOfTypes types.items page }
         ensures open { (⟦<FilterProject as Operator>⟧.is_full result ≡ false)
             × (⟦<FilterProject as Operator>⟧.page_size result ≡ most_rows) }
         ensures late { ⟦<FilterProject as Operator>⟧.gives_late result ≡ false }
@@ -142,7 +143,7 @@ impl Operator for FilterProject {
     ghost use Rattle.operator_core.specs.LawGroups.{never_full, no_note};
     ghost use Rattle.operator_core.specs.Samples.{has_row};
     ghost use Rattle.operator_core.specs.SampleLaws.{needs-untold, needs-open};
-    ghost use Rattle.row_ops.specs.RowJudges.{IsOf};
+    ghost use Rattle.col_pages.specs.Fits.{IsOfTypes};
     ghost use Rattle.row_ops.specs.RowsHeld.{rows_held, judge_in, FilterGives, FilterFails};
     ghost use Rattle.row_ops.specs.RowLaws.{filter-rest, filter-finished};
 
@@ -153,7 +154,7 @@ impl Operator for FilterProject {
         FilterFails (judge_in s)
         s.node s.failure X node kind };
 
-    ghost takes = { λ s page. IsOf s.types page };
+    ghost takes = { λ s page. IsOfTypes s.types page };
 
     ghost page_size = { λ _. most_rows };
 

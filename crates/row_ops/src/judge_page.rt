@@ -1,12 +1,12 @@
 ghost use Rattle.std.specs.Prelude.{◌≡◌, Some, IfOk, IsTrue, map, option_map};
 ghost use Rattle.std.specs.List.{range_with_len};
 ghost use Rattle.sql_exprs.specs.Forms.{column, form_view};
-ghost use Rattle.page_judges.specs.Judged.{judged};
-ghost use Rattle.page_judges.specs.Typed.{AllFit};
-ghost use Rattle.row_ops.specs.RowJudges.{AreTyped, kinds, row_judge};
+ghost use Rattle.page_processor.specs.Judged.{judged};
+ghost use Rattle.col_pages.specs.Fits.{AllFit};
+ghost use Rattle.row_ops.specs.RowJudges.{AreTyped, kinds_of_forms, row_judge};
 
 use col_pages::Page;
-use page_judges::{Judged, filter_page, project_page};
+use page_processor::{Judged, filter_page, project_page};
 use sql_exprs::Expr;
 use sql_values::Memory;
 use std::alloc::Global;
@@ -22,10 +22,10 @@ pub(crate) fn judge_page(
         (map form_view columns.now) }
     requires fits { AllFit page.types page.rows }
     ensures fits { IfOk result (λ j.
-        AllFit (kinds page.types (map form_view columns.now)) j.page.rows) }
+        AllFit (kinds_of_forms page.types (map form_view columns.now)) j.page.rows) }
     ensures judged { IfOk result (λ j. j ≡ judged
         (row_judge page.types (option_map form_view predicate.now) (map form_view columns.now))
-        (kinds page.types (map form_view columns.now)) page.rows) }
+        (kinds_of_forms page.types (map form_view columns.now)) page.rows) }
 {
     match predicate {
         None => project_page(alloc, columns, &page),
@@ -44,10 +44,10 @@ fn filter_and_project(
         (map form_view columns.now) }
     requires fits { AllFit page.types page.rows }
     ensures fits { IfOk result (λ j.
-        AllFit (kinds page.types (map form_view columns.now)) j.page.rows) }
+        AllFit (kinds_of_forms page.types (map form_view columns.now)) j.page.rows) }
     ensures judged { IfOk result (λ j. j ≡ judged
         (row_judge page.types (Some (form_view predicate.now)) (map form_view columns.now))
-        (kinds page.types (map form_view columns.now)) page.rows) }
+        (kinds_of_forms page.types (map form_view columns.now)) page.rows) }
 {
     let kept = filter_page(alloc, predicate, page)?;
     if are_all_columns(columns, kept.page.types().len()) {

@@ -5,7 +5,7 @@
 //!   the rows before that one, and then fails as that row does
 //! - `typing`: `are_typed`, whether expressions can be those of an operator over some input
 //! - `expressions`: the expressions of a `FilterProject`, in a form that may go to another thread
-//! - `judge_page`: what the expressions make of a page, by the judges of `page_judges`
+//! - `judge_page`: what the expressions make of a page, by the judges of `page_processor`
 //!
 //! - `limit`: `LimitOp` gives as many of the first rows as its count says. It takes all pages in
 //! - `values`: `ValuesOp` gives rows of its own in pages, each cut column by column. It needs no input

@@ -4,7 +4,7 @@ ghost use Rattle.col_pages.specs.Pages.{TypedPage, most_rows};
 ghost use Rattle.operator_core.specs.Rows.{Row};
 ghost use Rattle.operator_core.specs.Calls.{IsFresh};
 ghost use Rattle.operator_core.specs.Samples.{has_row};
-ghost use Rattle.page_judges.specs.Typed.{AllFit};
+ghost use Rattle.col_pages.specs.Fits.{AllFit};
 ghost use Rattle.row_ops.specs.RowsHeld.{rows_held};
 
 use blocked::{Bells, BlockedOn};
@@ -96,7 +96,7 @@ impl Operator for LimitOp {
     ghost use Rattle.operator_core.specs.Samples.{has_row};
     ghost use Rattle.operator_core.specs.SampleLaws.{needs-untold, needs-open};
     ghost use Rattle.operator_core.specs.NoteLaws.{held-over};
-    ghost use Rattle.page_judges.specs.Typed.{AllFit};
+    ghost use Rattle.col_pages.specs.Fits.{AllFit};
     ghost use Rattle.row_ops.specs.RowsHeld.{rows_held};
     ghost use Rattle.row_ops.specs.Limits.{LimitGives};
     ghost use Rattle.row_ops.specs.LimitLaws.{limit-rest};

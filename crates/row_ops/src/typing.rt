@@ -1,6 +1,6 @@
 ghost use Rattle.std.specs.Prelude.{◌≡◌, map, option_map, IsTrue, IfOk};
 ghost use Rattle.sql_exprs.specs.Forms.{form_view};
-ghost use Rattle.page_judges.specs.Typed.{AllTyped, IsTyped};
+ghost use Rattle.page_processor.specs.Typed.{AllTyped, IsTyped};
 ghost use Rattle.row_ops.specs.RowJudges.{AreTyped, IsTypedIf, are_typed, is_typed_if, are_all_typed, is_typed};
 
 use sql_exprs::{Expr, TypeFault, typed};

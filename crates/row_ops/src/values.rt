@@ -4,9 +4,8 @@ ghost use Rattle.sql_values.specs.declared.fail.Fail.{Fail as Kind};
 ghost use Rattle.col_pages.specs.Pages.{TypedPage, most_rows};
 ghost use Rattle.operator_core.specs.Rows.{Row};
 ghost use Rattle.operator_core.specs.Calls.{IsFresh};
-ghost use Rattle.page_judges.specs.Typed.{AllFit};
-ghost use Rattle.row_ops.specs.RowJudges.{IsOf};
-ghost use Rattle.row_ops.specs.ValueRows.{rows_left};
+ghost use Rattle.col_pages.specs.Fits.{AllFit, IsOfTypes};
+ghost use Rattle.row_ops.specs.ValueRows.{rows_to_give};
 
 use blocked::{Bells, BlockedOn};
 use col_pages::Page;
@@ -72,8 +71,8 @@ impl ValuesOp {
     fn next_page(&mut self) -> Result<Page, Memory>
         requires { self.old.given < length self.old.rows }
         ensures same { self.new ≡ record self.old { given = self.new.given } }
-        ensures rows { IfOk result (λ p. rows_left self.old ≡ p.rows ++ rows_left self.new) }
-        ensures of { IfOk result (λ p. IsOf self.old.types p) }
+        ensures rows { IfOk result (λ p. rows_to_give self.old ≡ p.rows ++ rows_to_give self.new) }
+        ensures of { IfOk result (λ p. IsOfTypes self.old.types p) }
         ensures size { IfOk result
             (λ p. (0 < length p.rows) × (length p.rows ≤ self.old.page)) }
         ensures err { OnErr result (self.new ≡ self.old) }
@@ -110,10 +109,10 @@ fn all_places(alloc: Global, types: &[SqlType]) -> Result<Vec<u32>, Memory>
 impl Operator for ValuesOp {
     ghost use Rattle.std.specs.Prelude.{◌≡◌, true, false, not, ◌&&◌, nat_lt, length, refl};
     ghost use Rattle.operator_core.specs.LawGroups.{no_note};
-    ghost use Rattle.row_ops.specs.ValueRows.{rows_left};
+    ghost use Rattle.row_ops.specs.ValueRows.{rows_to_give};
     ghost use Rattle.row_ops.specs.ValueLaws.{values-rest, values-finished};
 
-    ghost may_give = { λ s _ B. B ≡ rows_left s };
+    ghost may_give = { λ s _ B. B ≡ rows_to_give s };
 
     ghost may_still_fail = { λ _ _ _ _. ⊥ };
 

@@ -1,7 +1,7 @@
 -- Calls that are to fail, by their numbers from 1.
 use Rattle.std.specs.Prelude.{Bool, ◌==◌}
 use Rattle.std.specs.List.{list_any}
-use Rattle.run_ports.specs.Counts.{next_count}
+use Rattle.count_laws.specs.Counts.{next_count}
 use Rattle.run_ports.specs.declared.failing_calls.FailingCalls.{FailingCalls}
 
 -- the next call is one that is to fail

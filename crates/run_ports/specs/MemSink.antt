@@ -2,7 +2,7 @@
 use Rattle.std.specs.Prelude.{◌≡◌, ℕ, ◌-◌, ◌||◌, ◌&&◌, List, length, Option, Some, None, Result, is_ok, [], min, nat_lt, ◌==◌, vec_len, if◌then◌else◌}
 use Rattle.std.specs.declared.alloc.Global.{Global}
 use Rattle.std.specs.declared.vec.Vec.{Vec}
-use Rattle.run_ports.specs.Counts.{next_count}
+use Rattle.count_laws.specs.Counts.{next_count}
 use Rattle.run_ports.specs.FailingCalls.{fails_next, counted}
 use Rattle.run_ports.specs.declared.bounded_bytes.BoundedBytes.{BoundedBytes}
 use Rattle.run_ports.specs.declared.mem_sink.MemSink.{MemSink}

@@ -1,6 +1,6 @@
 -- What a read of a file gives, and what it leaves behind.
 use Rattle.std.specs.Prelude.{◌≡◌, ℕ, List, Option, Some, None, Result, Ok, Err, ⊤}
-use Rattle.run_ports.specs.Counts.{next_count}
+use Rattle.count_laws.specs.Counts.{next_count}
 use Rattle.run_ports.specs.declared.files.FileFault.{FileFault}
 use Rattle.run_ports.specs.declared.files.FileFault.TheVariants.{Failed, Memory}
 

@@ -1,6 +1,6 @@
 -- A generator of deliveries, each edge of a run with its own.
 use Rattle.std.specs.Prelude.{ℕ, ◌+◌, ◌*◌, ◌/◌, ◌%◌, ◌^◌, ◌==◌, nat_lt, Option, Some, None, if◌then◌else◌}
-use Rattle.run_ports.specs.Counts.{next_count}
+use Rattle.count_laws.specs.Counts.{next_count}
 use Rattle.run_ports.specs.declared.courier.Delivery.{Delivery}
 use Rattle.run_ports.specs.declared.courier.Delivery.TheVariants.{Fresh, Again, Nothing}
 
@@ -19,9 +19,9 @@ delivery_of state =
     else (if (state / 2 ^ 33) % 4 == 2 then Again ((state / 2 ^ 40) % 4) else Nothing)
 
 -- the state after one more turn, and what that turn delivers
-abbrev pub state_after : Option ℕ → Option ℕ
-state_after None = None
-state_after (Some state) = Some (next_state state)
+abbrev pub courier_after : Option ℕ → Option ℕ
+courier_after None = None
+courier_after (Some state) = Some (next_state state)
 
 abbrev pub delivered_in : Option ℕ → Delivery
 delivered_in None = Fresh

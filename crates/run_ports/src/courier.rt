@@ -1,7 +1,7 @@
 ghost use Rattle.std.specs.Prelude.{◌≡◌, ℕ, ◌≤◌, None};
-ghost use Rattle.run_ports.specs.Counts.{Rose};
+ghost use Rattle.count_laws.specs.Counts.{Rose};
 ghost use Rattle.run_ports.specs.Delivering.{IfMissed};
-ghost use Rattle.run_ports.specs.Replays.{start_of, next_state, delivery_of, state_after, delivered_in, missed_after};
+ghost use Rattle.run_ports.specs.Replays.{start_of, next_state, delivery_of, courier_after, delivered_in, missed_after};
 
 /// What reaches a client after a reply was made: that reply, an earlier one or none.
 #[derive(Clone, Copy)]
@@ -63,8 +63,8 @@ impl Courier for ReplayCourier {
     }
 
     fn turn(&mut self) -> Delivery
-        ensures state { self.new.state ≡ state_after self.old.state }
-        ensures delivered { result ≡ delivered_in (state_after self.old.state) }
+        ensures state { self.new.state ≡ courier_after self.old.state }
+        ensures delivered { result ≡ delivered_in (courier_after self.old.state) }
         ensures missed { self.new.missed ≡ missed_after self.old.missed result }
         ensures later { self.old.missed ≤ self.new.missed }
         ensures cause { IfMissed result (Rose self.old.missed self.new.missed) }

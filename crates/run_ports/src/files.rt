@@ -1,5 +1,5 @@
 ghost use Rattle.std.specs.Prelude.{◌≡◌, ℕ, ◌≤◌, List, Option, IfOk};
-ghost use Rattle.run_ports.specs.Counts.{Rose};
+ghost use Rattle.count_laws.specs.Counts.{Rose};
 ghost use Rattle.run_ports.specs.Reading.{AreBytesOf, IfFailed, refused_after, faults_after};
 
 use sql_values::{Memory, Text};

@@ -3,7 +3,7 @@
 //!
 //! A fault of the outside is counted where it happens, and an answer that names a fault comes only
 //! where its count rose in that call: so no caller can blame the outside for a fault that it did
-//! not have. Where an object tells what it holds, its clauses pin the bytes. `specs/Counts.antt`
+//! not have. Where an object tells what it holds, its clauses pin the bytes. `count_laws`
 //! says what it means that a count rose, `specs/Reading.antt`, `specs/Writing.antt` and
 //! `specs/Delivering.antt` what the calls leave behind, and `specs/Replays.antt` what a `ReplayCourier` delivers.
 //!

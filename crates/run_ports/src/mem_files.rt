@@ -1,5 +1,5 @@
 ghost use Rattle.std.specs.Prelude.{◌≡◌, ◌≤◌, Some, None, MatchOption, IfOk, if◌then◌else◌};
-ghost use Rattle.run_ports.specs.Counts.{Rose};
+ghost use Rattle.count_laws.specs.Counts.{Rose};
 ghost use Rattle.run_ports.specs.Reading.{AreBytesOf, IfFailed, refused_after};
 ghost use Rattle.run_ports.specs.MemFiles.{held_in, new_files, held_by, faults_of, latest_of, read_of, Answers, FollowsRead};
 

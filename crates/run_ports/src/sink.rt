@@ -1,7 +1,7 @@
 ghost use Rattle.std.specs.Prelude.{◌≡◌, ℕ, ◌<◌, ◌≤◌, List, Option, length, IfOk, OnOk, OnErr};
 ghost use Rattle.std.specs.Io.{WritesAtMost};
 ghost use Rattle.std.specs.Io.KnownBytes.{Appends, WriteAppends};
-ghost use Rattle.run_ports.specs.Counts.{Rose};
+ghost use Rattle.count_laws.specs.Counts.{Rose};
 ghost use Rattle.run_ports.specs.Writing.{AppendsPrefix};
 
 use std::error::Error;

@@ -1,4 +1,4 @@
-//! Sorts, top ns, limits and constant rows.
+//! Sorts, top rows, limits and constant rows.
 
 use crate::answers::{Given, first_wrong, first_wrong_with_words, is_told};
 use crate::plain::gives_cut;
@@ -24,6 +24,7 @@ $a | 'a' | {'id':1,'op':'topn','step':'SINGLE','count':1,'keys':[{'column':0,'or
 $a | 'a' | {'id':1,'op':'topn','step':'SINGLE','count':3,'keys':[{'column':0,'order':'DESC'}],'input':@a} | a~2~\\N~2~ | 0|a~2~2~\\N~|\n\
 $a | 'a' | {'id':1,'op':'topn','step':'SINGLE','count':9,'keys':[{'column':0,'order':'DESC'}],'input':@a} | a~2~1~3~ | 0|a~3~2~1~|\n\
 $a | 'a' | {'id':1,'op':'values','types':['bigint'],'rows':[]} | a~2~ | 0|a~|\n\
+$a | 'a' | {'id':1,'op':'sort','keys':[{'column':0,'order':'DESC'}],'input':{'id':2,'op':'values','types':['date'],'rows':[['1969-12-31'],[null],['2024-02-29'],['1970-01-01']]}} | a~2~ | 0|a~2024-02-29~1970-01-01~1969-12-31~\\N~|\n\
 $a | 'a' | {'id':1,'op':'values','types':['bigint'],'rows':[['7'],[null],['-7']]} | a~2~ | 0|a~7~\\N~-7~|";
 
 /// Roots over the scan of two columns.
@@ -31,6 +32,7 @@ const WIDE: &str = "\
 $c | 'a','c' | {'id':1,'op':'topn','step':'SINGLE','count':2,'keys':[{'column':0,'order':'ASC'},{'column':1,'order':'ASC'}],'input':@c} | a,c~2,y~1,x~2,z~ | 0|a,c~1,x~2,y~|\n\
 $c | 'a','c' | {'id':1,'op':'topn','step':'SINGLE','count':2,'keys':[{'column':0,'order':'ASC'},{'column':1,'order':'DESC'}],'input':@c} | a,c~2,y~1,x~2,z~ | 0|a,c~1,x~2,z~|\n\
 $c | 'a','c' | {'id':1,'op':'sort','keys':[{'column':0,'order':'DESC'},{'column':1,'order':'ASC'}],'input':@c} | a,c~1,x~2,\\N~2,z~\\N,y~2,y~ | 0|a,c~2,y~2,z~2,\\N~1,x~\\N,y~|\n\
+$c | 'a','c' | {'id':1,'op':'sort','keys':[{'column':1,'order':'ASC'},{'column':0,'order':'DESC'}],'input':{'id':2,'op':'values','types':['varchar','date'],'rows':[['x','2024-02-29'],['y','2024-02-29'],['z',null],['w','0001-01-01']]}} | a,c~ | 0|a,c~w,0001-01-01~y,2024-02-29~x,2024-02-29~z,\\N~|\n\
 $c | 'a','c' | {'id':2,'op':'values','types':['varchar','date'],'rows':[['é','2024-02-29'],[null,null]]} | a,c~ | 0|a,c~é,2024-02-29~\\N,\\N~|\n\
 $c | 'a','c' | {'id':4,'op':'filter','predicate':{'call':'like','args':[{'col':0},{'lit':'_','type':'varchar'}]},'input':{'id':2,'op':'values','types':['varchar','date'],'rows':[['é','2024-02-29'],['éé','2024-02-29'],[null,null]]}} | a,c~ | 0|a,c~é,2024-02-29~|";
 

@@ -1,19 +1,19 @@
 //! Texts under given words and picks, and those of the plain evaluator.
 ghost use Rattle.command_line.specs.Words.{HasBounds, asked};
 ghost use Rattle.plan_docs.specs.Plans.{plan_view};
-ghost use Rattle.plan_fits.specs.Tables.{HaveColumns, WasRead};
-ghost use Rattle.task_executor.specs.Shapes.{AreFew, IsShape};
+ghost use Rattle.plan_fit_laws.specs.Tables.{HaveColumns, WasRead};
+ghost use Rattle.query_runner.specs.Shapes.{AreFew, IsShape};
 ghost use Rattle.tree_evaluator.specs.Fits.{TablesFit};
 
 use crate::answers::{Given, files_of, is_text, words_in};
 use command_line::{Job, lend_words, read_words};
 use csv_tables::text_of;
-use plan_fits::consistent_plans_fit;
-use plan_links::read_plans_are_consistent;
+use plan_fit_laws::consistent_plans_fit;
+use plan_link_laws::read_plans_are_consistent;
 use plan_reader::{Plan, tree};
 use plan_trees::types_of_tree;
 use query_runner::{
-    Status, files_of as files_of_tables, load_plan, load_tables, result_alone, shape_of,
+    Shape, Status, files_of as files_of_tables, load_plan, load_tables, result_alone, shape_of,
 };
 use run_ports::{MemFiles, ReplayCourier};
 use sql_values::Table;
@@ -22,7 +22,6 @@ use std::random::RandomSource;
 use std::sync::Wait;
 use std::test::Fail;
 use std::thread::Threads;
-use task_executor::Shape;
 use tree_evaluator::evaluate;
 
 /// Whether a run under these picks gives this text, and the plain evaluator too, or fails at the node that it names.
@@ -94,7 +93,7 @@ fn plan_gives<R: Threads + Wait + Sync + RandomSource + AllocGlobal>(
     let Ok(found) = files_of_tables(rt.alloc(), job, docs) else {
         return Ok(false);
     };
-    match load_tables(rt.alloc(), job, docs, found.as_slice(), files) {
+    match load_tables(rt, rt.alloc(), job, docs, found.as_slice(), files) {
         Ok(tables) => tables_give(rt, &shape_of(job), plan, tables.as_slice(), picks, text),
         Err(_) => Ok(false),
     }

@@ -1,5 +1,5 @@
 -- Days counted from 1 January of the year 1, and the calendar's day numbers.
-use Rattle.std.proofs.Common.{◌≡◌, ℕ, zero, suc, ◌+◌, ◌<◌, ◌≤◌, List, [], Some, None, Bool, true, false, cond, nat_lt, refl, ap, sym, ◌∙◌, arith, subst, Result, OnErr, inl, inr, ℤ, pos, negsuc, neg_ℤ, ◌+ℤ◌, ◌≤ℤ◌, unsigned_abs}
+use Rattle.std.proofs.Common.{◌≡◌, ℕ, zero, suc, ◌+◌, ◌<◌, ◌≤◌, [], Some, None, Bool, true, false, cond, nat_lt, refl, ap, ◌∙◌, arith, inl, inr, ℤ, pos, negsuc, neg_ℤ, ◌+ℤ◌, ◌≤ℤ◌, unsigned_abs}
 use Rattle.std.proofs.lemmas.Bool.{ltb-true, ltb-false, cases_order}
 use Rattle.std.proofs.lemmas.Bool.Decides.{nat_tests}
 use Rattle.jiff_core.specs.Calendar.{days_in_month, day_of_year, day_count, days_from_civil, IsDate}
@@ -10,7 +10,6 @@ use Rattle.jiff_core.proofs.CalendarLemmas.{days_from_civil-day_count, day_count
 use Rattle.jiff_core.proofs.MarchLemmas.{day_count-early}
 use Rattle.jiff_core.proofs.DateLemmas.{epoch_day_injective}
 use Rattle.scalar_texts.specs.Dates.{CalendarDay, is_day, day_number, nth_day, calendar_day, day_text, has_date, date_text}
-use Rattle.scalar_texts.specs.Appends.{AppendsStart}
 
 -- the day n days after 1 January of the year 1 is a day of the calendar, with that many days before it
 pub record IsNth (n : ℕ) (d : CalendarDay) : Type 0 where
@@ -154,8 +153,3 @@ pub date_text_is : (d : Date) (z : ℤ) → epoch_day d ≡ z → neg_ℤ (pos 7
 date_text_is d z e low high =
     ap (λ b. cond b (day_text (nth_day (unsigned_abs (z +ℤ pos 719_162)))) []) (has_date-true z low high)
     ∙ ap day_text (nth_day_is d z e low high)
-
-pub date_fails : {A E : Type 0} (r : Result A E) (d : Date) (z : ℤ) (old new : List ℕ) → epoch_day d ≡ z → neg_ℤ (pos 719_162) ≤ℤ z → z ≤ℤ pos 2_932_896 → OnErr r (AppendsStart (day_text (calendar_day d)) old new) → OnErr r (AppendsStart (date_text z) old new)
-date_fails r d z old new e low high h = let P : List ℕ → Type 0 = λ text. OnErr r (AppendsStart text old new) in subst P (sym (date_text_is d z e low high)) h
-
-pub ruleset printing = (nth_day_is, date_fails)

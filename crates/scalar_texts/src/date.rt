@@ -1,4 +1,4 @@
-ghost use Rattle.std.specs.Prelude.{◌≡◌, ◌∷◌, ◌++◌, Some, IsTrue, OnOk, OnErr, option_and_then, pos, neg_ℤ, ◌≤ℤ◌};
+ghost use Rattle.std.specs.Prelude.{◌≡◌, ◌∷◌, ◌++◌, Some, [], IsTrue, OnOk, OnErr, MatchOption, option_and_then, pos, neg_ℤ, ◌≤ℤ◌};
 ghost use Rattle.scalar_texts.specs.Appends.{AppendsStart};
 ghost use Rattle.scalar_texts.specs.Dates.{calendar_day, date_of, date_text, day_number, day_text, has_date, month_day_text};
 ghost use Rattle.scalar_texts.specs.Numbers.{padded};
@@ -40,28 +40,48 @@ fn day_number(year: u64, month: u64, day: u64) -> Option<i32>
     }
 }
 
+/// The date of a day number, where it is within the years 1 to 9999.
+fn date_at(day: i32) -> Option<Date>
+    ensures { MatchOption result (date_text day ≡ [])
+        (λ date. date_text day ≡ day_text (calendar_day date)) }
+{
+    if day < FIRST_DAY || day > LAST_DAY {
+        return None;
+    }
+    match Date::from_unix_epoch_day(i64::from(day)) {
+        Ok(date) => Some(date),
+        Err(_) => None,
+    }
+}
+
 /// Appends the date of a day number, and nothing for one outside the years 1 to 9999.
-#[tactic(auto, using(crate::proofs::DateLemmas::printing))]
+#[tactic(auto, using(crate::proofs::AppendLemmas::appending))]
 pub fn print_date(day: i32, to: &mut Vec<u8>) -> Result<(), AllocError>
     ensures ok { OnOk result (to.new.items ≡ to.old.items ++ date_text day) }
     ensures err { OnErr result (AppendsStart (date_text day) to.old.items to.new.items) }
 {
-    if day < FIRST_DAY || day > LAST_DAY {
-        return Ok(());
-    }
-    match Date::from_unix_epoch_day(i64::from(day)) {
-        Ok(date) => print_day(date, to),
-        Err(_) => Ok(()),
+    match date_at(day) {
+        Some(date) => print_day(date, to),
+        None => Ok(()),
     }
 }
 
-#[tactic(auto, using(crate::proofs::AppendLemmas::appending))]
 fn print_day(date: Date, to: &mut Vec<u8>) -> Result<(), AllocError>
     ensures ok { OnOk result (to.new.items ≡ to.old.items ++ day_text (calendar_day date)) }
     ensures err { OnErr result (AppendsStart (day_text (calendar_day date)) to.old.items to.new.items) }
 {
-    append_padded(4, u128::from(date.year.unsigned_abs()), to)?;
-    print_after_year(date.month, date.day, to)
+    print_parts(date.year.unsigned_abs(), date.month, date.day, to)
+}
+
+#[tactic(auto, using(crate::proofs::AppendLemmas::appending))]
+fn print_parts(year: u16, month: u8, day: u8, to: &mut Vec<u8>) -> Result<(), AllocError>
+    ensures ok { OnOk result
+        (to.new.items ≡ to.old.items ++ padded 4 year ++ 45 ∷ month_day_text month day) }
+    ensures err { OnErr result
+        (AppendsStart (padded 4 year ++ 45 ∷ month_day_text month day) to.old.items to.new.items) }
+{
+    append_padded(4, u128::from(year), to)?;
+    print_after_year(month, day, to)
 }
 
 #[tactic(auto, using(crate::proofs::AppendLemmas::appending))]

@@ -103,9 +103,18 @@ pub fn print_decimal(s: u8, unscaled: i128, to: &mut Vec<u8>) -> Result<(), Allo
     ensures err { OnErr result (AppendsStart (decimal_text s unscaled) to.old.items to.new.items) }
 {
     if unscaled < 0 {
-        to.push(b'-')?;
+        return print_negative(s, unscaled.unsigned_abs(), to);
     }
     print_magnitude(s, unscaled.unsigned_abs(), to)
+}
+
+#[tactic(auto, using(crate::proofs::AppendLemmas::appending))]
+fn print_negative(s: u8, magnitude: u128, to: &mut Vec<u8>) -> Result<(), AllocError>
+    ensures ok { OnOk result (to.new.items ≡ to.old.items ++ 45 ∷ magnitude_text s magnitude) }
+    ensures err { OnErr result (AppendsStart (45 ∷ magnitude_text s magnitude) to.old.items to.new.items) }
+{
+    to.push(b'-')?;
+    print_magnitude(s, magnitude, to)
 }
 
 #[tactic(auto, using(crate::proofs::AppendLemmas::appending))]

@@ -20,19 +20,14 @@ fn lane_at(firsts: &[u32], at: usize, task: u32) -> Result<usize, Memory>
     ensures { IfOk result (λ lane. lane ≡ lane_at firsts.now at task) }
 {
     let first = firsts.get(at).copied().unwrap_or(0);
-    match first.checked_add(task) {
-        Some(lane) => Ok(lane as usize),
-        None => Err(Memory),
-    }
+    let lane = first.checked_add(task).ok_or(Memory)?;
+    Ok(lane as usize)
 }
 
 fn add(left: u32, right: u32) -> Result<u32, Memory>
     ensures { IfOk result (λ n. n ≡ left + right) }
 {
-    match left.checked_add(right) {
-        Some(sum) => Ok(sum),
-        None => Err(Memory),
-    }
+    left.checked_add(right).ok_or(Memory)
 }
 
 impl Lanes {

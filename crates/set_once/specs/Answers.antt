@@ -1,6 +1,6 @@
 -- What a set answers, and what its note knows then.
 use Rattle.std.specs.Prelude.{◌≡◌, ℕ, None, Some, Result, Ok, Err, IfSome}
-use Rattle.set_once.specs.Counts.{next_count}
+use Rattle.count_laws.specs.Counts.{next_count}
 use Rattle.set_once.specs.Notes.{NoteState}
 use Rattle.set_once.specs.declared.fault.SetFault.{SetFault}
 use Rattle.set_once.specs.declared.fault.SetFault.TheVariants.{Refused, Memory}

@@ -1,6 +1,4 @@
-ghost use Rattle.std.specs.Prelude.{false, ◌≡◌, ◌^◌, ◌<◌, ◌≤◌, [], ◌∷◌, All, IsTrue, IfOk, OnErr, length};
-ghost use Rattle.sql_values.specs.Cells.{cut};
-ghost use Rattle.sql_values.specs.ColumnRows.{fits_row};
+ghost use Rattle.std.specs.Prelude.{false, ◌≡◌, ◌^◌, ◌<◌, ◌≤◌, [], ◌∷◌, All, IfOk, OnErr, length};
 ghost use Rattle.sql_values.specs.declared.types.SqlType.TheVariants.{Bigint};
 ghost use Rattle.split_source.specs.Scans.{AreReadable};
 ghost use Rattle.split_source.specs.Seats.{AreAll};
@@ -10,10 +8,11 @@ use col_pages::Page;
 use split_source::{
     ClaimSeat, Claims, ScanSource, settle_claims, split_count, split_range, stop_claims,
 };
-use sql_values::{Column, Items, Memory, Row, RowList, SqlType, Table, Text, Value, ValueRef};
+use sql_values::{Memory, Table, ValueRef};
 use std::alloc::Global;
 use std::test::Fail;
 use std::thread;
+use test_fixtures::number_table;
 
 /// The count, where each seat met the end.
 fn settle_if_ended(seats: Vec<ClaimSeat<'_>>) -> Option<u32>
@@ -115,41 +114,6 @@ fn ten_rows_are_cut_into_splits_of_four(rt: HostRuntime) {
     assert!(rt; first & second & third & are_three & (split_count(0, 4) == 0));
 }
 
-fn row_of(alloc: Global, number: u32) -> Result<Row, Memory>
-    ensures { IfOk result (λ row. IsTrue (fits_row (Bigint ∷ []) (cut (0 ∷ []) row))) }
-{
-    let mut values = Vec::new(alloc);
-    values.push(Value::Bigint(i64::from(number)))?;
-    Ok(Row::of(values))
-}
-
-/// Rows of one number each, from 0 up.
-fn numbers(alloc: Global, count: u32) -> Result<RowList, Memory>
-    ensures len { IfOk result (λ rows. length rows ≡ count) }
-    ensures fits { IfOk result (λ rows. All (λ row. IsTrue (fits_row (Bigint ∷ []) (cut (0 ∷ []) row))) rows) }
-{
-    let mut rows = RowList::new(alloc);
-    for number in 0..count {
-        rows.push(row_of(alloc, number)?)?;
-    }
-    Ok(rows)
-}
-
-/// A table of one column.
-fn table_of(alloc: Global, count: u32) -> Result<Table, Memory>
-    ensures len { IfOk result (λ t. length t.rows ≡ count) }
-    ensures columns { IfOk result (λ t. length t.columns ≡ 1) }
-    ensures fits { IfOk result (λ t. AreReadable t.columns (0 ∷ []) t.rows) }
-{
-    let mut columns = Items::new(alloc);
-    columns.push(Column {
-        name: Text::copy_of(alloc, "n")?,
-        kind: SqlType::Bigint,
-    })?;
-    let rows = numbers(alloc, count)?;
-    Ok(Table { columns, rows })
-}
-
 /// Whether the page's numbers go on from this one.
 fn go_on(page: &Page, number: u32) -> bool {
     for row in 0..page.len() {
@@ -206,7 +170,7 @@ fn scan_alone(alloc: Global, table: &Table, size: u32, page: u32) -> Result<u32,
 
 #[test]
 fn a_scan_gives_each_row_once(rt: HostRuntime) -> Result<(), Memory> {
-    let table = table_of(rt.alloc(), 10)?;
+    let table = number_table(rt.alloc(), 10)?;
     for size in 1..13 {
         for page in 1..13 {
             assert!(rt; scan_alone(rt.alloc(), &table, size, page)? == 10);

@@ -10,12 +10,12 @@ use Rattle.plan_trees.specs.Allowed.{width_of}
 use Rattle.plan_trees.specs.TreeTypes.{types_of}
 use Rattle.column_origins.specs.declared.origin.Origin.{Origin}
 use Rattle.column_origins.specs.Origins.{left_column, origin_of, passed_column}
-use Rattle.plan_runs.specs.RunPlans.{RunPlan, tree_of_run}
-use Rattle.plan_runs.specs.RunPlans as plan
-use Rattle.lost_rows.specs.Arrivals.{arriving}
-use Rattle.lost_rows.specs.Sieves.{Sieve, if_calm, over_input}
-use Rattle.lost_rows.proofs.ArrivalLemmas.{comes_down, moved_down, nothing}
-use Rattle.lost_rows.specs.Runs.{AreTyped}
+use Rattle.plan_run_laws.specs.RunPlans.{RunPlan, tree_of_run}
+use Rattle.plan_run_laws.specs.RunPlans as plan
+use Rattle.lost_row_laws.specs.Arrivals.{arriving}
+use Rattle.lost_row_laws.specs.Sieves.{Sieve, if_calm, over_input}
+use Rattle.lost_row_laws.proofs.ArrivalLemmas.{comes_down, moved_down, nothing}
+use Rattle.lost_row_laws.specs.Runs.{AreTyped}
 use Rattle.sieve_laws.specs.ComingDown.{ComeDown, HasJoin, HaveApart, ScansApart, scans_of}
 use Rattle.sieve_laws.proofs.WithinLemmas.{StandBelow, calm_below, left_below, none_below, over_below, passed_below}
 

@@ -7,7 +7,7 @@ use Rattle.sql_values.specs.declared.fail.Fail.{Fail}
 use Rattle.sql_values.specs.declared.types.SqlType.{SqlType}
 use Rattle.sql_values.specs.declared.value.Value.{Value}
 use Rattle.sql_values.specs.ColumnRows.{fits_row}
-use Rattle.page_judges.specs.Typed.{AllFit}
+use Rattle.col_pages.specs.Fits.{AllFit}
 use Rattle.operator_core.specs.declared.operator.Operator.{Ghosts}
 use Rattle.operator_core.specs.Rows.{Row}
 use Rattle.operator_core.specs.Calls.{FailsNow, IsLawful}
@@ -20,14 +20,14 @@ use Rattle.bag_laws.proofs.BagLemmas.{same-append, same-from_equal, same-refl, s
 use Rattle.bag_laws.proofs.BucketLemmas.{sits-append, sits-head, sits-nil, sits-same, sits-tail}
 use Rattle.bag_laws.proofs.GatherLemmas.{gather-none, same-gather, same-gather_append}
 use Rattle.plan_trees.specs.Allowed.{strict}
-use Rattle.plan_runs.specs.Nets.{Lanes, of_tasks}
-use Rattle.plan_runs.specs.Stops.{AllSet, Flags, Hop}
-use Rattle.plan_runs.specs.Wholes.{longer}
-use Rattle.plan_runs.proofs.LaneLemmas.{chosen_lanes}
+use Rattle.plan_run_laws.specs.Nets.{Lanes, of_tasks}
+use Rattle.plan_run_laws.specs.Stops.{AllSet, Flags, Hop}
+use Rattle.plan_run_laws.specs.Wholes.{longer}
+use Rattle.plan_run_laws.proofs.LaneLemmas.{chosen_lanes}
 use Rattle.dyn_filter.specs.declared.domain.Domain.{Domain}
-use Rattle.lost_rows.specs.Domains.{Filtering, sieve_of}
-use Rattle.lost_rows.specs.Sieves.{Sieve, is_lost}
-use Rattle.lost_rows.proofs.DomainLemmas.{lost_by_all}
+use Rattle.lost_row_laws.specs.Domains.{Filtering, sieve_of}
+use Rattle.lost_row_laws.specs.Sieves.{Sieve, is_lost}
+use Rattle.lost_row_laws.proofs.DomainLemmas.{lost_by_all}
 use Rattle.sieve_laws.specs.FilterLanes.{AllDrop, AreAmong, AreFiltered, Drops, FilterNoted, IsAmong, IsFiltered}
 use Rattle.sieve_laws.proofs.OverLemmas.{fitting}
 use Rattle.sieve_laws.proofs.SplitLemmas.{fails_after}

@@ -1,4 +1,4 @@
--- Of pipes of which one failed, the plan's tree may fail so, whatever rows without a partner the scans lost.
+-- Of pipes of which one failed, the plan's tree may fail with this kind, whatever rows without a partner the scans lost.
 use Rattle.std.proofs.Common.{◌≡◌, ◌⊎◌, inl, inr, ℕ, ◌<◌, List, [], ◌++◌, subst}
 use Rattle.sql_values.specs.declared.fail.Fail.{Fail}
 use Rattle.sql_exprs.specs.Calm.{is_calm}
@@ -7,15 +7,15 @@ use Rattle.operator_core.specs.Calls.{IsLawful}
 use Rattle.plan_trees.specs.Allowed.{width_of}
 use Rattle.plan_trees.specs.TreeTypes.{types_of}
 use Rattle.column_origins.specs.Origins.{left_column, passed_column}
-use Rattle.plan_runs.specs.Nets.{Lanes}
-use Rattle.plan_runs.specs.Nets as stage
-use Rattle.plan_runs.specs.RunPlans.{RunPlan, tree_of_run, scan, values, remote, filter, project, join, aggregate, aggregate_parts, sort, topn, topn_parts, limit, limit_parts, union}
-use Rattle.plan_runs.specs.Spreads.{Tables}
+use Rattle.plan_run_laws.specs.Nets.{Lanes}
+use Rattle.plan_run_laws.specs.Nets as stage
+use Rattle.plan_run_laws.specs.RunPlans.{RunPlan, tree_of_run, scan, values, remote, filter, project, join, aggregate, aggregate_parts, sort, topn, topn_parts, limit, limit_parts, union}
+use Rattle.plan_run_laws.specs.Spreads.{Tables}
 use Rattle.stage_meanings.specs.Pipelines.{NodeStage, at_node}
-use Rattle.lane_laws.specs.Lanes.{NeverFails, Noted, notes_of_lanes, other_notes}
+use Rattle.pipe_laws.specs.Lanes.{NeverFails, Noted, notes_of_lanes, other_notes}
 use Rattle.pipe_laws.specs.Pipes.{HasFailing, IsHalfPipeOf, IsPipeOf, PipeState, stopped}
-use Rattle.lost_rows.specs.Faults.{FailedLosing}
-use Rattle.lost_rows.specs.Sieves.{Sieve, if_calm, over_input}
+use Rattle.lost_row_laws.specs.Faults.{FailedLosing}
+use Rattle.lost_row_laws.specs.Sieves.{Sieve, if_calm, over_input}
 use Rattle.sieve_laws.specs.LosingPipes.{IsBelowLosing, StandsLosing}
 use Rattle.sieve_laws.proofs.LaneFailLemmas.{losing_halves_failed, losing_lanes_failed}
 use Rattle.sieve_laws.proofs.StandLemmas.{stops_losing}

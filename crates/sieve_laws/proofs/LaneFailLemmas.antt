@@ -5,37 +5,37 @@ use Rattle.sql_values.specs.declared.fail.Fail.{Fail}
 use Rattle.sql_values.specs.declared.types.SqlType.{SqlType}
 use Rattle.sql_values.specs.declared.relational.JoinKind.{JoinKind}
 use Rattle.sql_exprs.specs.Calm.{is_calm}
-use Rattle.page_judges.specs.Typed.{AllFit}
+use Rattle.col_pages.specs.Fits.{AllFit}
 use Rattle.operator_core.specs.declared.operator.Operator.{Ghosts}
 use Rattle.operator_core.specs.Rows.{Row}
 use Rattle.operator_core.specs.Calls.{IsLawful}
 use Rattle.operator_core.specs.Stages.{FailsAfter, Linked, ToldInTurn, last_finished}
 use Rattle.bag_laws.proofs.GatherLemmas.{chosen}
-use Rattle.relations.specs.Groups.{groups_of}
+use Rattle.relation_laws.specs.Groups.{groups_of}
 use Rattle.plan_trees.specs.Judges.{filter_judge, project_judge}
 use Rattle.plan_trees.specs.Allowed.{width_of}
 use Rattle.plan_trees.specs.TreeTypes.{types_of}
 use Rattle.column_origins.specs.Origins.{left_column, passed_column}
-use Rattle.plan_runs.specs.Faults.{FailsOnGroupOf, FailsOnOneOf}
-use Rattle.plan_runs.specs.Nets.{Lanes, Stage}
-use Rattle.plan_runs.specs.RunPlans.{RunPlan, tree_of_run, scan, values, remote, filter, project, join, aggregate, aggregate_parts, sort, topn, topn_parts, limit, limit_parts, union}
-use Rattle.plan_runs.specs.Spreads.{Tables}
-use Rattle.plan_runs.specs.Stops.{AreOpen, CanGoOn, Flags, MayCome}
+use Rattle.plan_run_laws.specs.Faults.{FailsOnGroupOf, FailsOnOneOf}
+use Rattle.plan_run_laws.specs.Nets.{Lanes, Stage}
+use Rattle.plan_run_laws.specs.RunPlans.{RunPlan, tree_of_run, scan, values, remote, filter, project, join, aggregate, aggregate_parts, sort, topn, topn_parts, limit, limit_parts, union}
+use Rattle.plan_run_laws.specs.Spreads.{Tables}
+use Rattle.plan_run_laws.specs.Stops.{AreOpen, StagesCanGoOn, Flags, MayCome}
 use Rattle.stage_meanings.specs.Meanings.{Means}
 use Rattle.stage_meanings.specs.Pipelines.{FailsOn, NodeStage, at_node, stages_of}
 use Rattle.stage_meanings.proofs.MeaningLemmas.{comes}
-use Rattle.plan_nets.specs.Operators.{EndsIn, Operate, types_of_source}
-use Rattle.plan_nets.specs.Stopped.{FailsAt, FailsOver, IsOpen}
-use Rattle.plan_nets.specs.Trees.{stages_over}
-use Rattle.plan_nets.proofs.OperatorLemmas.{InFront, at_last_or_before, came_before, fails_of, moved, stood_at}
-use Rattle.plan_nets.proofs.SnocLemmas.{only_one}
-use Rattle.plan_nets.proofs.TreeLemmas.{are_for, in_task}
-use Rattle.lane_laws.specs.Lanes.{AreHalved, AreLanes, HasNotes, IsHalved, IsLane, NeverFails, Noted, notes_of_lanes, other_notes}
-use Rattle.lane_laws.proofs.NoteLemmas.{agreed, builds_for}
-use Rattle.lane_laws.proofs.LaneLemmas.{lane_open}
-use Rattle.lost_rows.specs.Faults.{FailedLosing, FailedOverLosing}
-use Rattle.lost_rows.specs.Sieves.{Sieve, if_calm, over_input}
-use Rattle.lost_rows.specs.Stops.{StopsLosing}
+use Rattle.pipe_laws.specs.Operators.{EndsIn, Operate, types_of_source}
+use Rattle.pipe_laws.specs.Stopped.{FailsAt, FailsOver, IsOpen}
+use Rattle.pipe_laws.specs.Trees.{stages_over}
+use Rattle.pipe_laws.proofs.OperatorLemmas.{InFront, at_last_or_before, came_before, fails_of, moved, stood_at}
+use Rattle.pipe_laws.proofs.SnocLemmas.{only_one}
+use Rattle.pipe_laws.proofs.TreeLemmas.{are_for, in_task}
+use Rattle.pipe_laws.specs.Lanes.{AreHalved, AreLanes, HasNotes, IsHalved, IsLane, NeverFails, Noted, notes_of_lanes, other_notes}
+use Rattle.pipe_laws.proofs.NoteLemmas.{agreed, builds_for}
+use Rattle.pipe_laws.proofs.LaneLemmas.{lane_open}
+use Rattle.lost_row_laws.specs.Faults.{FailedLosing, FailedOverLosing}
+use Rattle.lost_row_laws.specs.Sieves.{Sieve, if_calm, over_input}
+use Rattle.lost_row_laws.specs.Stops.{StopsLosing}
 
 -- the operators up to the input of a node, what came out of them, and whether the last is finished
 record InputLane (S : Type 0) : Type 0 where
@@ -108,7 +108,7 @@ module _ {S : Type 0} (g : Ghosts S) (laws : IsLawful g) where
         let stages = stages_of (stages_over input (in_task k builds)) in (
           stages,
           are_for input builds k (builds_for input (notes k d) (in_task k builds) (has k d lt less) agrees),
-          subst (λ p. CanGoOn p (took k d) (inputs k d).came (ended k d) (inputs k d).told) (sym (append-nil stages)) ((each k d lt less).0 (in_task k builds) agrees),
+          subst (λ p. StagesCanGoOn p (took k d) (inputs k d).came (ended k d) (inputs k d).told) (sym (append-nil stages)) ((each k d lt less).0 (in_task k builds) agrees),
         )
 
     failed_over : InputLanes n w input notes took ended → StopsLosing tables sieves n w input (notes_of_lanes input notes) took ended → task < n → driver < w

@@ -3,8 +3,8 @@ use Rattle.std.proofs.Common.{◌≡◌, ℕ, ◌<◌, zero, suc, List, [], ◌�
 use Rattle.sql_values.specs.declared.types.SqlType.{SqlType}
 use Rattle.sql_values.specs.ColumnRows.{fits_row}
 use Rattle.sql_exprs.specs.Calm.{is_calm}
-use Rattle.page_judges.specs.Typed.{AllFit}
-use Rattle.page_judges.proofs.FilterLemmas.{first_fits, rest_fits}
+use Rattle.col_pages.specs.Fits.{AllFit}
+use Rattle.page_processor.proofs.FilterLemmas.{first_fits, rest_fits}
 use Rattle.operator_core.specs.declared.operator.Operator.{Ghosts}
 use Rattle.operator_core.specs.Rows.{Row}
 use Rattle.operator_core.specs.Calls.{IsLawful}
@@ -17,21 +17,21 @@ use Rattle.bag_laws.proofs.BucketLemmas.{sits-append, sits-cons, sits-nil}
 use Rattle.plan_trees.specs.Allowed.{strict, width_of}
 use Rattle.plan_trees.specs.TreeTypes.{types_of}
 use Rattle.column_origins.specs.Origins.{left_column, passed_column}
-use Rattle.plan_runs.specs.Nets.{Lanes, Pipe, Went, WentInto, of_tasks}
-use Rattle.plan_runs.specs.Nets as stage
-use Rattle.plan_runs.specs.RunPlans.{Output, RunPlan, tree_of_run, scan, values, remote, filter, project, join, aggregate, aggregate_parts, sort, topn, topn_parts, limit, limit_parts, union}
-use Rattle.plan_runs.specs.Runs.{Passed}
-use Rattle.plan_runs.specs.Spreads.{Tables}
-use Rattle.plan_runs.specs.Stops.{AllSet, Flags, Hop, IsNoted, PassedSoFar, StoppedPipe}
-use Rattle.plan_nets.specs.Stopped.{AgreeWith}
-use Rattle.plan_nets.proofs.TreeLemmas.{in_task}
+use Rattle.plan_run_laws.specs.Nets.{Lanes, Pipe, Went, WentInto, of_tasks}
+use Rattle.plan_run_laws.specs.Nets as stage
+use Rattle.plan_run_laws.specs.RunPlans.{Output, RunPlan, tree_of_run, scan, values, remote, filter, project, join, aggregate, aggregate_parts, sort, topn, topn_parts, limit, limit_parts, union}
+use Rattle.plan_run_laws.specs.Runs.{EdgePassed}
+use Rattle.plan_run_laws.specs.Spreads.{Tables}
+use Rattle.plan_run_laws.specs.Stops.{AllSet, Flags, Hop, IsNoted, PassedSoFar, StoppedPipe}
+use Rattle.pipe_laws.specs.Stopped.{AgreeWith}
+use Rattle.pipe_laws.proofs.TreeLemmas.{in_task}
 use Rattle.stage_meanings.specs.Pipelines.{NodeStage, at_node}
-use Rattle.lane_laws.specs.Lanes.{HasNotes, Noted, first_note, other_notes}
-use Rattle.lane_laws.proofs.LaneLemmas.{halves_made, lanes_made}
-use Rattle.lane_laws.proofs.NoteLemmas.{has_others, join_agrees, none_agree}
+use Rattle.pipe_laws.specs.Lanes.{HasNotes, Noted, first_note, other_notes}
+use Rattle.pipe_laws.proofs.LaneLemmas.{halves_made, lanes_made}
+use Rattle.pipe_laws.proofs.NoteLemmas.{has_others, join_agrees, none_agree}
 use Rattle.pipe_laws.specs.Pipes.{AreOver, IsHalfPipeOf, IsPipeOf, PipeState, stopped}
-use Rattle.lost_rows.specs.Nets.{BelowLosing}
-use Rattle.lost_rows.specs.Sieves.{Sieve, if_calm, over_input}
+use Rattle.lost_row_laws.specs.Nets.{BelowLosing}
+use Rattle.lost_row_laws.specs.Sieves.{Sieve, if_calm, over_input}
 use Rattle.sieve_laws.specs.LosingPipes.{StandsLosing}
 
 -- where a hop is over, all that was put was taken
@@ -40,7 +40,7 @@ hop_over {took = took} hop over =
     same-sym (same-trans (same-from_equal (sym (append-nil took))) (subst (λ (left : List Row). SameWeights (took ++ left) _) (hop.all over) hop.some))
 
 passed_all : (output : Output) (m n : ℕ) (p : StoppedPipe) (w : ℕ) (took : Lanes) (ended : Flags) → AllSet n w ended → PassedSoFar output m n p w took ended
-    → Passed output m n (of_tasks p.drivers p.gave) (of_tasks w took)
+    → EdgePassed output m n (of_tasks p.drivers p.gave) (of_tasks w took)
 passed_all output m n p w took ended over passed = λ k lt. hop_over (passed k lt) (λ d less. over k d lt less)
 
 -- the rows that a note knows are those of the pipe that built them

@@ -9,14 +9,14 @@ use Rattle.bag_laws.proofs.GatherLemmas.{gather-agree}
 use Rattle.plan_trees.specs.Allowed.{scanned, strict, width_of}
 use Rattle.plan_trees.specs.TreeTypes.{types_of}
 use Rattle.column_origins.specs.Origins.{left_column, passed_column}
-use Rattle.plan_runs.specs.Nets.{Lanes, of_tasks}
-use Rattle.plan_runs.specs.RunPlans.{RunPlan, tree_of_run, scan, values, remote, filter, project, join, aggregate, aggregate_parts, sort, topn, topn_parts, limit, limit_parts, union}
-use Rattle.plan_runs.specs.Spreads.{Tables}
-use Rattle.plan_runs.specs.Stops.{AllSet, Hop}
-use Rattle.plan_runs.specs.Wholes.{longer}
-use Rattle.lane_laws.specs.Lanes.{Noted, other_notes}
+use Rattle.plan_run_laws.specs.Nets.{Lanes, of_tasks}
+use Rattle.plan_run_laws.specs.RunPlans.{RunPlan, tree_of_run, scan, values, remote, filter, project, join, aggregate, aggregate_parts, sort, topn, topn_parts, limit, limit_parts, union}
+use Rattle.plan_run_laws.specs.Spreads.{Tables}
+use Rattle.plan_run_laws.specs.Stops.{AllSet, Hop}
+use Rattle.plan_run_laws.specs.Wholes.{longer}
+use Rattle.pipe_laws.specs.Lanes.{Noted, other_notes}
 use Rattle.pipe_laws.specs.Pipes.{PipeState, Stands}
-use Rattle.lost_rows.specs.Sieves.{Sieve, if_calm, is_lost, over_input}
+use Rattle.lost_row_laws.specs.Sieves.{Sieve, if_calm, is_lost, over_input}
 use Rattle.sieve_laws.specs.LosingPipes.{RightsTyped, StandsLosing}
 
 with_none : (n w : ℕ) (took : Lanes) → gather n (of_tasks w took) ≡ gather n (of_tasks w (longer took (λ k d. [])))

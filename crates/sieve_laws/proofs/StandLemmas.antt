@@ -10,17 +10,17 @@ use Rattle.bag_laws.proofs.BucketLemmas.{sits-weaker}
 use Rattle.plan_trees.specs.Allowed.{skipping, strict, width_of}
 use Rattle.plan_trees.specs.TreeTypes.{types_of}
 use Rattle.column_origins.specs.Origins.{left_column, passed_column}
-use Rattle.plan_runs.specs.Nets.{Lanes}
-use Rattle.plan_runs.specs.Nets as stage
-use Rattle.plan_runs.specs.RunPlans.{RunPlan, tree_of_run, scan, values, remote, filter, project, join, aggregate, aggregate_parts, sort, topn, topn_parts, limit, limit_parts, union}
-use Rattle.plan_runs.specs.Spreads.{Tables}
+use Rattle.plan_run_laws.specs.Nets.{Lanes}
+use Rattle.plan_run_laws.specs.Nets as stage
+use Rattle.plan_run_laws.specs.RunPlans.{RunPlan, tree_of_run, scan, values, remote, filter, project, join, aggregate, aggregate_parts, sort, topn, topn_parts, limit, limit_parts, union}
+use Rattle.plan_run_laws.specs.Spreads.{Tables}
 use Rattle.stage_meanings.specs.Pipelines.{at_node}
-use Rattle.lane_laws.specs.Lanes.{Noted, notes_of_lanes, other_notes}
+use Rattle.pipe_laws.specs.Lanes.{Noted, notes_of_lanes, other_notes}
 use Rattle.pipe_laws.specs.Pipes.{PipeState, stopped}
 use Rattle.pipe_laws.proofs.StandLemmas.{half_pipe_open, pipe_open}
-use Rattle.lost_rows.specs.Sieves.{Sieve, fits_in, if_calm, is_held, is_lost, over_input}
-use Rattle.lost_rows.specs.Stops.{StopsLosing}
-use Rattle.lost_rows.proofs.SieveLemmas.{and_second}
+use Rattle.lost_row_laws.specs.Sieves.{Sieve, fits_in, if_calm, is_held, is_lost, over_input}
+use Rattle.lost_row_laws.specs.Stops.{StopsLosing}
+use Rattle.lost_row_laws.proofs.SieveLemmas.{and_second}
 use Rattle.sieve_laws.specs.LosingPipes.{StandsLosing}
 
 -- what may be lost where no row may fail may be lost anyway

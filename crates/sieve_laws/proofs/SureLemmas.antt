@@ -7,19 +7,19 @@ use Rattle.std.proofs.lemmas.List.FromFn.{map-range_with_len_more}
 use Rattle.sql_values.specs.declared.value.Value.{Value}
 use Rattle.sql_values.specs.Cells.{cell}
 use Rattle.operator_core.specs.Rows.{Row}
-use Rattle.relations.specs.Joins.{are_partners}
+use Rattle.relation_laws.specs.Joins.{are_partners}
 use Rattle.bag_laws.specs.Gather.{gather}
 use Rattle.bag_laws.proofs.GatherLemmas.{gather-map}
-use Rattle.plan_runs.specs.Nets.{of_tasks}
-use Rattle.plan_runs.specs.Stops.{AllSet, StoppedPipe}
+use Rattle.plan_run_laws.specs.Nets.{of_tasks}
+use Rattle.plan_run_laws.specs.Stops.{AllSet, StoppedPipe}
 use Rattle.dyn_filter.specs.declared.domain.Domain.{Domain}
 use Rattle.dyn_filter.specs.Cells.{AreDomainsOf, IsUnion, all_of}
 use Rattle.dyn_filter.specs.Domains.{IsDomainOf}
-use Rattle.lost_rows.specs.Domains.{sieve_of}
-use Rattle.lost_rows.specs.Sieves.{Sieve, is_held}
-use Rattle.lost_rows.specs.Stops.{AreSure}
-use Rattle.lost_rows.proofs.DomainLemmas.{alone_by}
-use Rattle.lost_rows.proofs.SieveLemmas.{held_by_either}
+use Rattle.lost_row_laws.specs.Domains.{sieve_of}
+use Rattle.lost_row_laws.specs.Sieves.{Sieve, is_held}
+use Rattle.lost_row_laws.specs.Stops.{AreSure}
+use Rattle.lost_row_laws.proofs.DomainLemmas.{alone_by}
+use Rattle.lost_row_laws.proofs.SieveLemmas.{held_by_either}
 use Rattle.sieve_laws.specs.KnownDomains.{AreKnownOf, IsKnownOf, JoinFilter, sieve_known, sieves_of}
 
 module _ (on : List (ℕ × ℕ)) (n : ℕ) (right : StoppedPipe) where

@@ -1,8 +1,8 @@
 -- The expressions of a run whose tree fits tables have types.
-use Rattle.plan_runs.specs.RunPlans.{RunPlan, tree_of_run, scan, values, remote, filter, project, join, aggregate, aggregate_parts, sort, topn, topn_parts, limit, limit_parts, union}
-use Rattle.plan_runs.specs.Spreads.{Tables}
+use Rattle.plan_run_laws.specs.RunPlans.{RunPlan, tree_of_run, scan, values, remote, filter, project, join, aggregate, aggregate_parts, sort, topn, topn_parts, limit, limit_parts, union}
+use Rattle.plan_run_laws.specs.Spreads.{Tables}
 use Rattle.tree_evaluator.specs.Fits.{FitsTables}
-use Rattle.lost_rows.specs.Runs.{AreTyped}
+use Rattle.lost_row_laws.specs.Runs.{AreTyped}
 
 pub typed : (run : RunPlan) (tables : Tables) → FitsTables (tree_of_run run) tables → AreTyped run
 typed (scan id table columns types) tables fits = tt

@@ -7,11 +7,11 @@ use Rattle.sql_values.specs.declared.types.SqlType.{SqlType}
 use Rattle.sql_values.specs.declared.relational.JoinKind.{JoinKind}
 use Rattle.sql_exprs.specs.Forms.{Form, column}
 use Rattle.sql_exprs.specs.Typing.{Path}
-use Rattle.page_judges.specs.Typed.{AllTyped, IsTyped}
+use Rattle.page_processor.specs.Typed.{AllTyped, IsTyped}
 use Rattle.column_origins.specs.Origins.{left_column, passed_column}
-use Rattle.lost_rows.specs.Sieves.{Sieve, if_calm, over_input, sieve_at}
-use Rattle.lost_rows.proofs.ArrivalLemmas.{first_or_later, nothing}
-use Rattle.lost_rows.proofs.SieveLemmas.{left_place, passed}
+use Rattle.lost_row_laws.specs.Sieves.{Sieve, if_calm, over_input, sieve_at}
+use Rattle.lost_row_laws.proofs.ArrivalLemmas.{first_or_later, nothing}
+use Rattle.lost_row_laws.proofs.SieveLemmas.{left_place, passed}
 
 -- they stand at columns below a number
 abbrev pub StandBelow : ℕ → List Sieve → Type 0

@@ -7,18 +7,18 @@ use Rattle.sql_values.specs.declared.types.SqlType.TheVariants as type
 use Rattle.sql_values.specs.declared.value.Value.TheVariants as value
 use Rattle.sql_values.specs.declared.relational.JoinKind.TheVariants.{Inner}
 use Rattle.sql_values.specs.Cells.{cell}
-use Rattle.page_judges.specs.Typed.{AllFit}
+use Rattle.col_pages.specs.Fits.{AllFit}
 use Rattle.operator_core.specs.declared.operator.Operator.{Ghosts}
 use Rattle.operator_core.specs.Rows.{Row}
 use Rattle.bag_laws.proofs.BagLemmas.{same-from_equal}
 use Rattle.bag_laws.proofs.BucketLemmas.{sits-nil}
-use Rattle.relations.specs.Equality.{is_present, same_value}
+use Rattle.relation_laws.specs.Equality.{is_present, same_value}
 use Rattle.plan_trees.specs.Allowed.{strict}
-use Rattle.plan_runs.specs.RunPlans.{RunPlan, join, scan}
-use Rattle.plan_runs.specs.Spreads.{Tables}
+use Rattle.plan_run_laws.specs.RunPlans.{RunPlan, join, scan}
+use Rattle.plan_run_laws.specs.Spreads.{Tables}
 use Rattle.pipe_laws.specs.Pipes.{PipeState}
-use Rattle.lost_rows.specs.Runs.{AreAlone}
-use Rattle.lost_rows.specs.Sieves.{Sieve, is_lost}
+use Rattle.lost_row_laws.specs.Runs.{AreAlone}
+use Rattle.lost_row_laws.specs.Sieves.{Sieve, is_lost}
 use Rattle.sieve_laws.specs.LosingPipes.{StandsLosing}
 use Rattle.sieve_laws.proofs.DropLemmas.{all_fitting}
 

@@ -5,9 +5,9 @@ use Rattle.sql_exprs.specs.Calm.{is_calm}
 use Rattle.plan_trees.specs.Allowed.{width_of}
 use Rattle.plan_trees.specs.TreeTypes.{types_of}
 use Rattle.column_origins.specs.Origins.{left_column, passed_column}
-use Rattle.plan_runs.specs.RunPlans.{RunPlan, tree_of_run}
-use Rattle.plan_runs.specs.RunPlans as plan
-use Rattle.lost_rows.specs.Sieves.{Sieve, if_calm, over_input}
+use Rattle.plan_run_laws.specs.RunPlans.{RunPlan, tree_of_run}
+use Rattle.plan_run_laws.specs.RunPlans as plan
+use Rattle.lost_row_laws.specs.Sieves.{Sieve, if_calm, over_input}
 
 -- the ids of its scans
 abbrev pub scans_of : RunPlan → List ℕ

@@ -2,17 +2,17 @@
 use Rattle.std.specs.Prelude.{◌≡◌, ℕ, ◌<◌, List, [], ◌∷◌, ◌++◌, Bool, false, Option, Some, None, Contains, length}
 use Rattle.sql_values.specs.declared.fail.Fail.{Fail}
 use Rattle.sql_values.specs.declared.types.SqlType.{SqlType}
-use Rattle.page_judges.specs.Typed.{AllFit}
+use Rattle.col_pages.specs.Fits.{AllFit}
 use Rattle.operator_core.specs.declared.operator.Operator.{Ghosts}
 use Rattle.operator_core.specs.Rows.{Row}
 use Rattle.operator_core.specs.Stages.{Linked, ToldInTurn, last_finished}
-use Rattle.plan_runs.specs.Nets.{Lanes}
-use Rattle.plan_runs.specs.Stops.{Flags, MayCome}
+use Rattle.plan_run_laws.specs.Nets.{Lanes}
+use Rattle.plan_run_laws.specs.Stops.{Flags, MayCome}
 use Rattle.dyn_filter.specs.declared.domain.Domain.{Domain}
 use Rattle.dyn_filter.specs.Filters.{AreKept}
 use Rattle.dyn_filter.specs.Rows.{row_passes}
-use Rattle.lost_rows.specs.Domains.{sieve_of}
-use Rattle.lost_rows.specs.Sieves.{Sieve}
+use Rattle.lost_row_laws.specs.Domains.{sieve_of}
+use Rattle.lost_row_laws.specs.Sieves.{Sieve}
 
 -- what a filter in front of a driver's stages tests: a column, by the domain that its note knows, if any
 pub record FilterNoted : Type 0 where

@@ -2,12 +2,12 @@
 use Rattle.std.specs.Prelude.{◌≡◌, ℕ, ◌<◌, List, [], ◌∷◌, ◌++◌, Option, Some, None, get_or, length, map}
 use Rattle.sql_values.specs.Cells.{cell}
 use Rattle.bag_laws.specs.Gather.{gather}
-use Rattle.plan_runs.specs.Nets.{of_tasks}
-use Rattle.plan_runs.specs.Stops.{AllSet, StoppedPipe}
+use Rattle.plan_run_laws.specs.Nets.{of_tasks}
+use Rattle.plan_run_laws.specs.Stops.{AllSet, StoppedPipe}
 use Rattle.dyn_filter.specs.declared.domain.Domain.{Domain}
 use Rattle.dyn_filter.specs.Domains.{IsDomainOf}
-use Rattle.lost_rows.specs.Domains.{sieve_of}
-use Rattle.lost_rows.specs.Sieves.{Sieve}
+use Rattle.lost_row_laws.specs.Domains.{sieve_of}
+use Rattle.lost_row_laws.specs.Sieves.{Sieve}
 
 -- a dynamic filter of a join: the place of the pair of columns, and the domain of the right side's values, once it is known
 pub record JoinFilter : Type 0 where

@@ -2,7 +2,7 @@
 use Rattle.std.specs.Prelude.{◌≡◌, ◌⊎◌, ℕ, ◌<◌, List, [], ◌++◌, true, Some}
 use Rattle.sql_values.specs.declared.types.SqlType.{SqlType}
 use Rattle.sql_exprs.specs.Calm.{is_calm}
-use Rattle.page_judges.specs.Typed.{AllFit}
+use Rattle.col_pages.specs.Fits.{AllFit}
 use Rattle.operator_core.specs.declared.operator.Operator.{Ghosts}
 use Rattle.operator_core.specs.Rows.{Row}
 use Rattle.bag_laws.specs.Buckets.{Sits}
@@ -11,17 +11,17 @@ use Rattle.bag_laws.specs.Weights.{SameWeights}
 use Rattle.plan_trees.specs.Allowed.{scanned, strict, width_of}
 use Rattle.plan_trees.specs.TreeTypes.{types_of}
 use Rattle.column_origins.specs.Origins.{left_column, passed_column}
-use Rattle.plan_runs.specs.Nets.{IsAlone, Lanes, of_tasks}
-use Rattle.plan_runs.specs.Nets as stage
-use Rattle.plan_runs.specs.RunPlans.{RunPlan, tree_of_run, scan, values, remote, filter, project, join, aggregate, aggregate_parts, sort, topn, topn_parts, limit, limit_parts, union}
-use Rattle.plan_runs.specs.Spreads.{Tables}
-use Rattle.plan_runs.specs.Stops.{AllSet, Hop, PassedSoFar, TookOf}
-use Rattle.plan_runs.specs.Wholes.{longer}
+use Rattle.plan_run_laws.specs.Nets.{IsAlone, Lanes, of_tasks}
+use Rattle.plan_run_laws.specs.Nets as stage
+use Rattle.plan_run_laws.specs.RunPlans.{RunPlan, tree_of_run, scan, values, remote, filter, project, join, aggregate, aggregate_parts, sort, topn, topn_parts, limit, limit_parts, union}
+use Rattle.plan_run_laws.specs.Spreads.{Tables}
+use Rattle.plan_run_laws.specs.Stops.{AllSet, Hop, PassedSoFar, TookOf}
+use Rattle.plan_run_laws.specs.Wholes.{longer}
 use Rattle.stage_meanings.specs.Pipelines.{at_node}
-use Rattle.lane_laws.specs.Lanes.{Noted, first_note, other_notes}
+use Rattle.pipe_laws.specs.Lanes.{Noted, first_note, other_notes}
 use Rattle.pipe_laws.specs.Pipes.{IsHalfPipeOf, IsPipeOf, PipeState, Stands, stopped}
-use Rattle.lost_rows.specs.Sieves.{Sieve, if_calm, is_lost, over_input}
-use Rattle.lost_rows.specs.Stops.{AreSure}
+use Rattle.lost_row_laws.specs.Sieves.{Sieve, if_calm, is_lost, over_input}
+use Rattle.lost_row_laws.specs.Stops.{AreSure}
 
 -- what the drivers of a pipe gave has these types
 abbrev pub GaveTyped : {S : Type 0} → List SqlType → ℕ → PipeState S → Type 0

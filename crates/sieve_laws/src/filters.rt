@@ -2,17 +2,17 @@
 ghost use Rattle.std.specs.Prelude.{◌≡◌, ◌<◌, ℕ, List, ◌++◌, Bool, get_or, length, take};
 ghost use Rattle.sql_values.specs.declared.fail.Fail.{Fail};
 ghost use Rattle.sql_values.specs.declared.types.SqlType.{SqlType as Kind};
-ghost use Rattle.page_judges.specs.Typed.{AllFit};
+ghost use Rattle.col_pages.specs.Fits.{AllFit};
 ghost use Rattle.operator_core.specs.Calls.{FailsNow};
 ghost use Rattle.operator_core.specs.Rows.{Row};
 ghost use Rattle.operator_core.specs.Stages.{FailsAfter, Linked, ToldInTurn, last_finished};
 ghost use Rattle.bag_laws.specs.Buckets.{Sits};
 ghost use Rattle.bag_laws.specs.Gather.{gather};
 ghost use Rattle.plan_trees.specs.Allowed.{strict};
-ghost use Rattle.plan_runs.specs.Nets.{Lanes, of_tasks};
-ghost use Rattle.plan_runs.specs.Stops.{AllSet, Flags, Hop};
-ghost use Rattle.plan_runs.specs.Wholes.{longer};
-ghost use Rattle.lost_rows.specs.Sieves.{Sieve, is_lost};
+ghost use Rattle.plan_run_laws.specs.Nets.{Lanes, of_tasks};
+ghost use Rattle.plan_run_laws.specs.Stops.{AllSet, Flags, Hop};
+ghost use Rattle.plan_run_laws.specs.Wholes.{longer};
+ghost use Rattle.lost_row_laws.specs.Sieves.{Sieve, is_lost};
 ghost use Rattle.sieve_laws.specs.FilterLanes.{AreFiltered, Drops, IsFiltered};
 
 use dyn_filter::FilterOp;

@@ -4,14 +4,14 @@ ghost use Rattle.sql_values.specs.declared.fail.Fail.{Fail};
 ghost use Rattle.plan_trees.specs.Allowed.{Gives, strict};
 ghost use Rattle.plan_trees.specs.Stopped.{MayFail};
 ghost use Rattle.plan_trees.specs.Widths.{FitsWidths};
-ghost use Rattle.plan_runs.specs.Placements.{Placed};
-ghost use Rattle.plan_runs.specs.RunPlans.{RunPlan, tree_of_run};
-ghost use Rattle.plan_runs.specs.Spreads.{whole};
+ghost use Rattle.plan_run_laws.specs.Placements.{Placed};
+ghost use Rattle.plan_run_laws.specs.RunPlans.{RunPlan, tree_of_run};
+ghost use Rattle.plan_run_laws.specs.Spreads.{whole};
 ghost use Rattle.tree_evaluator.specs.Fits.{FitsTables};
-ghost use Rattle.lane_laws.specs.Lanes.{Noted};
+ghost use Rattle.pipe_laws.specs.Lanes.{Noted};
 ghost use Rattle.pipe_laws.specs.Pipes.{AreOver, HasFailing, IsPipeOf, PipeState, Stands};
-ghost use Rattle.lost_rows.specs.Runs.{AreTyped};
-ghost use Rattle.lost_rows.specs.Sieves.{Sieve};
+ghost use Rattle.lost_row_laws.specs.Runs.{AreTyped};
+ghost use Rattle.lost_row_laws.specs.Sieves.{Sieve};
 ghost use Rattle.sieve_laws.specs.LosingPipes.{IsBelowLosing, RightsTyped, StandsLosing};
 
 use operator_core::Operator;
@@ -30,7 +30,7 @@ pub fn pipes_that_lost_rows_give<O: Operator>(tables: &[RowList], _of: PhantomDa
     operator_core::laws::laws::<O>(PhantomData);
 }
 
-/// The law that where an operator of a driver failed, in the root's pipe or in one below, its node may fail so, also where
+/// The law that where an operator of a driver failed, in the root's pipe or in one below, its node may fail with this kind, also where
 /// scans lost such rows.
 pub fn pipes_that_lost_rows_fail<O: Operator>(tables: &[RowList], _of: PhantomData<O>)
     ensures { (run : RunPlan) → AreTyped run → FitsWidths (tree_of_run run) → Placed 1 run whole

@@ -4,7 +4,7 @@
 //! operators took, and what they lost is held back by a sieve of a join above (`StandsLosing` in
 //! `specs/LosingPipes.antt`). A join is sure of its sieves: where one holds anything back, its right side is whole in all
 //! tasks, and that has no partner there. What follows is what follows of pipes that lost nothing: where all are over, the
-//! rows of the root are a list that the plan's tree allows, and where an operator failed, its node may fail so.
+//! rows of the root are a list that the plan's tree allows, and where an operator failed, its node may fail with this kind.
 //!
 //! From the bottom:
 //!

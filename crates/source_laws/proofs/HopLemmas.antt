@@ -1,7 +1,7 @@
 -- A hop said in other words.
 use Rattle.std.specs.Prelude.{List}
 use Rattle.sql_values.specs.declared.value.Value.{Value}
-use Rattle.plan_runs.specs.Stops.{Hop}
+use Rattle.plan_run_laws.specs.Stops.{Hop}
 
 -- where something else tells that it is over
 pub hop_when : {put took : List (List Value)} {IsEnded IsOver HasClosed : Type 0} → (IsEnded → IsOver) → Hop put took IsOver HasClosed → Hop put took IsEnded HasClosed

@@ -12,8 +12,8 @@ use Rattle.bag_laws.proofs.WithinLemmas.{within-flat_map}
 use Rattle.output_buffer.specs.Edges.{end_count}
 use Rattle.output_buffer.specs.Seats.{GatherPutState, GatherTakeState, HasEnded, put_by, rows_of_piece, rows_of_pieces}
 use Rattle.driver_ends.specs.Outlets.{rows_of_held, rows_sent}
-use Rattle.plan_runs.specs.Stops.{Hop}
-use Rattle.plan_runs.proofs.HopLemmas.{hop-hop}
+use Rattle.plan_run_laws.specs.Stops.{Hop}
+use Rattle.plan_run_laws.proofs.HopLemmas.{hop-hop}
 use Rattle.source_laws.specs.Edges.{AreTold, GatherCameBack, HavePutEnds, KeepsPutter, Putter, putting_seats, rows_for}
 
 -- no page is held behind an End

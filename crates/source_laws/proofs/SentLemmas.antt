@@ -14,8 +14,8 @@ use Rattle.driver_ends.specs.Outlets.{OutletState, rows_of_held, rows_sent}
 use Rattle.driver_ends.specs.Targets.{FitsKind, HasSent, KeepsTarget, TargetState, sent_to}
 use Rattle.bag_laws.specs.Gather.{gather}
 use Rattle.bag_laws.proofs.GatherLemmas.{gather-filter}
-use Rattle.plan_runs.specs.RunPlans.{Output, broadcast, hashed, single}
-use Rattle.plan_runs.specs.Runs.{sent}
+use Rattle.plan_run_laws.specs.RunPlans.{Output, broadcast, hashed, single}
+use Rattle.plan_run_laws.specs.Runs.{sent}
 use Rattle.source_laws.specs.Edges.{KeepsPutter, output_of, putter_of, rows_for}
 
 pub sent_is : (kind : PutKind) (n k : ℕ) (rows : List (List Value)) → FitsKind kind n → k < n → get_or (sent_to kind n rows) k [] ≡ sent (output_of kind) n k rows

@@ -15,11 +15,11 @@ use Rattle.driver_ends.specs.Deals.{DealState, KeepsDeal, rows_dealt}
 use Rattle.driver_ends.specs.Ends.{local_taken, remote_taken}
 use Rattle.driver_ends.specs.Outlets.{rows_of_held}
 use Rattle.driver_ends.specs.Sources.{HasLocalTaken, HasRemoteTaken, IsLocalEnded, IsRemoteEnded, LocalState, RemoteState}
-use Rattle.relations.specs.Sorts.{IsBeginning}
-use Rattle.plan_runs.specs.Stops.{Hop}
+use Rattle.relation_laws.specs.Sorts.{IsBeginning}
+use Rattle.plan_run_laws.specs.Stops.{Hop}
 use Rattle.output_buffer.specs.Partitions.{all_rows}
 use Rattle.driver_ends.specs.Fetching.{FetchingState, HasFetchTaken, IsFetchEnded, fetch_taken, rows_left}
-use Rattle.plan_runs.proofs.HopLemmas.{hop-hop}
+use Rattle.plan_run_laws.proofs.HopLemmas.{hop-hop}
 use Rattle.source_laws.proofs.HopLemmas.{hop_closed}
 use Rattle.source_laws.specs.Edges.{AreTold, GatherCameBack, KeepsPutter, Putter, SpreadCameBack, putting_seats, rows_for, rows_from, taking_seats}
 use Rattle.source_laws.proofs.PutLemmas.{gather_hop, none_held_behind, none_over, told_by_end}

@@ -10,8 +10,8 @@ use Rattle.driver_ends.specs.Outlets.{OutletInOrder, OutletState, rows_of_held, 
 use Rattle.driver_ends.specs.Ends.{remote_taken}
 use Rattle.driver_ends.specs.Sources.{RemoteState}
 use Rattle.driver_ends.specs.Targets.{TargetState}
-use Rattle.plan_runs.specs.RunPlans.{Output, broadcast, hashed, single}
-use Rattle.plan_runs.specs.Runs.{sent}
+use Rattle.plan_run_laws.specs.RunPlans.{Output, broadcast, hashed, single}
+use Rattle.plan_run_laws.specs.Runs.{sent}
 
 -- an outlet of a target, what it is to get of the rows that wait there, and whether the target was told that no page
 -- comes any more

@@ -8,10 +8,10 @@ ghost use Rattle.driver_ends.specs.Sources.{HasLocalTaken, HasRemoteTaken, IsLoc
 ghost use Rattle.driver_ends.specs.Targets.{HasSent, KeepsTarget, TargetState};
 ghost use Rattle.driver_ends.specs.Fetching.{FetchingState, HasFetchTaken, IsFetchEnded, fetch_taken};
 ghost use Rattle.bag_laws.specs.Gather.{gather};
-ghost use Rattle.relations.specs.Sorts.{IsBeginning};
-ghost use Rattle.plan_runs.specs.RunPlans.{Output};
-ghost use Rattle.plan_runs.specs.Runs.{sent};
-ghost use Rattle.plan_runs.specs.Stops.{Hop};
+ghost use Rattle.relation_laws.specs.Sorts.{IsBeginning};
+ghost use Rattle.plan_run_laws.specs.RunPlans.{Output};
+ghost use Rattle.plan_run_laws.specs.Runs.{sent};
+ghost use Rattle.plan_run_laws.specs.Stops.{Hop};
 ghost use Rattle.split_source.specs.Gathered.{AreDistinct, AreWhole};
 ghost use Rattle.split_source.specs.Scans.{ScanState};
 ghost use Rattle.sql_values.specs.Cells.{cut};

@@ -6,7 +6,7 @@ use Rattle.std.proofs.lemmas.Grind.{div_ceil_times}
 use Rattle.std.proofs.lemmas.List.Concat.{flat_map-append}
 use Rattle.std.proofs.lemmas.List.Sorted.{IsPermutation-refl, IsPermutation-trans, IsPermutation-append_comm, IsPermutation-append_left, IsPermutation-append_right, sum_by-IsPermutation}
 use Rattle.std.proofs.Math.Seq.{take-length}
-use Rattle.split_source.specs.Splits.{split_count, split_of, rows_of}
+use Rattle.split_source.specs.Splits.{split_count, split_of, rows_of_splits}
 use Rattle.std.proofs.lemmas.List.Sums.{sum_by-cons, sum_by-append}
 use Rattle.split_source.proofs.NumberLemmas.{Stands, found, hit, hit_itself}
 use Rattle.sum_laws.proofs.SumLemmas.{range_push}
@@ -51,19 +51,19 @@ module _ {A : Type 0} where
   split_is size rows n = let next : suc n * size ≡ n * size + size = suc-mul n size in let one : n + 1 ≡ suc n = omega arith in
       ap (λ m. take (min (length rows) m - n * size) (drop (n * size) rows)) (ap (λ j. j * size) one ∙ next) ∙ take_held (n * size) size rows
 
-  first_splits : (size : ℕ) (rows : List A) (n : ℕ) → rows_of size rows (range_with_len 0 n) ≡ take (n * size) rows
+  first_splits : (size : ℕ) (rows : List A) (n : ℕ) → rows_of_splits size rows (range_with_len 0 n) ≡ take (n * size) rows
   first_splits size rows zero = let none : 0 ≡ 0 * size = omega arith in ap (λ m. take m rows) none
   first_splits size rows (suc n) =
       let here : 0 + n ≡ n = omega arith in
       let next : suc n * size ≡ n * size + size = suc-mul n size in
-      ap (rows_of size rows) (range_push 0 n ∙ ap (λ k. range_with_len 0 n ++ k ∷ []) here)
+      ap (rows_of_splits size rows) (range_push 0 n ∙ ap (λ k. range_with_len 0 n ++ k ∷ []) here)
       ∙ flat_map-append (split_of size rows) (range_with_len 0 n) (n ∷ [])
       ∙ ap (λ ys. ys ++ (split_of size rows n ++ [])) (first_splits size rows n)
       ∙ ap (λ ys. take (n * size) rows ++ ys) (append-nil (split_of size rows n) ∙ split_is size rows n)
       ∙ sym (take_on (n * size) size rows)
       ∙ ap (λ m. take m rows) (sym next)
 
-  pub all_splits : (size : ℕ) (rows : List A) → 0 < size → rows_of size rows (range_with_len 0 (split_count (length rows) size)) ≡ rows
+  pub all_splits : (size : ℕ) (rows : List A) → 0 < size → rows_of_splits size rows (range_with_len 0 (split_count (length rows) size)) ≡ rows
   all_splits size rows some = first_splits size rows (split_count (length rows) size) ∙ take_over (split_count (length rows) size * size) rows (div_ceil_times (length rows) size some).0
 
   -- lists for the same numbers, in any order, hold the same
@@ -82,7 +82,7 @@ module _ {A : Type 0} where
       subst (IsPermutation (f x ++ flat_map f xs)) whole
       (IsPermutation-trans (f x ++ flat_map f xs) (f x ++ (front ++ back)) ((front ++ f x) ++ back) with (subst (λ zs. IsPermutation zs ((front ++ f x) ++ back)) (append_assoc (f x) front back) turned))
 
-  pub all_splits_once : (size : ℕ) (rows : List A) (numbers : List ℕ) → 0 < size → IsPermutation numbers (range_with_len 0 (split_count (length rows) size)) → IsPermutation (rows_of size rows numbers) rows
+  pub all_splits_once : (size : ℕ) (rows : List A) (numbers : List ℕ) → 0 < size → IsPermutation numbers (range_with_len 0 (split_count (length rows) size)) → IsPermutation (rows_of_splits size rows numbers) rows
   all_splits_once size rows numbers some same =
       let all : List ℕ = range_with_len 0 (split_count (length rows) size) in
-      subst (IsPermutation (rows_of size rows numbers)) (all_splits size rows some) (weighed_rows (split_of size rows) numbers all (λ h. sym (sum_by-IsPermutation h numbers all same)))
+      subst (IsPermutation (rows_of_splits size rows numbers)) (all_splits size rows some) (weighed_rows (split_of size rows) numbers all (λ h. sym (sum_by-IsPermutation h numbers all same)))

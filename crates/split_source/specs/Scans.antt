@@ -8,7 +8,7 @@ use Rattle.sql_values.specs.declared.types.Column.{Column}
 use Rattle.sql_values.specs.declared.value.Value.{Value}
 use Rattle.sql_values.specs.Cells.{cut}
 use Rattle.split_source.specs.Seats.{SeatState}
-use Rattle.split_source.specs.Splits.{rows_of}
+use Rattle.split_source.specs.Splits.{rows_of_splits}
 
 -- the types of some columns of a table
 abbrev pub types_at : List Column → List ℕ → List SqlType
@@ -27,7 +27,7 @@ pub record ScanState : Type 0 where
 
 -- the rows of the splits that the seat drew, in the order in which it drew them, cut to the columns
 abbrev pub claimed : ScanState → List (List Value)
-claimed s = map (cut s.columns) (rows_of s.size s.rows s.seat.numbers)
+claimed s = map (cut s.columns) (rows_of_splits s.size s.rows s.seat.numbers)
 
 -- those of them that were given
 abbrev pub given : ScanState → List (List Value)
@@ -42,5 +42,5 @@ abbrev pub GaveNext : ScanState → List (List Value) → ScanState → Type 0
 GaveNext before rows after = (given after ≡ given before ++ rows) × (0 < length rows) × (length rows ≤ before.page)
 
 -- nothing is left, and the seat met the end
-abbrev pub IsOver : ScanState → ScanState → Type 0
-IsOver before after = (after.seat.is_ended ≡ true) × (after.left ≡ 0) × (given after ≡ given before)
+abbrev pub HasGivenAll : ScanState → ScanState → Type 0
+HasGivenAll before after = (after.seat.is_ended ≡ true) × (after.left ≡ 0) × (given after ≡ given before)

@@ -28,15 +28,15 @@ abbrev pub split_of : {A : Type 0} → ℕ → List A → ℕ → List A
 split_of size rows number = between (split_low size number) (split_high (length rows) size number) rows
 
 -- the rows of the splits of these numbers, one after another
-abbrev pub rows_of : {A : Type 0} → ℕ → List A → List ℕ → List A
-rows_of size rows numbers = flat_map (split_of size rows) numbers
+abbrev pub rows_of_splits : {A : Type 0} → ℕ → List A → List ℕ → List A
+rows_of_splits size rows numbers = flat_map (split_of size rows) numbers
 
 -- The splits one after another are the rows.
 abbrev pub CutInOrder : {A : Type 0} → ℕ → List A → Type 0
-CutInOrder size rows = rows_of size rows (split_numbers (length rows) size) ≡ rows
+CutInOrder size rows = rows_of_splits size rows (split_numbers (length rows) size) ≡ rows
 
 -- In whatever order the splits are taken, they have the rows.
 abbrev pub CutInAnyOrder : {A : Type 0} → ℕ → List A → Type 0
 CutInAnyOrder size rows =
     (numbers : List ℕ) → SameBag numbers (split_numbers (length rows) size)
-    → SameBag (rows_of size rows numbers) rows
+    → SameBag (rows_of_splits size rows numbers) rows

@@ -2,7 +2,7 @@
 ghost use Rattle.std.specs.Prelude.{◌≡◌, ◌++◌, ◌^◌, ◌<◌, ◌≤◌, true, false, None, length, All};
 ghost use Rattle.std.specs.Prelude.{IfOk, IfSome, IsNone, OnErr};
 ghost use Rattle.split_source.specs.Splits.{split_count};
-ghost use Rattle.split_source.specs.Scans.{types_at, given, AreReadable, GaveNext, IsOver};
+ghost use Rattle.split_source.specs.Scans.{types_at, given, AreReadable, GaveNext, HasGivenAll};
 
 use crate::claim_seat::ClaimSeat;
 use crate::splits::split_range;
@@ -87,7 +87,7 @@ impl<'w> ScanSource<'w> {
         ensures going { IfOk result (λ o. IfSome o (λ p. (self.old.seat.is_ended ≡ false)
             × (self.new.seat.is_ended ≡ false))) }
         ensures ended { self.old.seat.is_ended ≡ true → (result ≡ Ok None) × (self.new ≡ self.old) }
-        ensures none { IfOk result (λ o. IsNone o → IsOver self.old self.new) }
+        ensures none { IfOk result (λ o. IsNone o → HasGivenAll self.old self.new) }
         ensures err { OnErr result (given self.new ≡ given self.old) }
     {
         if !self.advance() {

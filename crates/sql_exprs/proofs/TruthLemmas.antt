@@ -12,12 +12,12 @@ use Rattle.sql_exprs.specs.Laws.{found}
 -- the truth value so far, and then the outcomes up to the first FALSE
 abbrev pub and_from : Value → List Outcome → Outcome
 and_from so_far [] = Ok so_far
-and_from so_far (o ∷ os) = and_then o (λ v. if is_false v then Ok (Boolean false) else and_from (truth_and so_far v) os)
+and_from so_far (o ∷ os) = and_then (and_then o (λ v. Ok (truth_and so_far v))) (λ next. if is_false next then Ok next else and_from next os)
 
 -- the truth value so far, and then the outcomes up to the first TRUE
 abbrev pub or_from : Value → List Outcome → Outcome
 or_from so_far [] = Ok so_far
-or_from so_far (o ∷ os) = and_then o (λ v. if is_true v then Ok (Boolean true) else or_from (truth_or so_far v) os)
+or_from so_far (o ∷ os) = and_then (and_then o (λ v. Ok (truth_or so_far v))) (λ next. if is_true next then Ok next else or_from next os)
 
 over_with : (table : List Value → Value) (v : Value) (r : Result (List Value) Fail) → over table (with_value v r) ≡ over (λ vs. table (v ∷ vs)) r
 over_with table v (Ok vs) = refl
@@ -80,24 +80,14 @@ false_stays : (vs : List Value) → fold truth_and (Boolean false) vs ≡ Boolea
 false_stays [] = refl
 false_stays (v ∷ vs) = false_stays vs
 
-and_false : (so_far : Value) → truth_and so_far (Boolean false) ≡ Boolean false
-and_false Null = refl
-and_false (Boolean true) = refl
-and_false (Boolean false) = refl
-and_false (Bigint n) = refl
-and_false (Decimal n) = refl
-and_false (Varchar t) = refl
-and_false (Date d) = refl
+and_goes_from : (next : Value) (vs : List Value) → and_from next (found vs) ≡ Ok (fold truth_and next vs) → (if is_false next then Ok next else and_from next (found vs)) ≡ Ok (fold truth_and next vs)
+and_goes_from (Boolean false) vs h = sym (ap Ok (false_stays vs))
+and_goes_from (Boolean true) vs h = h
+and_goes_from next vs h = h
 
 and_goes_on : (so_far : Value) (vs : List Value) → and_from so_far (found vs) ≡ Ok (fold truth_and so_far vs)
 and_goes_on so_far [] = refl
-and_goes_on so_far (Null ∷ vs) = and_goes_on (truth_and so_far Null) vs
-and_goes_on so_far (Boolean true ∷ vs) = and_goes_on (truth_and so_far (Boolean true)) vs
-and_goes_on so_far (Boolean false ∷ vs) = sym (ap (λ v. Ok (fold truth_and v vs)) (and_false so_far) ∙ ap Ok (false_stays vs))
-and_goes_on so_far (Bigint n ∷ vs) = and_goes_on (truth_and so_far (Bigint n)) vs
-and_goes_on so_far (Decimal n ∷ vs) = and_goes_on (truth_and so_far (Decimal n)) vs
-and_goes_on so_far (Varchar t ∷ vs) = and_goes_on (truth_and so_far (Varchar t)) vs
-and_goes_on so_far (Date d ∷ vs) = and_goes_on (truth_and so_far (Date d)) vs
+and_goes_on so_far (v ∷ vs) = and_goes_from (truth_and so_far v) vs (and_goes_on (truth_and so_far v) vs)
 
 pub and_of_found : (vs : List Value) → and_of (found vs) ≡ Ok (fold truth_and (Boolean true) vs)
 and_of_found vs = and_of_from (found vs) ∙ and_goes_on (Boolean true) vs
@@ -106,24 +96,14 @@ true_stays : (vs : List Value) → fold truth_or (Boolean true) vs ≡ Boolean t
 true_stays [] = refl
 true_stays (v ∷ vs) = true_stays vs
 
-or_true : (so_far : Value) → truth_or so_far (Boolean true) ≡ Boolean true
-or_true Null = refl
-or_true (Boolean true) = refl
-or_true (Boolean false) = refl
-or_true (Bigint n) = refl
-or_true (Decimal n) = refl
-or_true (Varchar t) = refl
-or_true (Date d) = refl
+or_goes_from : (next : Value) (vs : List Value) → or_from next (found vs) ≡ Ok (fold truth_or next vs) → (if is_true next then Ok next else or_from next (found vs)) ≡ Ok (fold truth_or next vs)
+or_goes_from (Boolean true) vs h = sym (ap Ok (true_stays vs))
+or_goes_from (Boolean false) vs h = h
+or_goes_from next vs h = h
 
 or_goes_on : (so_far : Value) (vs : List Value) → or_from so_far (found vs) ≡ Ok (fold truth_or so_far vs)
 or_goes_on so_far [] = refl
-or_goes_on so_far (Null ∷ vs) = or_goes_on (truth_or so_far Null) vs
-or_goes_on so_far (Boolean false ∷ vs) = or_goes_on (truth_or so_far (Boolean false)) vs
-or_goes_on so_far (Boolean true ∷ vs) = sym (ap (λ v. Ok (fold truth_or v vs)) (or_true so_far) ∙ ap Ok (true_stays vs))
-or_goes_on so_far (Bigint n ∷ vs) = or_goes_on (truth_or so_far (Bigint n)) vs
-or_goes_on so_far (Decimal n ∷ vs) = or_goes_on (truth_or so_far (Decimal n)) vs
-or_goes_on so_far (Varchar t ∷ vs) = or_goes_on (truth_or so_far (Varchar t)) vs
-or_goes_on so_far (Date d ∷ vs) = or_goes_on (truth_or so_far (Date d)) vs
+or_goes_on so_far (v ∷ vs) = or_goes_from (truth_or so_far v) vs (or_goes_on (truth_or so_far v) vs)
 
 pub or_of_found : (vs : List Value) → or_of (found vs) ≡ Ok (fold truth_or (Boolean false) vs)
 or_of_found vs = or_of_from (found vs) ∙ or_goes_on (Boolean false) vs

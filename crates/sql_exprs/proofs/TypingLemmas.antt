@@ -3,10 +3,11 @@ use Rattle.std.proofs.Common.{◌≡◌, ℕ, ◌+◌, List, ◌∷◌, Bool, tr
 use Rattle.std.specs.Prelude.{Result, Ok, Err, slice_get, unwrap_or}
 use Rattle.std.specs.Option.{ok_or}
 use Rattle.std.specs.List.{list_all}
-use Rattle.plan_places.specs.declared.key.Key.TheVariants as key
+use Rattle.json_paths.specs.declared.key.Key.TheVariants as key
 use Rattle.sql_values.specs.declared.types.SqlType.{SqlType}
 use Rattle.sql_values.specs.declared.types.SqlType.TheVariants.{Boolean}
 use Rattle.sql_functions.specs.CallTypes.{can_cast, takes_types}
+use Rattle.sql_exprs.specs.declared.typing.BranchType.{BranchType}
 use Rattle.sql_exprs.specs.Forms.{Form, column, literal, null, call, cast, choice, Forms, none, more}
 use Rattle.sql_exprs.specs.Literals.{is_value_of}
 use Rattle.sql_exprs.specs.Meaning.{kind_of, kinds_of, type_of_call}
@@ -47,3 +48,9 @@ mutual
       typed_then_ok (form_type columns (entry path i) form) (λ kind. typed_then (form_types columns path (i + 1) forms) (λ rest. Ok (kind ∷ rest))) kinds _ e
       (λ kind h g. typed_then_ok (form_types columns path (i + 1) forms) (λ rest. Ok (kind ∷ rest)) kinds _ g
       (λ rest h2 g2. let a = kind_is columns (entry path i) form kind h in let b = kinds_are columns path (i + 1) forms rest h2 in cc))
+
+-- the types of a branch, and then those of the branches behind it
+pub both_then : (r s : Result SqlType Path) (rest : Result (List BranchType) Path) → typed_then r (λ t. typed_then s (λ u. typed_then rest (λ bs. Ok (record { test = t; result = u } ∷ bs)))) ≡ typed_then (typed_then r (λ t. typed_then s (λ u. Ok (record { test = t; result = u })))) (λ b. typed_then rest (λ bs. Ok (b ∷ bs)))
+both_then (Ok t) (Ok u) rest = refl
+both_then (Ok t) (Err path) rest = refl
+both_then (Err path) s rest = refl

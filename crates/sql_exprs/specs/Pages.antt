@@ -36,9 +36,9 @@ cells_at types form rows (position ∷ positions) =
     cell_before position (cell_at types form rows position) (cells_at types form rows positions)
 
 -- the fault tells the position and its failure, or memory was wanting
-abbrev pub FailsAt : Result (List Value) (ℕ × Fail) → PageFault → Type 0
-FailsAt cells (fault.At position kind) = cells ≡ Err (position, kind)
-FailsAt cells fault.Memory = Unit {0}
+abbrev pub FaultIsAt : Result (List Value) (ℕ × Fail) → PageFault → Type 0
+FaultIsAt cells (fault.At position kind) = cells ≡ Err (position, kind)
+FaultIsAt cells fault.Memory = Unit {0}
 
 -- the same of one position
 abbrev pub FailsHere : ℕ → Outcome → PageFault → Type 0

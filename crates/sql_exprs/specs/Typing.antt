@@ -5,11 +5,11 @@ use Rattle.std.specs.Prelude.{◌≡◌, ℕ, ◌+◌, List, [], ◌∷◌, ◌+
 use Rattle.std.specs.Option.{ok_or}
 use Rattle.std.specs.List.{list_all}
 use Rattle.sql_values.specs.declared.types.SqlType.{SqlType}
-use Rattle.plan_places.specs.declared.key.Key.{Key}
-use Rattle.plan_places.specs.declared.key.Key.TheVariants as key
-use Rattle.plan_places.specs.declared.step.Step.{Step}
-use Rattle.plan_places.specs.declared.step.Step.TheVariants as step
-use Rattle.plan_places.specs.Places.{pointer_text}
+use Rattle.json_paths.specs.declared.key.Key.{Key}
+use Rattle.json_paths.specs.declared.key.Key.TheVariants as key
+use Rattle.json_paths.specs.declared.step.Step.{Step}
+use Rattle.json_paths.specs.declared.step.Step.TheVariants as step
+use Rattle.json_paths.specs.Places.{pointer_text}
 use Rattle.sql_values.specs.declared.value.Value.{Value}
 use Rattle.sql_functions.specs.declared.name.CallName.{CallName}
 use Rattle.sql_functions.specs.CallTypes.{can_cast, is_boolean, same_type, takes_types}
@@ -90,6 +90,13 @@ arg_types columns path i args = form_types columns path i (forms_of (map form_vi
 abbrev pub all_branch_types : List SqlType → Path → ℕ → List Branch → Result (List BranchType) Path
 all_branch_types columns path i branches =
     branch_types columns path i (choices_of (map branch_view branches))
+
+-- of a branch that stands at a path
+abbrev pub branch_type : List SqlType → Path → Branch → Result BranchType Path
+branch_type columns path b =
+    typed_then (form_type columns (under path key.When) (form_view b.test))
+    (λ t. typed_then (form_type columns (under path key.Then) (form_view b.result))
+    (λ r. Ok (record { test = t; result = r })))
 
 -- the fault tells the path, or memory was wanting
 abbrev pub MisfitAt : {A : Type 0} → Result A Path → Misfit → Type 0

@@ -22,14 +22,21 @@ pub fn copy_expr(alloc: Global, expr: &Expr) -> Result<Expr, Memory>
             args: copy_all(alloc, args.as_slice())?,
         },
         Expr::Cast { arg, kind } => Expr::Cast {
-            arg: Box::new(alloc, copy_expr(alloc, arg)?)?,
+            arg: copy_boxed(alloc, arg)?,
             kind: *kind,
         },
         Expr::Case { branches, other } => Expr::Case {
             branches: copy_branches(alloc, branches.as_slice())?,
-            other: Box::new(alloc, copy_expr(alloc, other)?)?,
+            other: copy_boxed(alloc, other)?,
         },
     })
+}
+
+#[cycle(copying)]
+fn copy_boxed(alloc: Global, expr: &Expr) -> Result<Box<Expr>, Memory>
+    ensures { IfOk result (λ b. form_view b.value ≡ form_view expr.now) }
+{
+    Ok(Box::new(alloc, copy_expr(alloc, expr)?)?)
 }
 
 #[cycle(copying)]

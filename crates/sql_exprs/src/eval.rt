@@ -1,10 +1,13 @@
 ghost use Rattle.std.specs.Prelude.{◌≡◌, Option, option_map, map, MatchResult};
 ghost use Rattle.sql_values.specs.Cells.{lent_value};
 ghost use Rattle.sql_functions.specs.Outcomes.{FailsBy, and_then};
+ghost use Rattle.sql_functions.specs.Calls.{binary_of, unary_of};
 ghost use Rattle.sql_functions.specs.Casts.{cast_of};
+ghost use Rattle.sql_functions.specs.Truth.{is_true, truth_and, truth_or};
+ghost use Rattle.sql_values.specs.declared.value.Value.{Value};
 ghost use Rattle.sql_exprs.specs.Forms.{form_view};
 ghost use Rattle.sql_exprs.specs.Held.{held_value};
-ghost use Rattle.sql_exprs.specs.Meaning.{arg_kinds, arg_values, branch_values, value_of};
+ghost use Rattle.sql_exprs.specs.Meaning.{arg_kinds, arg_values, branch_values, kind_of, value_of};
 ghost use Rattle.sql_exprs.specs.Rows.{ChoiceFailsBy, and_of, call_of, chosen_of, coalesce_of, or_of, strict_of};
 
 use crate::cells::Cells;
@@ -49,10 +52,7 @@ pub fn eval_cells<'a, C: Cells>(
         Expr::Literal { value, .. } => Ok(Held::Lent(value.as_ref())),
         Expr::Null(_) => Ok(Held::Lent(ValueRef::Null)),
         Expr::Call { name, args } => eval_call(alloc, *name, args.as_slice(), types, row),
-        Expr::Cast { arg, kind } => {
-            let value = eval_cells(alloc, arg, types, row)?;
-            Ok(Held::Made(cast(alloc, kind_of(types, arg), *kind, value.as_ref())?))
-        }
+        Expr::Cast { arg, kind } => eval_cast(alloc, arg, *kind, types, row),
         Expr::Case { branches, other } => {
             match eval_branches(alloc, branches.as_slice(), types, row)? {
                 Some(value) => Ok(value),
@@ -60,6 +60,24 @@ pub fn eval_cells<'a, C: Cells>(
             }
         }
     }
+}
+
+#[cycle(eval)]
+fn eval_cast<'a, C: Cells>(
+    alloc: Global,
+    arg: &'a Expr,
+    kind: SqlType,
+    types: &[SqlType],
+    row: &'a C,
+) -> Result<Held<'a>, EvalFault>
+    ensures { MatchResult result
+        (λ h. and_then (value_of types.now (form_view arg.now) (C.values row.now))
+        (cast_of (kind_of types.now (form_view arg.now)) kind) ≡ Ok (held_value h))
+        (FailsBy (and_then (value_of types.now (form_view arg.now) (C.values row.now))
+        (cast_of (kind_of types.now (form_view arg.now)) kind))) }
+{
+    let value = eval_cells(alloc, arg, types, row)?;
+    Ok(Held::Made(cast(alloc, kind_of(types, arg), kind, value.as_ref())?))
 }
 
 #[cycle(eval)]
@@ -99,13 +117,31 @@ fn eval_and<'a, C: Cells>(
 {
     let mut so_far = Value::Boolean(true);
     for arg in args {
-        let value = eval_cells(alloc, arg, types, row)?;
-        if is_false(value.as_ref()) {
-            return Ok(Held::Made(Value::Boolean(false)));
+        so_far = and_next(alloc, so_far.as_ref(), arg, types, row)?;
+        if is_false(so_far.as_ref()) {
+            return Ok(Held::Made(so_far));
         }
-        so_far = truth_and(so_far.as_ref(), value.as_ref());
     }
     Ok(Held::Made(so_far))
+}
+
+/// What AND makes of a value so far and the value of an argument.
+#[cycle(eval)]
+fn and_next<C: Cells>(
+    alloc: Global,
+    so_far: ValueRef<'_>,
+    arg: &Expr,
+    types: &[SqlType],
+    row: &C,
+) -> Result<Value, EvalFault>
+    ensures { MatchResult result
+        (λ next. and_then (value_of types.now (form_view arg.now) (C.values row.now))
+        (λ v. Ok (truth_and (lent_value so_far.entry) v)) ≡ Ok next)
+        (FailsBy (and_then (value_of types.now (form_view arg.now) (C.values row.now))
+        (λ v. Ok (truth_and (lent_value so_far.entry) v)))) }
+{
+    let value = eval_cells(alloc, arg, types, row)?;
+    Ok(truth_and(so_far, value.as_ref()))
 }
 
 /// Stops at the first TRUE.
@@ -123,13 +159,31 @@ fn eval_or<'a, C: Cells>(
 {
     let mut so_far = Value::Boolean(false);
     for arg in args {
-        let value = eval_cells(alloc, arg, types, row)?;
-        if is_true(value.as_ref()) {
-            return Ok(Held::Made(Value::Boolean(true)));
+        so_far = or_next(alloc, so_far.as_ref(), arg, types, row)?;
+        if is_true(so_far.as_ref()) {
+            return Ok(Held::Made(so_far));
         }
-        so_far = truth_or(so_far.as_ref(), value.as_ref());
     }
     Ok(Held::Made(so_far))
+}
+
+/// What OR makes of a value so far and the value of an argument.
+#[cycle(eval)]
+fn or_next<C: Cells>(
+    alloc: Global,
+    so_far: ValueRef<'_>,
+    arg: &Expr,
+    types: &[SqlType],
+    row: &C,
+) -> Result<Value, EvalFault>
+    ensures { MatchResult result
+        (λ next. and_then (value_of types.now (form_view arg.now) (C.values row.now))
+        (λ v. Ok (truth_or (lent_value so_far.entry) v)) ≡ Ok next)
+        (FailsBy (and_then (value_of types.now (form_view arg.now) (C.values row.now))
+        (λ v. Ok (truth_or (lent_value so_far.entry) v)))) }
+{
+    let value = eval_cells(alloc, arg, types, row)?;
+    Ok(truth_or(so_far, value.as_ref()))
 }
 
 /// Stops at the first value that is not NULL.
@@ -170,20 +224,62 @@ fn eval_strict<'a, C: Cells>(
         (arg_values types.now args.now (C.values row.now)))) }
 {
     match args {
-        [arg] => {
-            let value = eval_cells(alloc, arg, types, row)?;
-            Ok(Held::Made(unary(name, kind_of(types, arg), value.as_ref())?))
-        }
+        [arg] => eval_unary(alloc, name, arg, types, row),
         [left, right] => {
-            let a = eval_cells(alloc, left, types, row)?;
-            let b = eval_cells(alloc, right, types, row)?;
-            let left = kind_of(types, left);
-            let right = kind_of(types, right);
-            Ok(Held::Made(binary(alloc, name, left, a.as_ref(), right, b.as_ref())?))
+            let value = eval_cells(alloc, left, types, row)?;
+            eval_second(
+                alloc,
+                name,
+                kind_of(types, left),
+                value.as_ref(),
+                right,
+                types,
+                row,
+            )
         }
         [] => Ok(Held::Lent(ValueRef::Null)),
         [_, _, _, ..] => Ok(Held::Lent(ValueRef::Null)),
     }
+}
+
+#[cycle(eval)]
+fn eval_unary<'a, C: Cells>(
+    alloc: Global,
+    name: CallName,
+    arg: &'a Expr,
+    types: &[SqlType],
+    row: &'a C,
+) -> Result<Held<'a>, EvalFault>
+    ensures { MatchResult result
+        (λ h. and_then (value_of types.now (form_view arg.now) (C.values row.now))
+        (unary_of name (kind_of types.now (form_view arg.now))) ≡ Ok (held_value h))
+        (FailsBy (and_then (value_of types.now (form_view arg.now) (C.values row.now))
+        (unary_of name (kind_of types.now (form_view arg.now))))) }
+{
+    let value = eval_cells(alloc, arg, types, row)?;
+    Ok(Held::Made(unary(name, kind_of(types, arg), value.as_ref())?))
+}
+
+/// A call whose first argument has the value.
+#[cycle(eval)]
+fn eval_second<'a, C: Cells>(
+    alloc: Global,
+    name: CallName,
+    left: SqlType,
+    a: ValueRef<'_>,
+    right: &'a Expr,
+    types: &[SqlType],
+    row: &'a C,
+) -> Result<Held<'a>, EvalFault>
+    ensures { MatchResult result
+        (λ h. and_then (value_of types.now (form_view right.now) (C.values row.now))
+        (binary_of name left (kind_of types.now (form_view right.now)) (lent_value a.entry))
+        ≡ Ok (held_value h))
+        (FailsBy (and_then (value_of types.now (form_view right.now) (C.values row.now))
+        (binary_of name left (kind_of types.now (form_view right.now)) (lent_value a.entry)))) }
+{
+    let b = eval_cells(alloc, right, types, row)?;
+    Ok(Held::Made(binary(alloc, name, left, a, kind_of(types, right), b.as_ref())?))
 }
 
 /// The result of the first branch whose test is TRUE, if there is one.
@@ -200,10 +296,26 @@ fn eval_branches<'a, C: Cells>(
         (ChoiceFailsBy (chosen_of (branch_values types.now branches.now (C.values row.now)))) }
 {
     for branch in branches {
-        let test = eval_cells(alloc, &branch.test, types, row)?;
-        if is_true(test.as_ref()) {
+        if holds(alloc, &branch.test, types, row)? {
             return Ok(Some(eval_cells(alloc, &branch.result, types, row)?));
         }
     }
     Ok(None)
+}
+
+/// Whether a test is TRUE.
+#[cycle(eval)]
+fn holds<C: Cells>(
+    alloc: Global,
+    test: &Expr,
+    types: &[SqlType],
+    row: &C,
+) -> Result<bool, EvalFault>
+    ensures { MatchResult result
+        (λ b. (v : Value) × (value_of types.now (form_view test.now) (C.values row.now) ≡ Ok v)
+        × (b ≡ is_true v))
+        (FailsBy (value_of types.now (form_view test.now) (C.values row.now))) }
+{
+    let value = eval_cells(alloc, test, types, row)?;
+    Ok(is_true(value.as_ref()))
 }

@@ -2,7 +2,7 @@ use sql_functions::CallName;
 use sql_values::{SqlType, Value};
 
 /// An expression over the columns of a row.
-#[derive(Debug, Drop)]
+#[derive(Drop)]
 #[cycle(expr)]
 pub enum Expr {
     /// The column at a place, from 0.
@@ -30,7 +30,7 @@ pub enum Expr {
 }
 
 /// A test and its result.
-#[derive(Debug, Drop)]
+#[derive(Drop)]
 #[cycle(expr)]
 pub struct Branch {
     pub test: Expr,

@@ -6,7 +6,7 @@ use sql_values::{Memory, Value, ValueRef};
 use std::alloc::Global;
 
 /// A value that a row or an expression lends, or one that was made.
-#[derive(Debug, Drop)]
+#[derive(Drop)]
 pub enum Held<'a> {
     Lent(ValueRef<'a>),
     Made(Value),

@@ -11,7 +11,7 @@ ghost use Rattle.sql_exprs.specs.Typing.{form_type};
 ghost use Rattle.sql_exprs.specs.Rows.{and_of, or_of};
 
 use crate::expr::Expr;
-use plan_places::Step;
+use json_paths::Step;
 use sql_values::{Row, SqlType, Value};
 
 /// The law that the type of an expression that is typed is its kind.

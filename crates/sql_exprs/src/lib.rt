@@ -32,6 +32,7 @@ pub use copy::copy_expr;
 pub use eval::{eval_cells, eval_row};
 pub use expr::{Branch, BranchList, Expr, ExprList};
 pub use held::Held;
+pub use json_paths::{Key, Step, pointer_of, then};
 pub use kinds::kind_of;
 pub use laws::{
     and_is_by_the_truth_table, calm_never_fails, or_is_by_the_truth_table, typed_kind,
@@ -39,6 +40,6 @@ pub use laws::{
 };
 pub use literal::is_value_of;
 pub use page::{PageFault, eval_page};
-pub use plan_places::{Key, Step, pointer_of, then};
+pub use page_row::PageRow;
 pub use sql_functions::CallName;
 pub use typing::{BranchType, Misfit, TypeFault, type_at, typed};

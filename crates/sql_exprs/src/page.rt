@@ -1,10 +1,11 @@
-ghost use Rattle.std.specs.Prelude.{◌≡◌, ◌++◌, [], ◌∷◌, IfOk, OnOk, MatchResult};
+ghost use Rattle.std.specs.Prelude.{◌≡◌, ◌++◌, [], ◌∷◌, Ok, IfOk, IfSome, IsTrue, OnOk, MatchResult};
+ghost use Rattle.std.specs.List.{range_with_len};
 ghost use Rattle.sql_values.specs.declared.value.Value.{Value};
 ghost use Rattle.sql_values.specs.Blocks.{with_cells};
 ghost use Rattle.sql_values.specs.Cells.{lent_value};
-ghost use Rattle.sql_exprs.specs.Forms.{form_view};
+ghost use Rattle.sql_exprs.specs.Forms.{column, form_view};
 ghost use Rattle.sql_exprs.specs.Meaning.{kind_of};
-ghost use Rattle.sql_exprs.specs.Pages.{FailsAt, FailsHere, cell_at, cells_at, in_block};
+ghost use Rattle.sql_exprs.specs.Pages.{FaultIsAt, FailsHere, cell_at, cells_at, in_block};
 
 use crate::eval::eval_cells;
 use crate::expr::Expr;
@@ -16,7 +17,7 @@ use std::alloc::Global;
 use thiserror::Error;
 
 /// Why an expression gives no block of values.
-#[derive(Clone, Copy, Debug, PartialEq, Eq, Error)]
+#[derive(Clone, Copy, Debug, Error)]
 pub enum PageFault {
     /// The first of the positions at which the expression fails, and how.
     #[error("an expression fails at a position")]
@@ -46,7 +47,71 @@ pub fn eval_page(
     ensures kind { IfOk result (λ b. b.kind ≡ kind_of page.now.types (form_view expr.now)) }
     ensures cells { MatchResult result
         (λ b. cells_at page.now.types (form_view expr.now) page.now.rows positions.now ≡ Ok b.cells)
-        (FailsAt (cells_at page.now.types (form_view expr.now) page.now.rows positions.now)) }
+        (FaultIsAt (cells_at page.now.types (form_view expr.now) page.now.rows positions.now)) }
+{
+    match whole_column(alloc, expr, page, positions)? {
+        Some(block) => Ok(block),
+        None => eval_each(alloc, expr, page, positions),
+    }
+}
+
+/// A copy of a column, where the expression is one and the positions are those of all rows.
+fn whole_column(
+    alloc: Global,
+    expr: &Expr,
+    page: &Page,
+    positions: &[u32],
+) -> Result<Option<Block>, Memory>
+    ensures kind { IfOk result
+        (λ o. IfSome o (λ b. b.kind ≡ kind_of page.now.types (form_view expr.now))) }
+    ensures cells { IfOk result (λ o. IfSome o (λ b.
+        cells_at page.now.types (form_view expr.now) page.now.rows positions.now ≡ Ok b.cells)) }
+{
+    let Some(column) = column_of(expr) else {
+        return Ok(None);
+    };
+    if !are_all(positions, page.len()) {
+        return Ok(None);
+    }
+    page.rows_fit();
+    page.column(alloc, kind_of(page.types(), expr), column)
+}
+
+/// The column that an expression names, if it is nothing else.
+fn column_of(expr: &Expr) -> Option<u32>
+    ensures { IfSome result (λ n. form_view expr.now ≡ column n) }
+{
+    match expr {
+        Expr::Column(column) => Some(*column),
+        Expr::Literal { .. }
+        | Expr::Null(_)
+        | Expr::Call { .. }
+        | Expr::Cast { .. }
+        | Expr::Case { .. } => None,
+    }
+}
+
+/// Whether the positions are those of so many rows, in their order.
+fn are_all(positions: &[u32], count: u32) -> bool
+    ensures { IsTrue result → positions.now ≡ range_with_len 0 count }
+{
+    if positions.len() != count as usize {
+        return false;
+    }
+    for place in 0..count {
+        if positions[place as usize] != place {
+            return false;
+        }
+    }
+    true
+}
+
+/// The values, one position after the other.
+fn eval_each(alloc: Global, expr: &Expr, page: &Page, positions: &[u32]) -> Result<Block, PageFault>
+    ensures kind { IfOk result (λ b. b.kind ≡ kind_of page.now.types (form_view expr.now)) }
+    ensures cells { MatchResult result
+        (λ b. cells_at page.now.types (form_view expr.now) page.now.rows positions.now ≡ Ok b.cells)
+        (FaultIsAt (cells_at page.now.types (form_view expr.now) page.now.rows positions.now)) }
 {
     let types = page.types();
     let mut block = Block::new(alloc, kind_of(types, expr));

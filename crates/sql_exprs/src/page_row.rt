@@ -3,7 +3,7 @@ use col_pages::Page;
 use sql_values::ValueRef;
 
 /// The row at a position of a page; past the last one it has no cells.
-#[derive(Clone, Copy, Debug)]
+#[derive(Clone, Copy)]
 pub struct PageRow<'a> {
     pub page: &'a Page,
     pub position: u32,

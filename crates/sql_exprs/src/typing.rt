@@ -1,13 +1,13 @@
-ghost use Rattle.std.specs.Prelude.{◌≡◌, [], slice_get, MatchResult};
+ghost use Rattle.std.specs.Prelude.{◌≡◌, [], ◌∷◌, ◌++◌, slice_get, MatchResult};
 ghost use Rattle.std.specs.Option.{ok_or};
 ghost use Rattle.std.specs.List.{list_all};
 ghost use Rattle.sql_functions.specs.CallTypes.{type_at};
 ghost use Rattle.sql_exprs.specs.Forms.{form_view};
-ghost use Rattle.sql_exprs.specs.Typing.{MisfitAt, RefusedFor, StandsAt, all_branch_types, arg_types, call_row, case_row, cast_row, fits_branch, form_type, literal_row};
+ghost use Rattle.sql_exprs.specs.Typing.{MisfitAt, RefusedFor, StandsAt, all_branch_types, arg_types, branch_type, call_row, case_row, cast_row, entry, fits_branch, form_type, literal_row, typed_then, under};
 
 use crate::expr::{Branch, Expr};
 use crate::literal::is_value_of;
-use plan_places::{Key, Step, pointer_of, then};
+use json_paths::{Key, Step, pointer_of, then};
 use sql_functions::{CallName, call_type, can_cast, same_type, takes_types};
 use sql_values::{Memory, SqlType, Text, Value};
 use std::alloc::{AllocError, AllocFailed, Global};
@@ -36,7 +36,7 @@ impl From<Memory> for TypeFault {
 }
 
 /// The first subexpression that does not fit, by its path.
-#[derive(Debug, Drop)]
+#[derive(Drop)]
 pub enum Misfit {
     At(Vec<Step>),
     Memory,
@@ -76,7 +76,7 @@ impl<T: Drop> From<AllocFailed<T>> for Misfit {
 }
 
 /// The types of a branch.
-#[derive(Clone, Copy, Debug, PartialEq, Eq)]
+#[derive(Clone, Copy)]
 pub struct BranchType {
     pub test: SqlType,
     pub result: SqlType,
@@ -111,24 +111,64 @@ pub fn type_at(
         Expr::Column(column) => column_type(alloc, columns, path, *column as usize),
         Expr::Literal { kind, value } => literal_row(alloc, path, *kind, value),
         Expr::Null(kind) => Ok(*kind),
-        Expr::Call { name, args } => {
-            let inner = then(alloc, path, Step::Key(Key::Args))?;
-            let kinds = arg_types(alloc, columns, inner.as_slice(), args.as_slice())?;
-            call_row(alloc, path, *name, kinds.as_slice())
-        }
-        Expr::Cast { arg, kind } => {
-            let inner = then(alloc, path, Step::Key(Key::Cast))?;
-            let from = type_at(alloc, columns, inner.as_slice(), arg)?;
-            cast_row(alloc, path, from, *kind)
-        }
+        Expr::Call { name, args } => type_call(alloc, columns, path, *name, args.as_slice()),
+        Expr::Cast { arg, kind } => type_cast(alloc, columns, path, arg, *kind),
         Expr::Case { branches, other } => {
-            let inner = then(alloc, path, Step::Key(Key::Case))?;
-            let types = branch_types(alloc, columns, inner.as_slice(), branches.as_slice())?;
-            let inner = then(alloc, path, Step::Key(Key::Else))?;
-            let other = type_at(alloc, columns, inner.as_slice(), other)?;
+            let types = case_types(alloc, columns, path, branches.as_slice())?;
+            let other = type_inside(alloc, columns, path, Step::Key(Key::Else), other)?;
             case_row(alloc, path, types.as_slice(), other)
         }
     }
+}
+
+/// The type of an expression that stands one step further.
+#[cycle(typing)]
+fn type_inside(
+    alloc: Global,
+    columns: &[SqlType],
+    path: &[Step],
+    step: Step,
+    expr: &Expr,
+) -> Result<SqlType, Misfit>
+    ensures { MatchResult result
+        (λ t. form_type columns.now (path.now ++ step ∷ []) (form_view expr.now) ≡ Ok t)
+        (MisfitAt (form_type columns.now (path.now ++ step ∷ []) (form_view expr.now))) }
+{
+    let inner = then(alloc, path, step)?;
+    type_at(alloc, columns, inner.as_slice(), expr)
+}
+
+#[cycle(typing)]
+fn type_call(
+    alloc: Global,
+    columns: &[SqlType],
+    path: &[Step],
+    name: CallName,
+    args: &[Expr],
+) -> Result<SqlType, Misfit>
+    ensures { MatchResult result
+        (λ t. typed_then (arg_types columns.now (under path.now Key.Args) 0 args.now)
+        (call_row path.now name) ≡ Ok t)
+        (MisfitAt (typed_then (arg_types columns.now (under path.now Key.Args) 0 args.now)
+        (call_row path.now name))) }
+{
+    let kinds = call_types(alloc, columns, path, args)?;
+    call_row(alloc, path, name, kinds.as_slice())
+}
+
+#[cycle(typing)]
+fn call_types(
+    alloc: Global,
+    columns: &[SqlType],
+    path: &[Step],
+    args: &[Expr],
+) -> Result<Vec<SqlType>, Misfit>
+    ensures { MatchResult result
+        (λ ts. arg_types columns.now (under path.now Key.Args) 0 args.now ≡ Ok ts.items)
+        (MisfitAt (arg_types columns.now (under path.now Key.Args) 0 args.now)) }
+{
+    let inner = then(alloc, path, Step::Key(Key::Args))?;
+    arg_types(alloc, columns, inner.as_slice(), args)
 }
 
 #[cycle(typing)]
@@ -144,12 +184,46 @@ fn arg_types(
 {
     let mut kinds = Vec::with_capacity(alloc, args.len())?;
     for (at, arg) in args.iter().enumerate() {
-        let inner = then(alloc, path, Step::Index(at))?;
-        kinds.push(type_at(alloc, columns, inner.as_slice(), arg)?)?;
+        kinds.push(type_inside(alloc, columns, path, Step::Index(at), arg)?)?;
     }
     Ok(kinds)
 }
 
+#[cycle(typing)]
+fn type_cast(
+    alloc: Global,
+    columns: &[SqlType],
+    path: &[Step],
+    arg: &Expr,
+    kind: SqlType,
+) -> Result<SqlType, Misfit>
+    ensures { MatchResult result
+        (λ t. typed_then (form_type columns.now (under path.now Key.Cast) (form_view arg.now))
+        (λ from. cast_row path.now from kind) ≡ Ok t)
+        (MisfitAt (typed_then (form_type columns.now (under path.now Key.Cast) (form_view arg.now))
+        (λ from. cast_row path.now from kind))) }
+{
+    let from = type_inside(alloc, columns, path, Step::Key(Key::Cast), arg)?;
+    cast_row(alloc, path, from, kind)
+}
+
+#[cycle(typing)]
+fn case_types(
+    alloc: Global,
+    columns: &[SqlType],
+    path: &[Step],
+    branches: &[Branch],
+) -> Result<Vec<BranchType>, Misfit>
+    ensures { MatchResult result
+        (λ ts. all_branch_types columns.now (under path.now Key.Case) 0 branches.now
+        ≡ Ok ts.items)
+        (MisfitAt (all_branch_types columns.now (under path.now Key.Case) 0 branches.now)) }
+{
+    let inner = then(alloc, path, Step::Key(Key::Case))?;
+    branch_types(alloc, columns, inner.as_slice(), branches)
+}
+
+#[tactic(auto, using(crate::proofs::TypingLemmas::both_then))]
 #[cycle(typing)]
 fn branch_types(
     alloc: Global,
@@ -163,14 +237,42 @@ fn branch_types(
 {
     let mut types = Vec::with_capacity(alloc, branches.len())?;
     for (at, branch) in branches.iter().enumerate() {
-        let inner = then(alloc, path, Step::Index(at))?;
-        let when = then(alloc, inner.as_slice(), Step::Key(Key::When))?;
-        let test = type_at(alloc, columns, when.as_slice(), &branch.test)?;
-        let chosen = then(alloc, inner.as_slice(), Step::Key(Key::Then))?;
-        let result = type_at(alloc, columns, chosen.as_slice(), &branch.result)?;
-        types.push(BranchType { test, result })?;
+        types.push(branch_inside(alloc, columns, path, at, branch)?)?;
     }
     Ok(types)
+}
+
+/// The types of the branch that stands at an index.
+#[cycle(typing)]
+fn branch_inside(
+    alloc: Global,
+    columns: &[SqlType],
+    path: &[Step],
+    at: usize,
+    branch: &Branch,
+) -> Result<BranchType, Misfit>
+    ensures { MatchResult result
+        (λ t. branch_type columns.now (entry path.now at) branch.now ≡ Ok t)
+        (MisfitAt (branch_type columns.now (entry path.now at) branch.now)) }
+{
+    let inner = then(alloc, path, Step::Index(at))?;
+    branch_type(alloc, columns, inner.as_slice(), branch)
+}
+
+#[cycle(typing)]
+fn branch_type(
+    alloc: Global,
+    columns: &[SqlType],
+    path: &[Step],
+    branch: &Branch,
+) -> Result<BranchType, Misfit>
+    ensures { MatchResult result
+        (λ t. branch_type columns.now path.now branch.now ≡ Ok t)
+        (MisfitAt (branch_type columns.now path.now branch.now)) }
+{
+    let test = type_inside(alloc, columns, path, Step::Key(Key::When), &branch.test)?;
+    let result = type_inside(alloc, columns, path, Step::Key(Key::Then), &branch.result)?;
+    Ok(BranchType { test, result })
 }
 
 /// The fault at a path.

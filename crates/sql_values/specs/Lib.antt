@@ -9,3 +9,4 @@ pub mod Order
 pub mod Buckets
 pub mod ColumnRows
 pub mod RowLists
+pub mod Columns

@@ -8,19 +8,17 @@ use Rattle.sql_values.specs.declared.fail.Fail.{Fail}
 use Rattle.sql_values.specs.declared.relational.Call.{Call}
 use Rattle.sql_functions.specs.CallTypes.{type_at}
 use Rattle.col_pages.specs.Pages.{TypedPage}
-use Rattle.relations.specs.Groups.{groups_of}
-use Rattle.relations.specs.Verdicts.{Verdict, drops, failures, fails, keeps, kept}
-use Rattle.page_judges.specs.Typed.{AllFit}
+use Rattle.relation_laws.specs.Groups.{groups_of}
+use Rattle.relation_laws.specs.Verdicts.{Verdict, drops, failures, fails, keeps, kept}
+use Rattle.col_pages.specs.Fits.{AllFit, IsOfTypes}
 use Rattle.operator_core.specs.declared.operator.Operator.{Ghosts}
 use Rattle.operator_core.specs.Rows.{Row}
-use Rattle.row_ops.specs.RowJudges.{IsOf}
 use Rattle.plan_trees.specs.Allowed.{Mode, Taken, skipping, strict}
 use Rattle.plan_trees.specs.TreeTypes.{call_kind}
-use Rattle.plan_runs.specs.Faults.{FailsOnGroupOf}
-use Rattle.plan_runs.specs.Nets.{Makes, Stage, final, grouping, partial}
-use Rattle.plan_runs.proofs.GoOnLemmas.{goes_on-one}
+use Rattle.plan_run_laws.specs.Faults.{FailsOnGroupOf}
+use Rattle.plan_run_laws.specs.Nets.{Makes, Stage, final, grouping, partial}
+use Rattle.plan_run_laws.proofs.GoOnLemmas.{goes_on-one}
 use Rattle.accumulators.specs.Limits.{are_allowed}
-use Rattle.aggregation.specs.Giving.{FitsTypes}
 use Rattle.plan_trees.specs.Layouts.{layout_types}
 use Rattle.aggregation.proofs.FitLemmas.{groups-fit}
 use Rattle.aggregation.proofs.PartFitLemmas.{finals-fit, partials-fit}
@@ -116,9 +114,3 @@ if_both (Err e) so p q = tt
 pub if_all : {A E : Type 0} {P Q R T : A → Type 0} (r : Result A E) → ((a : A) → P a → Q a → R a → T a) → IfOk r P → IfOk r Q → IfOk r R → IfOk r T
 if_all (Ok a) so p q s = so a p q s
 if_all (Err e) so p q s = tt
-
-pub of_types : (types : List SqlType) (page : TypedPage) (Takes : Type 0) → Takes ↔ FitsTypes types page → Takes ↔ IsOf types page
-of_types types page Takes takes = (
-  (λ t. let fits = takes.0 t in record { of_types = fits.0; fit = fits.1 }),
-  (λ is. takes.1 (is.of_types, is.fit)),
-)

@@ -3,17 +3,17 @@ use Rattle.std.proofs.Common.{◌≡◌, ◌⊎◌, inl, inr, ℕ, zero, suc, �
 use Rattle.std.proofs.lemmas.List.{map-append}
 use Rattle.sql_values.specs.declared.types.SqlType.{SqlType}
 use Rattle.sql_values.specs.declared.fail.Fail.{Fail}
-use Rattle.page_judges.specs.Typed.{AllFit}
+use Rattle.col_pages.specs.Fits.{AllFit}
 use Rattle.operator_core.specs.declared.operator.Operator.{Ghosts}
 use Rattle.operator_core.specs.Rows.{Row, Coming}
 use Rattle.operator_core.specs.Calls.{IsLawful}
 use Rattle.operator_core.specs.Stages.{AreMadeOf, Chain, FailsAfter, Linked, MadeOf, NothingFails, Steps, ToldInTurn, last_finished}
 use Rattle.operator_core.proofs.StageLemmas.{Coming-weaker, Steps-finished, Steps-goes_on, finished-told}
 use Rattle.plan_trees.specs.Allowed.{Mode, strict}
-use Rattle.plan_runs.specs.Nets.{Stage, Makes}
-use Rattle.plan_runs.specs.Nets as net
-use Rattle.plan_runs.specs.Stops.{CanGoOn, MayCome}
-use Rattle.plan_runs.proofs.GoOnLemmas.{goes_on-append, goes_on-nil}
+use Rattle.plan_run_laws.specs.Nets.{Stage, Makes}
+use Rattle.plan_run_laws.specs.Nets as net
+use Rattle.plan_run_laws.specs.Stops.{StagesCanGoOn, MayCome}
+use Rattle.plan_run_laws.proofs.GoOnLemmas.{goes_on-append, goes_on-nil}
 use Rattle.stage_meanings.specs.Pipelines.{FailsIn, NodeStage, at_node, stages_of}
 use Rattle.stage_meanings.specs.Meanings.{AllMean, CanGive, Means}
 
@@ -27,9 +27,9 @@ front-fits types (row ∷ rows) more all = front_step types row rows more all (f
     front_step types row rows more all rest (suc k) d lt = rest k d (omega (arith, lt))
 
 -- stages one behind the other
-pub made-append : (mode : Mode) (first second : List Stage) (took between gave : List Row) → net.Chain mode first took between → net.Chain mode second between gave
-    → net.Chain mode (first ++ second) took gave
-made-append mode [] second took between gave is chain = subst (λ rows. net.Chain mode second rows gave) (sym is) chain
+pub made-append : (mode : Mode) (first second : List Stage) (took between gave : List Row) → net.StagesMake mode first took between → net.StagesMake mode second between gave
+    → net.StagesMake mode (first ++ second) took gave
+made-append mode [] second took between gave is chain = subst (λ rows. net.StagesMake mode second rows gave) (sym is) chain
 made-append mode (stage ∷ first) second took between gave (next, makes, rest) chain = (next, makes, made-append mode first second next between gave rest chain)
 
 pub stages-append : (first second : List NodeStage) → stages_of (first ++ second) ≡ stages_of first ++ stages_of second
@@ -46,12 +46,12 @@ may_come false rows coming = λ e. cc
 module _ {S : Type 0} (g : Ghosts S) where
   -- where nothing failed
   pub all_make : (ms : List S) (taken given : List SqlType) (pipeline : List NodeStage) → AllMean g ms taken pipeline given
-      → (X Y : List Row) → AllFit taken X → Chain g true ms X Y → net.Chain strict (stages_of pipeline) X Y × AllFit given Y
+      → (X Y : List Row) → AllFit taken X → Chain g true ms X Y → net.StagesMake strict (stages_of pipeline) X Y × AllFit given Y
   all_make [] taken given pipeline (none, same) X Y fit chain =
-      (subst (λ (p : List NodeStage). net.Chain strict (stages_of p) X Y) (sym none) chain, subst (λ ts. AllFit ts Y) same (subst (AllFit taken) chain fit))
+      (subst (λ (p : List NodeStage). net.StagesMake strict (stages_of p) X Y) (sym none) chain, subst (λ ts. AllFit ts Y) same (subst (AllFit taken) chain fit))
   all_make (m ∷ ms) taken given pipeline (first, rest, between, same, means, others) X Y fit (M, gives, calm, chain) =
       let later = all_make ms between given rest others M Y (means.fits X M fit gives) chain in (
-        subst (λ (p : List Stage). net.Chain strict p X Y) (sym (ap stages_of same ∙ stages-append first rest))
+        subst (λ (p : List Stage). net.StagesMake strict p X Y) (sym (ap stages_of same ∙ stages-append first rest))
             (made-append strict (stages_of first) (stages_of rest) X M Y (means.makes X M fit gives (calm refl)) later.0),
         later.1,
       )
@@ -77,9 +77,9 @@ module _ {S : Type 0} (g : Ghosts S) where
 
   pub all_go_on : IsLawful g → (ss ms : List S) (taken given : List SqlType) (pipeline : List NodeStage) → AllMean g ms taken pipeline given → AreMadeOf g ss ms
       → (ended : Bool) (X Y : List Row) → ToldInTurn g ended ss → Linked g ss X Y → AllFit taken X
-      → CanGoOn (stages_of pipeline) X Y ended (last_finished g ended ss) × AllFit given Y
+      → StagesCanGoOn (stages_of pipeline) X Y ended (last_finished g ended ss) × AllFit given Y
   all_go_on laws [] [] taken given pipeline (none, same) are ended X Y turns linked fit = (
-    subst (λ (p : List NodeStage). CanGoOn (stages_of p) X Y ended ended) (sym none) (subst (λ (rows : List Row). CanGoOn [] X rows ended ended) linked (goes_on-nil X ended ended (λ e. e))),
+    subst (λ (p : List NodeStage). StagesCanGoOn (stages_of p) X Y ended ended) (sym none) (subst (λ (rows : List Row). StagesCanGoOn [] X rows ended ended) linked (goes_on-nil X ended ended (λ e. e))),
     subst (λ ts. AllFit ts Y) same (subst (AllFit taken) linked fit),
   )
   all_go_on laws [] (m ∷ ms) taken given pipeline mean are ended X Y turns linked fit = absurd are
@@ -87,7 +87,7 @@ module _ {S : Type 0} (g : Ghosts S) where
   all_go_on laws (s ∷ ss) (m ∷ ms) taken given pipeline (first, rest, between, same, means, others) are ended X Y turns (M, steps, linked) fit =
       let can = can_give laws s m X M ended turns.0 steps are.0 in
       let later = all_go_on laws ss ms between given rest others are.1 (g.is_finished s) M Y turns.1 linked (given_fits m X M ended (g.is_finished s) taken between first means fit can) in (
-        subst (λ (p : List Stage). CanGoOn p X Y ended (last_finished g (g.is_finished s) ss)) (sym (ap stages_of same ∙ stages-append first rest))
+        subst (λ (p : List Stage). StagesCanGoOn p X Y ended (last_finished g (g.is_finished s) ss)) (sym (ap stages_of same ∙ stages-append first rest))
             (goes_on-append (stages_of first) (stages_of rest) X M Y ended (g.is_finished s) (last_finished g (g.is_finished s) ss)
             (means.goes_on X M ended (g.is_finished s) fit can) later.0),
         later.1,
@@ -108,7 +108,7 @@ module _ {S : Type 0} (g : Ghosts S) where
   }
 
   pub fails-behind : (first rest pipeline : List NodeStage) → pipeline ≡ first ++ rest → (X M : List Row) (ended told : Bool) (node : ℕ) (kind : Fail)
-      → CanGoOn (stages_of first) X M ended told → FailsIn rest M told node kind → FailsIn pipeline X ended node kind
+      → StagesCanGoOn (stages_of first) X M ended told → FailsIn rest M told node kind → FailsIn pipeline X ended node kind
   fails-behind first rest pipeline same X M ended told node kind goes f = record {
     before = first ++ f.before;
     stage = f.stage;
@@ -116,7 +116,7 @@ module _ {S : Type 0} (g : Ghosts S) where
     at = same ∙ ap (λ (p : List NodeStage). first ++ p) f.at ∙ sym (append_assoc first f.before (at_node node f.stage ∷ f.after));
     came = f.came;
     told = f.told;
-    goes_on = subst (λ (p : List Stage). CanGoOn p X f.came ended f.told) (sym (stages-append first f.before))
+    goes_on = subst (λ (p : List Stage). StagesCanGoOn p X f.came ended f.told) (sym (stages-append first f.before))
         (goes_on-append (stages_of first) (stages_of f.before) X M f.came ended told f.told goes f.goes_on);
     fails = f.fails;
   }

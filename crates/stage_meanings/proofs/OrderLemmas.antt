@@ -6,12 +6,12 @@ use Rattle.std.proofs.lemmas.List.Sorted.{All-permutation}
 use Rattle.sql_values.specs.ColumnRows.{fits_row}
 use Rattle.sql_values.specs.declared.order.KeySpec.{KeySpec}
 use Rattle.sql_values.specs.declared.types.SqlType.{SqlType}
-use Rattle.page_judges.specs.Typed.{AllFit}
+use Rattle.col_pages.specs.Fits.{AllFit}
 use Rattle.operator_core.specs.declared.operator.Operator.{Ghosts}
 use Rattle.operator_core.specs.Rows.{Row}
 use Rattle.plan_trees.specs.Allowed.{skipping, strict}
-use Rattle.plan_runs.specs.Nets.{Makes, Stage, limit, sort, topn}
-use Rattle.plan_runs.proofs.GoOnLemmas.{goes_on-one}
+use Rattle.plan_run_laws.specs.Nets.{Makes, Stage, limit, sort, topn}
+use Rattle.plan_run_laws.proofs.GoOnLemmas.{goes_on-one}
 use Rattle.stage_meanings.specs.Pipelines.{at_node}
 use Rattle.stage_meanings.specs.Meanings.{Means}
 use Rattle.stage_meanings.specs.RowMeanings.{MakesRows}

@@ -10,25 +10,26 @@ use Rattle.sql_values.specs.declared.types.SqlType.{SqlType}
 use Rattle.sql_values.specs.declared.fail.Fail.{Fail}
 use Rattle.sql_exprs.specs.Forms.{Form, column}
 use Rattle.sql_exprs.specs.Meaning.{kind_of}
-use Rattle.relations.specs.Sorts.{IsBeginning}
-use Rattle.relations.specs.Verdicts.{Verdict, kept_rows}
+use Rattle.relation_laws.specs.Sorts.{IsBeginning}
+use Rattle.relation_laws.specs.Verdicts.{Verdict, kept_rows}
 use Rattle.plan_trees.specs.Allowed.{Judged, strict}
 use Rattle.plan_trees.specs.Judges.{filter_judge, project_judge}
-use Rattle.page_judges.specs.Judged.{first_failure, rows_before}
-use Rattle.page_judges.specs.Typed.{AllFit, AllTyped, IsTyped}
-use Rattle.page_judges.proofs.FilterLemmas.{Agree, same_failure, same_rows}
-use Rattle.page_judges.proofs.FitLemmas.{filter_fits, project_fits}
-use Rattle.page_judges.proofs.JudgedLemmas.{is_judged}
+use Rattle.page_processor.specs.Judged.{first_failure, rows_before}
+use Rattle.col_pages.specs.Fits.{AllFit}
+use Rattle.page_processor.specs.Typed.{AllTyped, IsTyped}
+use Rattle.page_processor.proofs.FilterLemmas.{Agree, same_failure, same_rows}
+use Rattle.page_processor.proofs.FitLemmas.{filter_fits, project_fits}
+use Rattle.page_processor.proofs.JudgedLemmas.{is_judged}
 use Rattle.tree_evaluator.proofs.JudgeLemmas.{all_judged, failing_row}
 use Rattle.row_ops.specs.RowJudges.{AreTyped, columns_in, row_judge}
 use Rattle.row_ops.proofs.OwnLemmas.{filters-agree}
 use Rattle.operator_core.specs.declared.operator.Operator.{Ghosts}
 use Rattle.operator_core.specs.Rows.{Row}
 use Rattle.operator_core.specs.Stages.{NothingFails}
-use Rattle.plan_runs.specs.Faults.{FailsOnOneOf}
-use Rattle.plan_runs.specs.Nets.{Stage, filter, project}
-use Rattle.plan_runs.specs.Stops.{MayCome}
-use Rattle.plan_runs.proofs.GoOnLemmas.{BeginsWith, begins_before, goes_on-filter, goes_on-project}
+use Rattle.plan_run_laws.specs.Faults.{FailsOnOneOf}
+use Rattle.plan_run_laws.specs.Nets.{Stage, filter, project}
+use Rattle.plan_run_laws.specs.Stops.{MayCome}
+use Rattle.plan_run_laws.proofs.GoOnLemmas.{BeginsWith, begins_before, goes_on-filter, goes_on-project}
 use Rattle.stage_meanings.specs.Pipelines.{FailsIn, FailsOn, at_node}
 use Rattle.stage_meanings.specs.Meanings.{CanGive, Means}
 use Rattle.stage_meanings.specs.RowMeanings.{JudgesRows}

@@ -2,10 +2,10 @@
 use Rattle.std.specs.Prelude.{◌≡◌, ◌↔◌, ℕ, List, flat_map}
 use Rattle.sql_values.specs.declared.fail.Fail.{Fail}
 use Rattle.sql_values.specs.Bags.{SameBag}
-use Rattle.relations.specs.Verdicts.{Verdict, kept}
+use Rattle.relation_laws.specs.Verdicts.{Verdict, kept}
 use Rattle.operator_core.specs.declared.operator.Operator.{Ghosts}
 use Rattle.operator_core.specs.Rows.{Row}
-use Rattle.plan_runs.specs.Faults.{FailsOnGroupOf}
+use Rattle.plan_run_laws.specs.Faults.{FailsOnGroupOf}
 
 -- the operator gives the rows of the groups, in any order and those that fail left out, and fails as one of
 -- them does, for the node. It has no note

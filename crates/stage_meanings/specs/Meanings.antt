@@ -3,13 +3,13 @@
 use Rattle.std.specs.Prelude.{◌≡◌, ◌⊎◌, ℕ, List, [], ◌∷◌, ◌++◌, Bool, true}
 use Rattle.sql_values.specs.declared.types.SqlType.{SqlType}
 use Rattle.sql_values.specs.declared.fail.Fail.{Fail}
-use Rattle.page_judges.specs.Typed.{AllFit}
+use Rattle.col_pages.specs.Fits.{AllFit}
 use Rattle.operator_core.specs.declared.operator.Operator.{Ghosts}
 use Rattle.operator_core.specs.Rows.{Row}
 use Rattle.operator_core.specs.Stages.{NothingFails}
 use Rattle.plan_trees.specs.Allowed.{strict}
-use Rattle.plan_runs.specs.Nets.{Chain}
-use Rattle.plan_runs.specs.Stops.{CanGoOn, MayCome}
+use Rattle.plan_run_laws.specs.Nets.{StagesMake}
+use Rattle.plan_run_laws.specs.Stops.{StagesCanGoOn, MayCome}
 use Rattle.stage_meanings.specs.Pipelines.{FailsIn, NodeStage, stages_of}
 
 -- the operator took X and gave Y, and can go on, whatever comes; where it is done it gives no more, its
@@ -23,8 +23,8 @@ pub record CanGive {S : Type 0} (g : Ghosts S) (m : S) (X Y : List Row) (ended d
 -- `given`
 pub record Means {S : Type 0} (g : Ghosts S) (m : S) (taken : List SqlType) (pipeline : List NodeStage) (given : List SqlType) : Type 0 where
   pub fits : (X Y : List Row) → AllFit taken X → g.may_give m X Y → AllFit given Y
-  pub makes : (X Y : List Row) → AllFit taken X → g.may_give m X Y → NothingFails g m X → Chain strict (stages_of pipeline) X Y
-  pub goes_on : (X Y : List Row) (ended done : Bool) → AllFit taken X → CanGive g m X Y ended done → CanGoOn (stages_of pipeline) X Y ended done
+  pub makes : (X Y : List Row) → AllFit taken X → g.may_give m X Y → NothingFails g m X → StagesMake strict (stages_of pipeline) X Y
+  pub goes_on : (X Y : List Row) (ended done : Bool) → AllFit taken X → CanGive g m X Y ended done → StagesCanGoOn (stages_of pipeline) X Y ended done
   pub fails : (X : List Row) (ended : Bool) (node : ℕ) (kind : Fail) → AllFit taken X
       → ((Z : List Row) → MayCome ended Z → g.may_still_fail m (X ++ Z) node kind) → FailsIn pipeline X ended node kind
 

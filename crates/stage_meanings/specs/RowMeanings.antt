@@ -1,12 +1,12 @@
 -- Operators that judge row by row, and those that choose and order rows.
 use Rattle.std.specs.Prelude.{◌≡◌, ◌↔◌, ℕ, List, Some}
 use Rattle.sql_values.specs.declared.fail.Fail.{Fail}
-use Rattle.relations.specs.Verdicts.{Verdict}
-use Rattle.page_judges.specs.Judged.{first_failure, rows_before}
+use Rattle.relation_laws.specs.Verdicts.{Verdict}
+use Rattle.page_processor.specs.Judged.{first_failure, rows_before}
 use Rattle.operator_core.specs.declared.operator.Operator.{Ghosts}
 use Rattle.operator_core.specs.Rows.{Row}
 use Rattle.plan_trees.specs.Allowed.{Mode}
-use Rattle.plan_runs.specs.Nets.{Makes, Stage}
+use Rattle.plan_run_laws.specs.Nets.{Makes, Stage}
 
 -- the operator gives what the judge keeps of the rows before the first that fails, and fails as that one
 -- does, for the node. It has no note

@@ -3,9 +3,9 @@ ghost use Rattle.std.specs.Prelude.{◌≡◌, ◌<◌, ◌≤◌, ◌↔◌, �
 ghost use Rattle.sql_functions.specs.CallTypes.{type_at};
 ghost use Rattle.col_pages.specs.Pages.{TypedPage, most_rows};
 ghost use Rattle.operator_core.specs.Calls.{IsFresh};
-ghost use Rattle.row_ops.specs.RowJudges.{IsOf};
+ghost use Rattle.col_pages.specs.Fits.{IsOfTypes};
 ghost use Rattle.plan_trees.specs.TreeTypes.{call_kind};
-ghost use Rattle.plan_runs.specs.Nets.{final, grouping, partial};
+ghost use Rattle.plan_run_laws.specs.Nets.{final, grouping, partial};
 ghost use Rattle.accumulators.specs.Limits.{are_allowed};
 ghost use Rattle.plan_trees.specs.Layouts.{layout_types};
 ghost use Rattle.stage_meanings.specs.Meanings.{Means};
@@ -30,7 +30,7 @@ pub fn single_of(
     requires page { (0 < page) × (page ≤ most_rows) }
     ensures fresh { IfOk result (λ op. IsFresh ⟦<SingleAgg as Operator>⟧ op) }
     ensures takes { IfOk result (λ op. (page : TypedPage)
-        → ⟦<SingleAgg as Operator>⟧.takes op page ↔ IsOf types.items page) }
+        → ⟦<SingleAgg as Operator>⟧.takes op page ↔ IsOfTypes types.items page) }
     ensures means { IfOk result (λ op. Means ⟦<SingleAgg as Operator>⟧ op types.items
         (at_node node (grouping types.items keys.items calls.items) ∷ [])
         (map (type_at types.items) keys.items ++ map (call_kind types.items) calls.items)) }
@@ -50,7 +50,7 @@ pub fn partial_of(
     requires page { (0 < page) × (page ≤ most_rows) }
     ensures fresh { IfOk result (λ op. IsFresh ⟦<PartialAgg as Operator>⟧ op) }
     ensures takes { IfOk result (λ op. (page : TypedPage)
-        → ⟦<PartialAgg as Operator>⟧.takes op page ↔ IsOf types.items page) }
+        → ⟦<PartialAgg as Operator>⟧.takes op page ↔ IsOfTypes types.items page) }
     ensures means { IfOk result (λ op. (node : ℕ) → Means ⟦<PartialAgg as Operator>⟧ op types.items
         (at_node node (partial keys.items calls.items) ∷ [])
         (layout_types (map (type_at types.items) keys.items) types.items calls.items)) }
@@ -74,7 +74,7 @@ pub fn final_of(
     ensures fresh { IfOk result (λ op. IsFresh ⟦<FinalAgg as Operator>⟧ op) }
     ensures takes { IfOk result (λ op. (page : TypedPage)
         → ⟦<FinalAgg as Operator>⟧.takes op page
-        ↔ IsOf (layout_types kinds.items types.items calls.items) page) }
+        ↔ IsOfTypes (layout_types kinds.items types.items calls.items) page) }
     ensures means { IfOk result (λ op. Means ⟦<FinalAgg as Operator>⟧ op
         (layout_types kinds.items types.items calls.items)
         (at_node node (final types.items (length kinds.items) calls.items) ∷ [])

@@ -5,20 +5,21 @@ ghost use Rattle.sql_values.specs.declared.fail.Fail.{Fail};
 ghost use Rattle.sql_values.specs.declared.order.KeySpec.{KeySpec};
 ghost use Rattle.sql_values.specs.declared.relational.Call.{Call};
 ghost use Rattle.sql_functions.specs.CallTypes.{type_at};
-ghost use Rattle.relations.specs.Groups.{groups_of};
+ghost use Rattle.relation_laws.specs.Groups.{groups_of};
 ghost use Rattle.sql_exprs.specs.Forms.{Form};
 ghost use Rattle.sql_exprs.specs.Meaning.{kind_of};
 ghost use Rattle.operator_core.specs.Rows.{Row};
 ghost use Rattle.operator_core.specs.Stages.{AreMadeOf, Chain, FailsAfter, Linked, ToldInTurn, last_finished};
-ghost use Rattle.page_judges.specs.Typed.{AllFit, AllTyped};
+ghost use Rattle.col_pages.specs.Fits.{AllFit};
+ghost use Rattle.page_processor.specs.Typed.{AllTyped};
 ghost use Rattle.row_ops.specs.RowJudges.{columns_in, row_judge};
 ghost use Rattle.plan_trees.specs.Allowed.{strict};
 ghost use Rattle.plan_trees.specs.TreeTypes.{call_kind};
 ghost use Rattle.bag_laws.specs.Pieces.{finals_of};
 ghost use Rattle.accumulators.specs.Limits.{are_allowed};
 ghost use Rattle.plan_trees.specs.Layouts.{layout_types};
-ghost use Rattle.plan_runs.specs.Nets.{Chain as StageChain, filter, final, grouping, limit, partial, project, sort, topn};
-ghost use Rattle.plan_runs.specs.Stops.{CanGoOn};
+ghost use Rattle.plan_run_laws.specs.Nets.{StagesMake as StageChain, filter, final, grouping, limit, partial, project, sort, topn};
+ghost use Rattle.plan_run_laws.specs.Stops.{StagesCanGoOn};
 ghost use Rattle.stage_meanings.specs.Meanings.{ActsAs, AllMean, Means};
 ghost use Rattle.stage_meanings.specs.Pipelines.{FailsIn, NodeStage, at_node, stages_of};
 ghost use Rattle.stage_meanings.specs.RowMeanings.{JudgesRows, MakesRows};
@@ -114,7 +115,7 @@ pub fn drivers_can_go_on<O: Operator>(stages: &[O])
         → AllMean O.Operator made taken pipeline given → AreMadeOf O.Operator stages.now made
         → (ended : Bool) (X Y : List Row) → ToldInTurn O.Operator ended stages.now
         → Linked O.Operator stages.now X Y → AllFit taken X
-        → CanGoOn (stages_of pipeline) X Y ended (last_finished O.Operator ended stages.now) }
+        → StagesCanGoOn (stages_of pipeline) X Y ended (last_finished O.Operator ended stages.now) }
 {
     operator_core::laws::laws::<O>(PhantomData);
 }

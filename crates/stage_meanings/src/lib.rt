@@ -1,5 +1,5 @@
 //! What operators mean in a plan: the bridge from what a driver knows of its operators, as they were
-//! made (`operator_core`), to the stages of the plan's pipeline (`plan_runs`).
+//! made (`operator_core`), to the stages of the plan's pipeline (`plan_run_laws`).
 //!
 //! `Means g m taken pipeline given` says that the operator `m`, over rows of the types `taken`, is the
 //! stages of `pipeline`, each with its node: what it gives where nothing fails is what they make; where

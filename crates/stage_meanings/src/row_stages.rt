@@ -4,10 +4,10 @@ ghost use Rattle.std.specs.List.{range_with_len};
 ghost use Rattle.col_pages.specs.Pages.{TypedPage};
 ghost use Rattle.sql_exprs.specs.Forms.{column, form_view};
 ghost use Rattle.sql_exprs.specs.Meaning.{kind_of};
-ghost use Rattle.page_judges.specs.Typed.{AllTyped, IsTyped};
+ghost use Rattle.page_processor.specs.Typed.{AllTyped, IsTyped};
 ghost use Rattle.operator_core.specs.Calls.{IsFresh};
-ghost use Rattle.row_ops.specs.RowJudges.{IsOf};
-ghost use Rattle.plan_runs.specs.Nets.{filter, project};
+ghost use Rattle.col_pages.specs.Fits.{IsOfTypes};
+ghost use Rattle.plan_run_laws.specs.Nets.{filter, project};
 ghost use Rattle.stage_meanings.specs.Meanings.{Means};
 ghost use Rattle.stage_meanings.specs.Pipelines.{at_node};
 
@@ -40,7 +40,7 @@ pub fn filter_of(
     requires typed { IsTyped types.items (form_view predicate) }
     ensures fresh { IfOk result (λ op. IsFresh ⟦<FilterProject as Operator>⟧ op) }
     ensures takes { IfOk result (λ op. (page : TypedPage)
-        → ⟦<FilterProject as Operator>⟧.takes op page ↔ IsOf types.items page) }
+        → ⟦<FilterProject as Operator>⟧.takes op page ↔ IsOfTypes types.items page) }
     ensures means { IfOk result (λ op. Means ⟦<FilterProject as Operator>⟧ op types.items
         (at_node node (filter types.items (form_view predicate)) ∷ []) types.items) }
 {
@@ -59,7 +59,7 @@ pub fn project_of(
     requires typed { AllTyped types.items (map form_view columns.items) }
     ensures fresh { IsFresh ⟦<FilterProject as Operator>⟧ result }
     ensures takes { (page : TypedPage)
-        → ⟦<FilterProject as Operator>⟧.takes result page ↔ IsOf types.items page }
+        → ⟦<FilterProject as Operator>⟧.takes result page ↔ IsOfTypes types.items page }
     ensures means { Means ⟦<FilterProject as Operator>⟧ result types.items
         (at_node node (project types.items (map form_view columns.items)) ∷ [])
         (map (kind_of types.items) (map form_view columns.items)) }

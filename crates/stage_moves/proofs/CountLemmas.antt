@@ -7,7 +7,7 @@ use Rattle.col_pages.specs.Pages.{TypedPage}
 use Rattle.operator_core.specs.declared.operator.Operator.{Ghosts}
 use Rattle.operator_core.specs.Answers.{gave}
 use Rattle.operator_core.specs.Rows.{Row}
-use Rattle.operator_core.specs.Calls.{Took, Gave, Told, Looked}
+use Rattle.operator_core.specs.Calls.{Took, Gave, WasTold, Looked}
 use Rattle.operator_core.specs.Stages.{Steps, Linked}
 use Rattle.operator_core.proofs.StageLemmas.{Steps-took, Steps-gave, Steps-told, Steps-gave_none, Steps-looked}
 use Rattle.stage_moves.specs.Counts.{LinkedBy, Counted}
@@ -133,7 +133,7 @@ module _ {S : Type 0} (g : Ghosts S) where
       }
 
   -- a stage was told
-  pub Counted-told : (ss : List S) (i : ℕ) (s t : S) (X Y : List Row) → i < length ss → s ≡ get_or ss i s → Told g s t → Counted g ss (set ss i t) X X Y Y 0
+  pub Counted-told : (ss : List S) (i : ℕ) (s t : S) (X Y : List Row) → i < length ss → s ≡ get_or ss i s → WasTold g s t → Counted g ss (set ss i t) X X Y Y 0
   Counted-told ss i s t X Y h e told =
       record { entered = λ n l. none-more (set ss i t) X Y n (By-set ss i s t X Y n h e (λ A B steps. Steps-told g s t A B told steps) l) }
 

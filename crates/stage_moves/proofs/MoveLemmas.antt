@@ -8,7 +8,7 @@ use Rattle.operator_core.specs.Rows.{Row}
 use Rattle.operator_core.specs.declared.fault.OpFault.{OpFault}
 use Rattle.operator_core.specs.declared.fault.OpFault.TheVariants.{Expr, Memory}
 use Rattle.operator_core.specs.Answers.{NotMemory, gave}
-use Rattle.operator_core.specs.Calls.{Took, Gave, Told, FailsNow}
+use Rattle.operator_core.specs.Calls.{Took, Gave, WasTold, FailsNow}
 use Rattle.operator_core.specs.Stages.{Steps, Linked, ToldInTurn, giver_finished, last_finished}
 use Rattle.operator_core.proofs.StageLemmas.{Steps-took, Steps-gave, Steps-told}
 use Rattle.operator_core.proofs.LinkLemmas.{Linked-set, Linked-moved, Linked-front, Linked-last, map-set_made}
@@ -105,18 +105,18 @@ module _ {S : Type 0} (g : Ghosts S) where
       }
 
   -- a stage was told whose giver is finished
-  pub Told-links : (ss : List S) (i : ℕ) (s t : S) → i < length ss → s ≡ get_or ss i s → Told g s t
+  pub Told-links : (ss : List S) (i : ℕ) (s t : S) → i < length ss → s ≡ get_or ss i s → WasTold g s t
       → (X Y : List Row) → Linked g ss X Y → Linked g (set ss i t) X Y
   Told-links ss i s t h e told X Y l = Linked-set g ss i s t X Y h e (λ A B steps. Steps-told g s t A B told steps) l
 
-  pub Told-turns : (ended : Bool) (ss : List S) (i : ℕ) (s t : S) → i < length ss → s ≡ get_or ss i s → giver_finished g ended ss i ≡ true → Told g s t
+  pub Told-turns : (ended : Bool) (ss : List S) (i : ℕ) (s t : S) → i < length ss → s ≡ get_or ss i s → giver_finished g ended ss i ≡ true → WasTold g s t
       → ToldInTurn g ended ss → ToldInTurn g ended (set ss i t)
   Told-turns ended ss i s t h e giver told turns = Turns-told g ended ss i s t h e giver told.same.kept.over turns
 
-  pub Told-made : (ss : List S) (i : ℕ) (s t : S) → i < length ss → s ≡ get_or ss i s → Told g s t → map g.as_made (set ss i t) ≡ map g.as_made ss
+  pub Told-made : (ss : List S) (i : ℕ) (s t : S) → i < length ss → s ≡ get_or ss i s → WasTold g s t → map g.as_made (set ss i t) ≡ map g.as_made ss
   Told-made ss i s t h e told = map-set_made g ss i s t h e told.same.as_made
 
-  pub Told-same : (ss : List S) (i : ℕ) (s t : S) → i < length ss → s ≡ get_or ss i s → Told g s t → AllStay g ss (set ss i t)
+  pub Told-same : (ss : List S) (i : ℕ) (s t : S) → i < length ss → s ≡ get_or ss i s → WasTold g s t → AllStay g ss (set ss i t)
   Told-same ss i s t h e told = AllStay-set g ss i s t h e told.same
 
   pub SomeFails-at : (ss : List S) (i : ℕ) (t : S) (node : ℕ) (kind : Fail) → i < length ss → FailsNow g t node kind → SomeFails g (set ss i t) node kind

@@ -7,7 +7,7 @@ use Rattle.operator_core.specs.declared.fault.OpFault.{OpFault}
 use Rattle.operator_core.specs.declared.operator.Operator.{Ghosts}
 use Rattle.operator_core.specs.Answers.{IsFit, NotMemory, gave}
 use Rattle.operator_core.specs.Rows.{Coming}
-use Rattle.operator_core.specs.Calls.{IsLawful, Gave, Told}
+use Rattle.operator_core.specs.Calls.{IsLawful, Gave, WasTold}
 use Rattle.stage_moves.proofs.MoveLemmas.{get-set, length-set}
 use Rattle.stage_moves.specs.Quiet.{AreStill, last_holds, IsQuiet, NeedsLaws}
 
@@ -91,7 +91,7 @@ module _ {S : Type 0} (g : Ghosts S) where
       clash none = let both : false ≡ true = sym none ∙ needs in cc
 
   -- one that was told takes no page
-  told-needs : NeedsLaws g → (s t : S) → Told g s t → g.needs_input t ≡ true → g.needs_input s ≡ true
+  told-needs : NeedsLaws g → (s t : S) → WasTold g s t → g.needs_input t ≡ true → g.needs_input s ≡ true
   told-needs more s t told needs = absurd (let clash : false ≡ true = sym (more.untold t needs) ∙ told.told in cc)
 
   -- a stage changed that takes a page only where it took one, and holds a row only where it held one
@@ -138,7 +138,7 @@ module _ {S : Type 0} (g : Ghosts S) where
       (Still-set ss i i s t h e (gave-none_needs laws more s t gave empty) (λ h. absurd (omega (arith, h))) still))
 
   -- a stage was told
-  pub Still-told : NeedsLaws g → (ss : List S) (i : ℕ) (s t : S) → i < length ss → s ≡ get_or ss i s → Told g s t → AreStill g i ss → AreStill g i (set ss i t)
+  pub Still-told : NeedsLaws g → (ss : List S) (i : ℕ) (s t : S) → i < length ss → s ≡ get_or ss i s → WasTold g s t → AreStill g i ss → AreStill g i (set ss i t)
   Still-told more ss i s t h e told still = Still-set ss i i s t h e (told-needs more s t told) (λ h. absurd (omega (arith, h))) still
 
   last-set : (ss : List S) (i : ℕ) (t : S) → suc i ≡ length ss → g.holds_row t ≡ false → last_holds g (set ss i t) ≡ false

@@ -1,6 +1,6 @@
 -- What an end of a driver tells of its looks.
 use Rattle.std.specs.Prelude.{◌≡◌, ℕ, false}
-use Rattle.blocked.specs.Counts.{Rose}
+use Rattle.count_laws.specs.Counts.{Rose}
 use Rattle.blocked.specs.declared.blocked_on.BlockedOn.{BlockedOn}
 
 -- the bell at which it would wait, how many of its looks were in vain, and the count that the last of these

@@ -14,7 +14,7 @@ pub record Moved {S : Type 0} (g : Ghosts S) (old new : List S) (taken given : L
   pub made : map g.as_made new ≡ map g.as_made old
   pub same : AllStay g old new
 
--- one of the stages fails so, whatever rows still come to it
+-- one of the stages fails with this kind, whatever rows still come to it
 pub record SomeFails {S : Type 0} (g : Ghosts S) (stages : List S) (node : ℕ) (kind : Fail) : Type 0 where
   pub place : ℕ
   pub stage : S

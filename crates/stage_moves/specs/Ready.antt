@@ -1,6 +1,6 @@
 -- What a look of a source found.
 use Rattle.std.specs.Prelude.{ℕ}
-use Rattle.blocked.specs.Counts.{Rose}
+use Rattle.count_laws.specs.Counts.{Rose}
 use Rattle.stage_moves.specs.Looks.{Looks, HasWaited}
 use Rattle.stage_moves.specs.declared.ends.Ready.{Ready}
 use Rattle.stage_moves.specs.declared.ends.Ready.TheVariants.{Now, Missed, Blocked}

@@ -11,22 +11,22 @@ use Rattle.plan_docs.specs.Plans.{FragmentForm, PlanForm}
 use Rattle.plan_reader.specs.Trees.{tree_of}
 use Rattle.plan_trees.specs.Allowed.{Allows, Gives, strict}
 use Rattle.plan_trees.specs.Stopped.{MayFail}
-use Rattle.plan_runs.specs.Spreads.{Tables}
-use Rattle.plan_links.specs.Consistent.{IsConsistent}
+use Rattle.plan_run_laws.specs.Spreads.{Tables}
+use Rattle.plan_link_laws.specs.Consistent.{IsConsistent}
 use Rattle.plan_layout.specs.declared.pipe.Parallelism.{Parallelism}
 use Rattle.plan_layout.specs.Layouts.{layout_of}
 use Rattle.plan_layout.specs.Pipes.{PipeForm, driver_number}
 use Rattle.tree_evaluator.specs.Fits.{FitsTables}
-use Rattle.driver_nets.specs.Nets.{AreDriversOf, NetForm}
-use Rattle.driver_nets.specs.Settled.{AreSettled}
-use Rattle.net_stands.specs.Roots.{IsLoneRoot}
+use Rattle.net_laws.specs.Nets.{AreDriversOf, NetForm}
+use Rattle.net_laws.specs.Settled.{AreSettled}
+use Rattle.net_laws.specs.Roots.{IsLoneRoot}
 use Rattle.net_closing.specs.Back.{HasNet}
 use Rattle.net_closing.specs.Left.{handed_in}
 use Rattle.net_closing.specs.Results.{IsResultOf}
-use Rattle.net_lanes.specs.Later.{AreLater}
-use Rattle.net_lanes.proofs.LaterLemmas.{drivers_on}
+use Rattle.net_laws.specs.Later.{AreLater}
+use Rattle.net_laws.proofs.LaterLemmas.{drivers_on}
 use Rattle.net_making.specs.Slots.{IsNew}
-use Rattle.task_executor.specs.Nets.{FailsFor, IsNetOf, IsOver, NetState, layout_in, plan_in}
+use Rattle.task_executor.specs.Nets.{FailsFor, IsNetOf, IsOverTables, NetState, layout_in, plan_in}
 use Rattle.task_executor.specs.declared.answer.RunDone.{RunDone}
 use Rattle.task_executor.specs.Turns.{AreFailing, AreFinished, AreUnfailed, AreWholeDrivers}
 
@@ -76,7 +76,7 @@ pub new_unfailed : (drivers : List DriverState) → All IsNew drivers → AreUnf
 new_unfailed drivers fresh = λ k d less. (fresh k d less).unfailed
 
 -- the drivers after their turns are those of a net of the layout
-pub net_after : (tables : Tables) (net : NetState) (after : List DriverState) → IsOver tables net → AreLater net.drivers after → AreWholeDrivers after → HasNet (layout_in net) after
+pub net_after : (tables : Tables) (net : NetState) (after : List DriverState) → IsOverTables tables net → AreLater net.drivers after → AreWholeDrivers after → HasNet (layout_in net) after
 net_after tables net after (split, made) later whole = record {
   net = made.net;
   laid = made.of;

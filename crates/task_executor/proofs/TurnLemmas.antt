@@ -5,14 +5,14 @@ use Rattle.std.proofs.lemmas.List.Elements.{All-cons, All-head, All-nil, All-tai
 use Rattle.driver_loop.specs.Drivers.{DriverState, IsWhole}
 use Rattle.driver_loop.specs.declared.run_fault.RunFault.{RunFault}
 use Rattle.driver_loop.specs.declared.run_fault.RunFault.TheVariants.{ExprFailed, Memory}
-use Rattle.net_lanes.specs.Later.{AreLater, IsLater}
-use Rattle.net_lanes.proofs.LaterLemmas.{later_same}
+use Rattle.net_laws.specs.Later.{AreLater, IsLaterDriver}
+use Rattle.net_laws.proofs.LaterLemmas.{later_same}
 use Rattle.task_executor.specs.Turns.{AreFailing, AreUnfailed, AreWholeDrivers, IsFailing}
 use Rattle.task_executor.proofs.LaterLemmas.{all_same}
 
-pub later_at : (ds : List DriverState) (k : ℕ) (e d : DriverState) → k < length ds → e ≡ get_or ds k e → IsLater e d → AreLater ds (slice_set ds k d)
+pub later_at : (ds : List DriverState) (k : ℕ) (e d : DriverState) → k < length ds → e ≡ get_or ds k e → IsLaterDriver e d → AreLater ds (slice_set ds k d)
 later_at [] k e d lt is later = absurd (omega (arith, lt))
-later_at (x ∷ ds) zero e d lt is later = (subst (λ (y : DriverState). IsLater y d) is later, all_same ds)
+later_at (x ∷ ds) zero e d lt is later = (subst (λ (y : DriverState). IsLaterDriver y d) is later, all_same ds)
 later_at (x ∷ ds) (suc k) e d lt is later = (later_same x, later_at ds k e d (omega (arith, lt)) is later)
 
 unfailed_at : (ds : List DriverState) (k : ℕ) (d : DriverState) → AreUnfailed ds → d.fault ≡ None → AreUnfailed (slice_set ds k d)

@@ -9,7 +9,7 @@ use Rattle.plan_docs.specs.declared.plan.Plan.{Plan}
 use Rattle.plan_reader.specs.Trees.{tree_of}
 use Rattle.plan_trees.specs.TreeForms.{TreeForm}
 use Rattle.plan_trees.specs.Stopped.{MayFail}
-use Rattle.plan_links.specs.Consistent.{IsConsistent}
+use Rattle.plan_link_laws.specs.Consistent.{IsConsistent}
 use Rattle.plan_layout.specs.declared.pipe.Parallelism.{Parallelism}
 use Rattle.plan_layout.specs.Layouts.{layout_of}
 use Rattle.plan_layout.specs.Pipes.{PipeForm, pipe_view}
@@ -30,8 +30,8 @@ abbrev pub layout_in : NetState → List PipeForm
 layout_in net = map pipe_view net.pipes
 
 -- the drivers were just made for its pipes over these tables
-abbrev pub IsOver : List (List Row) → NetState → Type 0
-IsOver tables net = (split : ℕ) × made.IsNetOf (layout_in net) tables split net.drivers
+abbrev pub IsOverTables : List (List Row) → NetState → Type 0
+IsOverTables tables net = (split : ℕ) × made.IsNewNetOf (layout_in net) tables split net.drivers
 
 -- they were made for the layout of the plan, whose tree fits the tables
 pub record IsNetOf (plan : PlanForm) (tables : List (List Row)) (net : NetState) : Type 0 where
@@ -43,9 +43,9 @@ pub record IsNetOf (plan : PlanForm) (tables : List (List Row)) (net : NetState)
   pub some : 0 < parallelism.tasks
   pub laid : layout_in net ≡ layout_of parallelism plan
   pub fits : FitsTables (tree_of plan) tables
-  pub over : IsOver tables net
+  pub over : IsOverTables tables net
 
--- why a run gave no rows: an expression of the tree may fail so, or memory was wanting
+-- why a run gave no rows: an expression of the tree may fail with this kind, or memory was wanting
 abbrev pub FailsFor : TreeForm → List (List Row) → RunFault → Type 0
 FailsFor tree tables (ExprFailed node kind) = MayFail tree tables node kind
 FailsFor tree tables Memory = Unit {0}
@@ -53,4 +53,4 @@ FailsFor tree tables Memory = Unit {0}
 -- its drivers were just made over some tables
 pub record IsSomeNet (net : NetState) : Type 0 where
   pub tables : List (List Row)
-  pub over : IsOver tables net
+  pub over : IsOverTables tables net

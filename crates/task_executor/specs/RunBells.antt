@@ -1,6 +1,6 @@
 -- What bells tell that only count.
 use Rattle.std.specs.Prelude.{◌≡◌, ◌≤◌, ℕ, List, get_or, min}
-use Rattle.blocked.specs.Counts.{most_count}
+use Rattle.count_laws.specs.Counts.{most_count}
 
 -- a count that this bell has, or had before
 abbrev pub has_shown : List ℕ → ℕ → ℕ → Type 0

@@ -4,7 +4,7 @@ ghost use Rattle.plan_docs.specs.Plans.{PlanForm};
 ghost use Rattle.plan_reader.specs.Trees.{tree_of};
 ghost use Rattle.plan_trees.specs.Allowed.{Allows};
 ghost use Rattle.operator_core.specs.Rows.{Row};
-ghost use Rattle.net_lanes.specs.Later.{AreLater, IsLater};
+ghost use Rattle.net_laws.specs.Later.{AreLater, IsLaterDriver};
 ghost use Rattle.task_executor.specs.Nets.{FailsFor, IsNetOf};
 ghost use Rattle.task_executor.specs.Turns.{AreFailing, AreFinished, AreUnfailed, AreWholeDrivers, IsFailing};
 
@@ -175,7 +175,7 @@ fn give_turn<R: Threads + Wait + Sync, C: Courier>(
     quantum: u32,
 ) -> Result<(), RunFault>
     requires { (driver.old.is_finished ≡ false) × (driver.old.fault ≡ None) }
-    ensures later { IsLater driver.old driver.new }
+    ensures later { IsLaterDriver driver.old driver.new }
     ensures done { MatchResult result (λ _. driver.new.fault ≡ None) (IsFailing driver.new) }
 {
     let mut cx = solo.begin();

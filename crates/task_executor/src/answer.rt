@@ -6,14 +6,14 @@ ghost use Rattle.plan_trees.specs.Allowed.{Allows};
 ghost use Rattle.operator_core.specs.Rows.{Row};
 ghost use Rattle.driver_loop.specs.Drivers.{DriverState};
 ghost use Rattle.driver_loop.specs.declared.run_fault.RunFault.{RunFault};
-ghost use Rattle.net_lanes.specs.Later.{AreLater};
-ghost use Rattle.task_executor.specs.Nets.{FailsFor, IsNetOf, IsOver};
+ghost use Rattle.net_laws.specs.Later.{AreLater};
+ghost use Rattle.task_executor.specs.Nets.{FailsFor, IsNetOf, IsOverTables};
 ghost use Rattle.task_executor.specs.Turns.{AreFailing, AreFinished, AreWholeDrivers};
 
 use crate::result::rows_of;
 use driver_loop::{Driver, RunFault, Stage};
 use net_closing::close;
-use net_stands::{plans_fail, plans_give};
+use net_laws::{plans_fail, plans_give};
 use plan_layout::Pipe;
 use plan_reader::Plan;
 use run_ports::Courier;
@@ -37,7 +37,7 @@ pub(crate) fn answer_of<C: Courier>(
     failed: Option<RunFault>,
 ) -> Result<RunDone, RunFault>
     requires net { (before : List DriverState) × (tables : List (List Row))
-        × IsOver tables (record { plan = plan.now; pipes = pipes.now; drivers = before })
+        × IsOverTables tables (record { plan = plan.now; pipes = pipes.now; drivers = before })
         × AreLater before drivers.items }
     requires whole { AreWholeDrivers drivers.items }
     requires finished { failed ≡ None → AreFinished drivers.items }

@@ -8,12 +8,12 @@
 //! - `pooled`: a driver as workers share it, which meets another when it has its first turn
 //! - `run_bells`: the bells of a run on one thread, which count their rings
 //! - `answer`: what a net gives whose drivers had their turns. Where it is rows, the plan's tree allows them over the
-//!   tables; where an expression failed, its node may fail so
+//!   tables; where an expression failed, its node may fail with this kind
 //! - `result`: the rows of a result, as one list
 //!
 //! A run is of any plan that was read, in any number of fragments, tasks and drivers. What its drivers are made of stands
 //! below (`net_making`), and so does how they are taken apart (`net_closing`) and why that is the plan's answer
-//! (`net_stands`).
+//! (`net_laws`).
 #![tactic(auto)]
 
 mod alone;

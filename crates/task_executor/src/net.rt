@@ -1,14 +1,14 @@
 //! The drivers of a plan.
 ghost use Rattle.std.specs.Prelude.{◌≡◌, map, IfOk};
 ghost use Rattle.plan_docs.specs.Plans.{plan_view};
-ghost use Rattle.plan_fits.specs.Tables.{HaveColumns};
+ghost use Rattle.plan_fit_laws.specs.Tables.{HaveColumns};
 ghost use Rattle.plan_layout.specs.Layouts.{layout_of};
 ghost use Rattle.plan_layout.specs.Pipes.{pipe_view};
-ghost use Rattle.plan_links.specs.Consistent.{IsConsistent};
+ghost use Rattle.plan_link_laws.specs.Consistent.{IsConsistent};
 ghost use Rattle.plan_wiring.specs.Handed.{AreUnused};
 ghost use Rattle.plan_wiring.specs.Wirings.{IsWiringOf, share_view};
 ghost use Rattle.tree_evaluator.specs.Fits.{TablesFit};
-ghost use Rattle.tree_evaluator.specs.Stops.{rows_of};
+ghost use Rattle.tree_evaluator.specs.Stops.{rows_of_table};
 ghost use Rattle.task_executor.specs.Nets.{IsNetOf};
 ghost use Rattle.task_executor.specs.Shapes.{AreFew, IsShape, parallelism_of};
 
@@ -69,10 +69,10 @@ impl<'w, 'p, C: Courier> Net<'w, 'p, C> {
         requires wired { IsWiringOf (map pipe_view wiring.old.layout.pipes.items) tables.now
             shape.now.split wiring.old.shared }
         requires unused { AreUnused (map share_view wiring.old.shared.pipes.items) }
-        ensures { IfOk result (IsNetOf (plan_view plan.now) (map rows_of tables.now)) }
+        ensures { IfOk result (IsNetOf (plan_view plan.now) (map rows_of_table tables.now)) }
     {
-        layout_fits::layouts_fit(plan);
-        plan_fits::consistent_plans_fit(plan);
+        net_laws::layouts_fit(plan);
+        plan_fit_laws::consistent_plans_fit(plan);
         let Wiring { layout, shared } = wiring;
         let bells = shared.bells;
         let drivers = drivers_of(

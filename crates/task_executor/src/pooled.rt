@@ -63,8 +63,8 @@ impl<'m, 'w, C: Courier, M: Meet> PooledDriver<'m, 'w, C, M> {
 
 impl<'m, 'w, C: Courier, M: Meet> TakesTurns for PooledDriver<'m, 'w, C, M> {
     ghost use Rattle.std.specs.Prelude.{is_some};
-    ghost use Rattle.net_lanes.specs.Later.{IsLater};
-    ghost use Rattle.net_lanes.proofs.LaterLemmas.{later_same, later_then};
+    ghost use Rattle.net_laws.specs.Later.{IsLaterDriver};
+    ghost use Rattle.net_laws.proofs.LaterLemmas.{later_same, later_then};
     ghost use Rattle.task_executor.specs.Turns.{unfailed};
     ghost use Rattle.task_executor.specs.Waits.{WaitsAt};
 
@@ -74,7 +74,7 @@ impl<'m, 'w, C: Courier, M: Meet> TakesTurns for PooledDriver<'m, 'w, C, M> {
 
     ghost has_failed = { λ d. is_some d.fault };
 
-    ghost follows = { IsLater };
+    ghost follows = { IsLaterDriver };
 
     ghost waits_at = { WaitsAt };
 

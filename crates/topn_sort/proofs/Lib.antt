@@ -1,3 +1,4 @@
 pub mod PlaceLemmas
+pub mod NumberLemmas
 pub mod TopLemmas
 pub mod BufferLemmas

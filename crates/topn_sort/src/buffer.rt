@@ -1,7 +1,8 @@
 ghost use Rattle.std.specs.Prelude.{◌≡◌, ◌<◌, ◌≤◌, ◌++◌, [], true, false, length, IfOk, OnOk, OnErr};
 ghost use Rattle.col_pages.specs.Pages.{most_rows};
 ghost use Rattle.operator_core.specs.Samples.{has_row};
-ghost use Rattle.topn_sort.specs.Sorting.{AllFit, AreTop, BeganRows, FitsTypes, IsCutTo, IsNextPage, last_row, rows_before};
+ghost use Rattle.col_pages.specs.Fits.{AllFit, IsOfTypes};
+ghost use Rattle.topn_sort.specs.Sorting.{AreTop, BeganRows, IsCutTo, IsNextPage, last_row, rows_ahead_of};
 
 use crate::places::{places_before, sorted_places};
 use col_pages::Page;
@@ -26,7 +27,7 @@ pub struct SortBuffer {
 }
 
 impl Model for SortBuffer {
-    ghost use Rattle.topn_sort.specs.Sorting.{BufferState, IsBuffer, rows_left};
+    ghost use Rattle.topn_sort.specs.Sorting.{BufferState, IsBuffer, rows_to_give};
 
     ghost Value = { BufferState };
 
@@ -34,7 +35,7 @@ impl Model for SortBuffer {
       keys = b.keys.items;
       types = b.rows.types;
       page = b.page;
-      rows = rows_left b.has_begun b.rows.rows b.order.items b.given;
+      rows = rows_to_give b.has_begun b.rows.rows b.order.items b.given;
       begun = b.has_begun;
     } };
 
@@ -90,7 +91,7 @@ impl SortBuffer {
 
     /// The rows of a page as columns.
     pub fn columns_of(&self, page: Page) -> Result<ColumnRows, Memory>
-        requires { FitsTypes self.now.types page }
+        requires { IsOfTypes self.now.types page }
         ensures rows { IfOk result
             (λ r. r ≡ record { types = self.now.types; rows = page.rows; begun = [] }) }
         ensures fit { IfOk result (λ r. AllFit r.types r.rows) }
@@ -183,7 +184,7 @@ impl SortBuffer {
         requires few { length rows.rows ≤ most_rows }
         ensures { IfOk result (λ r. r ≡ record {
           types = rows.types;
-          rows = rows_before self.now.keys (last_row self.now.rows) rows.rows;
+          rows = rows_ahead_of self.now.keys (last_row self.now.rows) rows.rows;
           begun = [];
         }) }
     {

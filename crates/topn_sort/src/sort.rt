@@ -1,10 +1,10 @@
 ghost use Rattle.std.specs.Prelude.{◌≡◌, ◌<◌, ◌≤◌, ◌↔◌, ℕ, List, [], true, false, length, IfOk};
 ghost use Rattle.sql_values.specs.declared.fail.Fail.{Fail as Kind};
 ghost use Rattle.col_pages.specs.Pages.{TypedPage, most_rows};
-ghost use Rattle.relations.specs.Sorts.{IsSortOf};
+ghost use Rattle.relation_laws.specs.Sorts.{IsSortOf};
 ghost use Rattle.operator_core.specs.Rows.{Row};
 ghost use Rattle.operator_core.specs.Calls.{IsFresh};
-ghost use Rattle.topn_sort.specs.Sorting.{FitsTypes};
+ghost use Rattle.col_pages.specs.Fits.{IsOfTypes};
 
 use crate::buffer::SortBuffer;
 use blocked::{Bells, BlockedOn};
@@ -50,7 +50,7 @@ impl SortOp {
         ensures fails { IfOk result (λ op. (X : List Row) (node : ℕ) (kind : Kind)
             → ⟦<SortOp as Operator>⟧.may_still_fail op X node kind → ⊥) }
         ensures takes { IfOk result (λ op. (page : TypedPage)
-            → ⟦<SortOp as Operator>⟧.takes op page ↔ FitsTypes types.items page) }
+            → ⟦<SortOp as Operator>⟧.takes op page ↔ IsOfTypes types.items page) }
         ensures open { IfOk result (λ op. ⟦<SortOp as Operator>⟧.is_full op ≡ false) }
         ensures size { IfOk result (λ op. ⟦<SortOp as Operator>⟧.page_size op ≡ page) }
         ensures late { IfOk result (λ op. ⟦<SortOp as Operator>⟧.gives_late op ≡ true) }
@@ -78,14 +78,15 @@ impl Operator for SortOp {
     ghost use Rattle.operator_core.specs.LawGroups.{never_full, no_note};
     ghost use Rattle.operator_core.specs.Samples.{has_row};
     ghost use Rattle.operator_core.specs.NoteLaws.{held-finished, none-without, told-needs_none, told-needs};
-    ghost use Rattle.topn_sort.specs.Sorting.{FitsTypes, SortGives};
+    ghost use Rattle.col_pages.specs.Fits.{IsOfTypes};
+    ghost use Rattle.topn_sort.specs.Sorting.{SortGives};
     ghost use Rattle.topn_sort.specs.SortingLaws.{sort-some, sort-rest};
 
     ghost may_give = { λ s X B. SortGives s.buffer.begun s.buffer.keys s.buffer.rows X B };
 
     ghost may_still_fail = { λ _ _ _ _. ⊥ };
 
-    ghost takes = { λ s page. FitsTypes s.buffer.types page };
+    ghost takes = { λ s page. IsOfTypes s.buffer.types page };
 
     ghost page_size = { λ s. s.buffer.page };
 

@@ -4,7 +4,8 @@ ghost use Rattle.col_pages.specs.Pages.{TypedPage, most_rows};
 ghost use Rattle.bag_laws.specs.Firsts.{IsTopOf};
 ghost use Rattle.operator_core.specs.Rows.{Row};
 ghost use Rattle.operator_core.specs.Calls.{IsFresh};
-ghost use Rattle.topn_sort.specs.Sorting.{AllFit, AreCandidates, FitsTypes};
+ghost use Rattle.col_pages.specs.Fits.{AllFit, IsOfTypes};
+ghost use Rattle.topn_sort.specs.Sorting.{AreCandidates};
 
 use crate::buffer::SortBuffer;
 use blocked::{Bells, BlockedOn};
@@ -52,7 +53,7 @@ impl TopNOp {
         ensures fails { IfOk result (λ op. (X : List Row) (node : ℕ) (kind : Kind)
             → ⟦<TopNOp as Operator>⟧.may_still_fail op X node kind → ⊥) }
         ensures takes { IfOk result (λ op. (page : TypedPage)
-            → ⟦<TopNOp as Operator>⟧.takes op page ↔ FitsTypes types.items page) }
+            → ⟦<TopNOp as Operator>⟧.takes op page ↔ IsOfTypes types.items page) }
         ensures open { IfOk result (λ op. ⟦<TopNOp as Operator>⟧.is_full op ≡ false) }
         ensures size { IfOk result (λ op. ⟦<TopNOp as Operator>⟧.page_size op ≡ page) }
         ensures late { IfOk result (λ op. ⟦<TopNOp as Operator>⟧.gives_late op ≡ true) }
@@ -79,7 +80,7 @@ impl TopNOp {
     fn candidates(&self, page: Page) -> Result<ColumnRows, Memory>
         requires some { 0 < self.now.count }
         requires begun { self.now.buffer.begun ≡ false }
-        requires fit { FitsTypes self.now.buffer.types page }
+        requires fit { IsOfTypes self.now.buffer.types page }
         ensures types { IfOk result (λ r. (r.types ≡ self.now.buffer.types) × (r.begun ≡ [])) }
         ensures fit { IfOk result (λ r. AllFit r.types r.rows) }
         ensures rows { IfOk result (λ r.
@@ -99,14 +100,15 @@ impl Operator for TopNOp {
     ghost use Rattle.operator_core.specs.LawGroups.{never_full, no_note};
     ghost use Rattle.operator_core.specs.Samples.{has_row};
     ghost use Rattle.operator_core.specs.NoteLaws.{held-finished, none-without, told-needs_none, told-needs};
-    ghost use Rattle.topn_sort.specs.Sorting.{FitsTypes, TopGives, top_rows};
+    ghost use Rattle.col_pages.specs.Fits.{IsOfTypes};
+    ghost use Rattle.topn_sort.specs.Sorting.{TopGives, top_rows};
     ghost use Rattle.topn_sort.specs.SortingLaws.{top-some, top-rest};
 
     ghost may_give = { λ s X B. TopGives s.buffer.begun s.buffer.keys s.count s.buffer.rows X B };
 
     ghost may_still_fail = { λ _ _ _ _. ⊥ };
 
-    ghost takes = { λ s page. FitsTypes s.buffer.types page };
+    ghost takes = { λ s page. IsOfTypes s.buffer.types page };
 
     ghost page_size = { λ s. s.buffer.page };
 

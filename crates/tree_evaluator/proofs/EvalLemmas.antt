@@ -7,7 +7,7 @@ use Rattle.sql_values.specs.declared.fail.Fail.{Fail}
 use Rattle.sql_exprs.specs.Forms.{Form}
 use Rattle.sql_exprs.specs.Meaning.{kind_of}
 use Rattle.col_pages.specs.Pages.{TypedPage}
-use Rattle.relations.specs.Verdicts.{Verdict}
+use Rattle.relation_laws.specs.Verdicts.{Verdict}
 use Rattle.plan_trees.specs.TreeForms.{TreeForm, filter, project}
 use Rattle.plan_trees.specs.TreeTypes.{types_of}
 use Rattle.plan_trees.specs.Judges.{filter_judge, project_judge}
@@ -15,7 +15,7 @@ use Rattle.plan_trees.specs.Allowed.{Judged, strict}
 use Rattle.plan_trees.specs.Stopped.{FailsOnRow}
 use Rattle.plan_trees.proofs.GivenLemmas.{may_have_given}
 use Rattle.plan_trees.proofs.ModeLemmas.{skipping_from_strict}
-use Rattle.page_judges.specs.Judged.{first_failure, rows_before}
+use Rattle.page_processor.specs.Judged.{first_failure, rows_before}
 use Rattle.tree_evaluator.specs.declared.stop.EvalStop.{EvalStop}
 use Rattle.tree_evaluator.specs.declared.stop.EvalStop.TheVariants as stop
 use Rattle.tree_evaluator.specs.Stops.{IsEvaluated, StopsFor, StopsHere}

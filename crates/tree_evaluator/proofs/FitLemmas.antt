@@ -11,9 +11,10 @@ use Rattle.sql_values.specs.Cells.{cell, cut}
 use Rattle.sql_values.specs.ColumnRows.{fits_row}
 use Rattle.sql_functions.proofs.FitLemmas.{null_fits}
 use Rattle.plan_trees.specs.Allowed.{scanned}
-use Rattle.page_judges.specs.Typed.{AllFit}
-use Rattle.tree_evaluator.specs.Fits.{ColumnFits, ColumnsFit, TablesFit, kinds}
-use Rattle.tree_evaluator.specs.Stops.{rows_of}
+use Rattle.col_pages.specs.Fits.{AllFit}
+use Rattle.sql_values.specs.Columns.{kinds}
+use Rattle.tree_evaluator.specs.Fits.{ColumnFits, ColumnsFit, TablesFit}
+use Rattle.tree_evaluator.specs.Stops.{rows_of_table}
 use Rattle.tree_evaluator.proofs.LeafLemmas.{table_missing, table_there}
 
 first_true : (a b : Bool) → a && b ≡ true → a ≡ true
@@ -48,12 +49,12 @@ pub rows_cut : (own : List SqlType) (rows : List (List Value)) (columns : List �
 rows_cut own rows columns types l all h = All-map (Fits types) (cut columns) rows (λ k d lt. cut_fits own (get_or rows k d) columns types l (all k d lt) h)
 
 pub scan_there : (tables : List Table) (n : ℕ) (t : Table) (columns : List ℕ) (types : List SqlType) → n < length tables → t ≡ get_or tables n t → TablesFit tables
-    → length types ≡ length columns → ColumnsFit (kinds t.columns) columns types → AllFit types (scanned (map rows_of tables) n columns)
+    → length types ≡ length columns → ColumnsFit (kinds t.columns) columns types → AllFit types (scanned (map rows_of_table tables) n columns)
 scan_there tables n t columns types lt e fit l h =
     let own : AllFit (kinds t.columns) t.rows = subst (λ (x : Table). AllFit (kinds x.columns) x.rows) (sym e) (fit n t lt) in
     subst (λ rows. AllFit types (map (cut columns) rows)) (sym (table_there tables n t lt e)) (rows_cut (kinds t.columns) t.rows columns types l own h)
 
-pub scan_missing : (tables : List Table) (n : ℕ) (columns : List ℕ) (types : List SqlType) → length tables ≤ n → AllFit types (scanned (map rows_of tables) n columns)
+pub scan_missing : (tables : List Table) (n : ℕ) (columns : List ℕ) (types : List SqlType) → length tables ≤ n → AllFit types (scanned (map rows_of_table tables) n columns)
 scan_missing tables n columns types l = subst (λ rows. AllFit types (map (cut columns) rows)) (sym (table_missing tables n l)) (All-nil (Fits types))
 
 -- one row more

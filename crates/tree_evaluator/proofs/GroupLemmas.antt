@@ -8,8 +8,8 @@ use Rattle.sql_values.specs.declared.relational.Call.{Call}
 use Rattle.sql_values.specs.Bags.{SameBag}
 use Rattle.sql_functions.specs.CallTypes.{type_at}
 use Rattle.col_pages.specs.Pages.{TypedPage}
-use Rattle.relations.specs.Groups.{groups_of}
-use Rattle.relations.specs.Verdicts.{Verdict, failures, keeps, kept}
+use Rattle.relation_laws.specs.Groups.{groups_of}
+use Rattle.relation_laws.specs.Verdicts.{Verdict, failures, keeps, kept}
 use Rattle.plan_trees.specs.TreeForms.{TreeForm, aggregate}
 use Rattle.plan_trees.specs.TreeTypes.{call_kind, types_of}
 use Rattle.plan_trees.specs.Allowed.{Taken, strict}

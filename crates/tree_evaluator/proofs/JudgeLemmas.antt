@@ -6,13 +6,13 @@ use Rattle.sql_values.specs.declared.types.SqlType.{SqlType}
 use Rattle.sql_values.specs.declared.value.Value.{Value}
 use Rattle.sql_values.specs.declared.fail.Fail.{Fail}
 use Rattle.col_pages.specs.Pages.{TypedPage}
-use Rattle.relations.specs.Verdicts.{Verdict, keeps, drops, fails}
+use Rattle.relation_laws.specs.Verdicts.{Verdict, keeps, drops, fails}
 use Rattle.plan_trees.specs.Allowed.{Judged, strict}
 use Rattle.tree_evaluator.specs.declared.stop.EvalStop.{EvalStop}
 use Rattle.tree_evaluator.specs.declared.stop.EvalStop.TheVariants as stop
 use Rattle.tree_evaluator.specs.Stops.{StopsHere}
-use Rattle.page_judges.specs.Judged.{failed_first, first_failure, given_first, judged, rows_before}
-use Rattle.page_judges.specs.declared.judged.Judged.{Judged as Answer}
+use Rattle.page_processor.specs.Judged.{failed_first, first_failure, given_first, judged, rows_before}
+use Rattle.page_processor.specs.declared.judged.Judged.{Judged as Answer}
 
 -- the rows of the first pages are judged, those of `left` are not
 pub record Judging (judge : List Value → Verdict) (types kinds : List SqlType) (whole : List (List Value)) (left kept : TypedPage) : Type 0 where

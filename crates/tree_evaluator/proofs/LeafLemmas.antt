@@ -3,7 +3,7 @@ use Rattle.std.proofs.Common.{◌≡◌, ℕ, ◌+◌, ◌-◌, ◌<◌, ◌≤�
 use Rattle.std.specs.Prelude.{All, IsTrue, ◌&&◌}
 use Rattle.sql_values.specs.declared.table.Table.{Table}
 use Rattle.plan_trees.specs.Allowed.{table_rows}
-use Rattle.tree_evaluator.specs.Stops.{rows_of}
+use Rattle.tree_evaluator.specs.Stops.{rows_of_table}
 use Rattle.std.specs.List.{range_with_len}
 use Rattle.std.proofs.lemmas.List.{map-append}
 use Rattle.std.proofs.lemmas.List.Elements.{All-cons, All-drop, All-map, All-nil, All-take}
@@ -13,8 +13,8 @@ use Rattle.sql_values.specs.declared.value.Value.{Value}
 use Rattle.sql_values.specs.Cells.{cell, cut}
 use Rattle.sql_values.specs.Blocks.{fits}
 use Rattle.sql_values.specs.ColumnRows.{fits_row}
-use Rattle.page_judges.specs.Typed.{AllFit}
-use Rattle.page_judges.proofs.FilterLemmas.{first_fits, rest_fits}
+use Rattle.col_pages.specs.Fits.{AllFit}
+use Rattle.page_processor.proofs.FilterLemmas.{first_fits, rest_fits}
 
 pub part_fits : (types : List SqlType) (columns : List ℕ) (rows : List (List Value)) (low m : ℕ) → All (λ row. IsTrue (fits_row types (cut columns row))) rows
     → AllFit types (map (cut columns) (take m (drop low rows)))
@@ -69,12 +69,12 @@ pub whole_fit : (types : List SqlType) (rows : List (List Value)) → AllFit typ
 whole_fit types rows all = λ k d l. subst (λ row. IsTrue (fits_row types row)) (sym (whole_row types (get_or rows k d) (all k d l))) (all k d l)
 
 -- the rows of a table that is there, or is not
-pub table_there : (tables : List Table) (n : ℕ) (t : Table) → n < length tables → t ≡ get_or tables n t → table_rows (map rows_of tables) n ≡ t.rows
+pub table_there : (tables : List Table) (n : ℕ) (t : Table) → n < length tables → t ≡ get_or tables n t → table_rows (map rows_of_table tables) n ≡ t.rows
 table_there [] n t l e = absurd (omega arith)
 table_there (u ∷ tables) zero t l e = ap (λ (x : Table). x.rows) (sym e)
 table_there (u ∷ tables) (suc n) t l e = table_there tables n t (omega arith) e
 
-pub table_missing : (tables : List Table) (n : ℕ) → length tables ≤ n → table_rows (map rows_of tables) n ≡ []
+pub table_missing : (tables : List Table) (n : ℕ) → length tables ≤ n → table_rows (map rows_of_table tables) n ≡ []
 table_missing [] n l = refl
 table_missing (u ∷ tables) zero l = absurd (omega arith)
 table_missing (u ∷ tables) (suc n) l = table_missing tables n (omega arith)

@@ -6,7 +6,7 @@ use Rattle.std.proofs.Common.{◌≡◌, ◌<◌, List, [], ◌∷◌, ◌++◌,
 use Rattle.std.proofs.lemmas.List.{append-nil}
 use Rattle.sql_values.specs.declared.types.SqlType.{SqlType}
 use Rattle.col_pages.specs.Pages.{TypedPage}
-use Rattle.page_judges.specs.Typed.{AllFit}
+use Rattle.col_pages.specs.Fits.{AllFit}
 use Rattle.tree_evaluator.specs.Pages.{ArePages, rows_in}
 
 pub rows_more : (pages : List TypedPage) (page : TypedPage) → rows_in (pages ++ page ∷ []) ≡ rows_in pages ++ page.rows

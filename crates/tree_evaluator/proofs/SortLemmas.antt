@@ -19,8 +19,8 @@ use Rattle.sql_values.specs.Order.{IsOrdered, row_cmp}
 use Rattle.sql_values.proofs.OrderLemmas.{row_cmp_total}
 use Rattle.sql_functions.specs.CallTypes.{type_at}
 use Rattle.sql_exprs.specs.Meaning.{kind_of}
-use Rattle.relations.specs.Sorts.{IsSortOf}
-use Rattle.page_judges.specs.Typed.{AllFit}
+use Rattle.relation_laws.specs.Sorts.{IsSortOf}
+use Rattle.col_pages.specs.Fits.{AllFit}
 use Rattle.plan_trees.specs.TreeForms.{TreeForm, scan, values, remote, filter, project, join, aggregate, sort, topn, limit, union}
 use Rattle.plan_trees.specs.TreeTypes.{call_kind, types_of}
 use Rattle.tree_evaluator.specs.Fits.{FitsTables}

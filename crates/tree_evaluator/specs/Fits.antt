@@ -1,12 +1,14 @@
 -- Trees whose expressions have types and whose aggregate calls can be made, over tables and constants
 -- that fit the trees' types.
 use Rattle.std.specs.Prelude.{◌≡◌, ℕ, ◌+◌, ◌<◌, List, ◌∷◌, All, IsTrue, length, map, slice_get, Option, Some, None}
+use Rattle.sql_values.specs.Columns.{kinds}
 use Rattle.sql_values.specs.declared.types.Column.{Column}
 use Rattle.sql_values.specs.declared.types.SqlType.{SqlType}
 use Rattle.sql_values.specs.declared.table.Table.{Table}
 use Rattle.sql_values.specs.declared.value.Value.{Value}
 use Rattle.accumulators.specs.Limits.{are_allowed}
-use Rattle.page_judges.specs.Typed.{AllFit, AllTyped, IsTyped}
+use Rattle.col_pages.specs.Fits.{AllFit}
+use Rattle.page_processor.specs.Typed.{AllTyped, IsTyped}
 use Rattle.plan_trees.specs.TreeForms.{TreeForm, scan, values, remote, filter, project, join, aggregate, sort, topn, limit, union}
 use Rattle.plan_trees.specs.TreeTypes.{types_of}
 use Rattle.plan_trees.specs.Allowed.{scanned}
@@ -26,9 +28,6 @@ FitsTables (sort id keys input) tables = FitsTables input tables
 FitsTables (topn id count keys input) tables = FitsTables input tables
 FitsTables (limit id count input) tables = FitsTables input tables
 FitsTables (union id left right) tables = (types_of left ≡ types_of right) × FitsTables left tables × FitsTables right tables
-
-abbrev pub kinds : List Column → List SqlType
-kinds columns = map (λ column. column.kind) columns
 
 -- each row of each table has a value of the type of each column
 abbrev pub TablesFit : List Table → Type 0

@@ -4,7 +4,7 @@ use Rattle.sql_values.specs.declared.types.SqlType.{SqlType}
 use Rattle.sql_values.specs.declared.value.Value.{Value}
 use Rattle.sql_values.specs.Blocks.{TypedCells, with_cells}
 use Rattle.col_pages.specs.Pages.{TypedPage}
-use Rattle.page_judges.specs.Typed.{AllFit}
+use Rattle.col_pages.specs.Fits.{AllFit}
 
 abbrev pub rows_in : List TypedPage → List (List Value)
 rows_in [] = []

@@ -4,7 +4,7 @@ use Rattle.sql_values.specs.declared.value.Value.{Value}
 use Rattle.sql_values.specs.declared.table.Table.{Table}
 use Rattle.sql_values.specs.declared.fail.Fail.{Fail}
 use Rattle.col_pages.specs.Pages.{TypedPage}
-use Rattle.relations.specs.Verdicts.{Verdict, fails}
+use Rattle.relation_laws.specs.Verdicts.{Verdict, fails}
 use Rattle.plan_trees.specs.TreeForms.{TreeForm, aggregate, filter, limit, project, sort, topn}
 use Rattle.plan_trees.specs.TreeTypes.{types_of}
 use Rattle.plan_trees.specs.Allowed.{Allows}
@@ -12,10 +12,10 @@ use Rattle.plan_trees.specs.Stopped.{MayFail}
 use Rattle.tree_evaluator.specs.declared.stop.EvalStop.{EvalStop}
 use Rattle.tree_evaluator.specs.declared.stop.EvalStop.TheVariants as stop
 
-abbrev pub rows_of : Table → List (List Value)
-rows_of table = table.rows
+abbrev pub rows_of_table : Table → List (List Value)
+rows_of_table table = table.rows
 
--- a node failed that may fail so, or memory was wanting
+-- a node failed that may fail with this kind, or memory was wanting
 abbrev pub StopsFor : TreeForm → List (List (List Value)) → EvalStop → Type 0
 StopsFor tree tables (stop.ExprFailed node kind) = MayFail tree tables node kind
 StopsFor tree tables stop.Memory = Unit {0}
@@ -25,7 +25,7 @@ abbrev pub StopsHere : ℕ → Option Fail → EvalStop → Type 0
 StopsHere id failure (stop.ExprFailed node kind) = (id ≡ node) × (failure ≡ Some kind)
 StopsHere id failure stop.Memory = Unit {0}
 
--- one of the verdicts of this node fails so, or memory was wanting
+-- one of the verdicts of this node fails with this kind, or memory was wanting
 abbrev pub GroupStops : ℕ → List Verdict → EvalStop → Type 0
 GroupStops id verdicts (stop.ExprFailed node kind) = (id ≡ node) × Contains verdicts (fails kind)
 GroupStops id verdicts stop.Memory = Unit {0}

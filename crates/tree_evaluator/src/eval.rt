@@ -3,7 +3,7 @@ ghost use Rattle.sql_values.specs.declared.value.Value.{Value};
 ghost use Rattle.plan_trees.specs.Allowed.{Allows};
 ghost use Rattle.plan_trees.specs.TreeForms.{tree_view};
 ghost use Rattle.tree_evaluator.specs.Fits.{FitsTables};
-ghost use Rattle.tree_evaluator.specs.Stops.{IsEvaluated, IsInput, StopsFor, rows_of};
+ghost use Rattle.tree_evaluator.specs.Stops.{IsEvaluated, IsInput, StopsFor, rows_of_table};
 
 use crate::groups::group_rows;
 use crate::joins::join_rows;
@@ -20,10 +20,10 @@ use std::alloc::Global;
 /// A list of rows that the tree allows over the tables. The tree of a plan that was read fits the
 /// plan's tables; `fits_tables` tells it of any other.
 pub fn evaluate(alloc: Global, tree: &Tree, tables: &[Table]) -> Result<RowList, EvalStop>
-    requires { FitsTables (tree_view tree.now) (map rows_of tables.now) }
+    requires { FitsTables (tree_view tree.now) (map rows_of_table tables.now) }
     ensures { MatchResult result
-        (Allows (tree_view tree.now) (map rows_of tables.now))
-        (StopsFor (tree_view tree.now) (map rows_of tables.now)) }
+        (Allows (tree_view tree.now) (map rows_of_table tables.now))
+        (StopsFor (tree_view tree.now) (map rows_of_table tables.now)) }
 {
     let rows = evaluate_node(alloc, tree, tables)?;
     Ok(list_of(alloc, rows)?)
@@ -31,10 +31,10 @@ pub fn evaluate(alloc: Global, tree: &Tree, tables: &[Table]) -> Result<RowList,
 
 /// The rows of a node, from its inputs up.
 fn evaluate_node(alloc: Global, tree: &Tree, tables: &[Table]) -> Result<NodeRows, EvalStop>
-    requires { FitsTables (tree_view tree.now) (map rows_of tables.now) }
+    requires { FitsTables (tree_view tree.now) (map rows_of_table tables.now) }
     ensures { MatchResult result
-        (IsEvaluated (tree_view tree.now) (map rows_of tables.now))
-        (StopsFor (tree_view tree.now) (map rows_of tables.now)) }
+        (IsEvaluated (tree_view tree.now) (map rows_of_table tables.now))
+        (StopsFor (tree_view tree.now) (map rows_of_table tables.now)) }
 {
     match tree {
         Tree::Scan {

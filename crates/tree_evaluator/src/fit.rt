@@ -4,9 +4,11 @@ ghost use Rattle.accumulators.specs.Limits.{are_allowed};
 ghost use Rattle.plan_trees.specs.Allowed.{scanned};
 ghost use Rattle.plan_trees.specs.TreeForms.{tree_view};
 ghost use Rattle.plan_trees.specs.TreeTypes.{types_of};
-ghost use Rattle.page_judges.specs.Typed.{AllFit, AllTyped, IsTyped};
-ghost use Rattle.tree_evaluator.specs.Fits.{ColumnFits, ColumnsFit, FitsTables, TablesFit, kinds};
-ghost use Rattle.tree_evaluator.specs.Stops.{rows_of};
+ghost use Rattle.col_pages.specs.Fits.{AllFit};
+ghost use Rattle.page_processor.specs.Typed.{AllTyped, IsTyped};
+ghost use Rattle.sql_values.specs.Columns.{kinds};
+ghost use Rattle.tree_evaluator.specs.Fits.{ColumnFits, ColumnsFit, FitsTables, TablesFit};
+ghost use Rattle.tree_evaluator.specs.Stops.{rows_of_table};
 
 use crate::calls::{are_allowed, has_column};
 use plan_trees::{CallList, Tree, types_of_tree};
@@ -20,7 +22,7 @@ use std::alloc::Global;
 pub fn fits_tables(alloc: Global, tree: &Tree, tables: &[Table]) -> Result<bool, Memory>
     requires { TablesFit tables.now }
     ensures { IfOk result
-        (λ fits. IsTrue fits → FitsTables (tree_view tree.now) (map rows_of tables.now)) }
+        (λ fits. IsTrue fits → FitsTables (tree_view tree.now) (map rows_of_table tables.now)) }
 {
     match tree {
         Tree::Scan {
@@ -129,7 +131,7 @@ fn are_typed(alloc: Global, types: &[SqlType], exprs: &[Expr]) -> Result<bool, M
 fn scan_fits(tables: &[Table], table: u32, columns: &[u32], types: &[SqlType]) -> bool
     requires { TablesFit tables.now }
     ensures { IsTrue result → (0 < length types.now) × (length types.now ≡ length columns.now)
-        × AllFit types.now (scanned (map rows_of tables.now) table columns.now) }
+        × AllFit types.now (scanned (map rows_of_table tables.now) table columns.now) }
 {
     if types.is_empty() || types.len() != columns.len() {
         return false;

@@ -1,7 +1,7 @@
 ghost use Rattle.std.specs.Prelude.{◌≡◌, ◌+◌, ◌<◌, ◌++◌, length, map, IfOk, IsTrue, MatchResult};
 ghost use Rattle.sql_functions.specs.CallTypes.{type_at};
-ghost use Rattle.relations.specs.Groups.{groups_of};
-ghost use Rattle.relations.specs.Verdicts.{keeps};
+ghost use Rattle.relation_laws.specs.Groups.{groups_of};
+ghost use Rattle.relation_laws.specs.Verdicts.{keeps};
 ghost use Rattle.plan_trees.specs.TreeTypes.{call_kind};
 ghost use Rattle.accumulators.specs.Limits.{are_allowed};
 ghost use Rattle.aggregation.specs.Tables.{verdicts_of};
@@ -11,8 +11,8 @@ use crate::leaves::constant_rows;
 use crate::node_rows::NodeRows;
 use crate::stop::EvalStop;
 use aggregation::GroupTable;
-use plan_trees::{append_call_types, append_key_types};
-use sql_values::{Call, EvalFault, Memory, RowList, SqlType, Types};
+use plan_trees::grouped_types;
+use sql_values::{Call, EvalFault, Memory, RowList};
 use std::alloc::Global;
 
 /// The row of each group, its key and the results of the calls, or why one of the groups has none.
@@ -30,7 +30,7 @@ pub fn group_rows(
         × (map keeps n.rows ≡ groups_of rows.types keys.now calls.now rows.rows))
         (GroupStops id (groups_of rows.types keys.now calls.now rows.rows)) }
 {
-    let types = grouped_types(alloc, keys, calls, rows.types())?;
+    let types = grouped_types(alloc, rows.types(), keys, calls)?;
     let table = grouped(alloc, keys, calls, rows)?;
     match table.results(types.as_slice()) {
         Ok(held) => {
@@ -41,22 +41,6 @@ pub fn group_rows(
         Err(EvalFault::Fail(kind)) => Err(EvalStop::ExprFailed { node: id, kind }),
         Err(EvalFault::Memory) => Err(EvalStop::Memory),
     }
-}
-
-/// The types of keys and results.
-fn grouped_types(
-    alloc: Global,
-    keys: &[u32],
-    calls: &[Call],
-    types: &[SqlType],
-) -> Result<Types, Memory>
-    ensures { IfOk result
-        (λ ts. ts ≡ map (type_at types.now) keys.now ++ map (call_kind types.now) calls.now) }
-{
-    let mut grouped = Types::new(alloc);
-    append_key_types(&mut grouped, types, keys)?;
-    append_call_types(&mut grouped, types, calls)?;
-    Ok(grouped)
 }
 
 /// The groups of all rows.

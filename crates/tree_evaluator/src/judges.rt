@@ -2,13 +2,14 @@ ghost use Rattle.std.specs.Prelude.{◌≡◌, ◌<◌, ◌++◌, length, map, N
 ghost use Rattle.sql_exprs.specs.Forms.{form_view};
 ghost use Rattle.sql_exprs.specs.Meaning.{kind_of};
 ghost use Rattle.plan_trees.specs.Judges.{filter_judge, project_judge};
-ghost use Rattle.page_judges.specs.Judged.{first_failure, rows_before};
-ghost use Rattle.page_judges.specs.Typed.{AllFit, AllTyped, IsTyped};
+ghost use Rattle.page_processor.specs.Judged.{first_failure, rows_before};
+ghost use Rattle.col_pages.specs.Fits.{AllFit};
+ghost use Rattle.page_processor.specs.Typed.{AllTyped, IsTyped};
 ghost use Rattle.tree_evaluator.specs.Stops.{StopsHere};
 
 use crate::node_rows::NodeRows;
 use crate::stop::EvalStop;
-use page_judges::{Judged, filter_page, project_page};
+use page_processor::{Judged, filter_page, project_page};
 use sql_exprs::Expr;
 use sql_values::SqlType;
 use std::alloc::Global;

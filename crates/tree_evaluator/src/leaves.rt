@@ -3,8 +3,8 @@ ghost use Rattle.std.specs.List.{range_with_len};
 ghost use Rattle.sql_values.specs.Cells.{cut};
 ghost use Rattle.sql_values.specs.ColumnRows.{fits_row};
 ghost use Rattle.plan_trees.specs.Allowed.{scanned};
-ghost use Rattle.tree_evaluator.specs.Stops.{rows_of};
-ghost use Rattle.page_judges.specs.Typed.{AllFit};
+ghost use Rattle.tree_evaluator.specs.Stops.{rows_of_table};
+ghost use Rattle.col_pages.specs.Fits.{AllFit};
 
 use crate::node_rows::NodeRows;
 use col_pages::{MOST_ROWS, Page};
@@ -21,9 +21,9 @@ pub fn scan_table(
 ) -> Result<NodeRows, Memory>
     requires some { 0 < length types.now }
     requires beside { length types.now ≡ length columns.now }
-    requires fits { AllFit types.now (scanned (map rows_of tables.now) table columns.now) }
+    requires fits { AllFit types.now (scanned (map rows_of_table tables.now) table columns.now) }
     ensures { IfOk result
-        (λ n. n ≡ record { types = types.now; rows = scanned (map rows_of tables.now) table columns.now }) }
+        (λ n. n ≡ record { types = types.now; rows = scanned (map rows_of_table tables.now) table columns.now }) }
 {
     match tables.get(table as usize) {
         Some(table) => scan_rows(alloc, &table.rows, types, columns),

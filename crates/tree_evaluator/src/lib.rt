@@ -2,9 +2,9 @@
 //! node's types.
 //!
 //! It is the reference that operators on pages are compared with. The list that it gives is one
-//! that the tree allows, and it stops only on a node that may fail so (`specs/Stops.antt`). The
+//! that the tree allows, and it stops only on a node that may fail with this kind (`specs/Stops.antt`). The
 //! tables fit the tree and its expressions are typed (`specs/Fits.antt`): this is asked for, and
-//! that the tree of a plan that was read has it is the law of `plan_fits`.
+//! that the tree of a plan that was read has it is the law of `plan_fit_laws`.
 //!
 //! - `eval`: `evaluate`
 //! - `fit`: `fits_tables`, whether a tree fits the tables. `calls`: whether aggregate calls can be made
@@ -14,7 +14,7 @@
 //! - `judges`: filters and projects
 //! - `joins`: joins, by a look at each pair of rows
 //! - `groups`: aggregates
-//! - `sorts`: sorts, and with a limit top ns
+//! - `sorts`: sorts, and with a limit top rows
 //! - `lists`: unions and limits
 #![tactic(auto)]
 

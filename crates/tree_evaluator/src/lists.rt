@@ -1,6 +1,6 @@
 ghost use Rattle.std.specs.Prelude.{◌≡◌, ◌-◌, ◌++◌, take, length, IfOk, OnOk};
 ghost use Rattle.sql_values.specs.ColumnRows.{kinds_of};
-ghost use Rattle.page_judges.specs.Typed.{AllFit};
+ghost use Rattle.col_pages.specs.Fits.{AllFit};
 ghost use Rattle.tree_evaluator.specs.Pages.{joined};
 
 use crate::node_rows::NodeRows;

@@ -1,5 +1,5 @@
 ghost use Rattle.std.specs.Prelude.{◌≡◌, ◌<◌, [], ◌++◌, length, IfOk, OnOk, OnErr, MatchOption};
-ghost use Rattle.page_judges.specs.Typed.{AllFit};
+ghost use Rattle.col_pages.specs.Fits.{AllFit};
 
 use col_pages::{Page, PageList};
 use sql_values::{Memory, SqlType, Types};

@@ -1,5 +1,5 @@
 ghost use Rattle.std.specs.Prelude.{◌≡◌, ◌<◌, length, IfOk};
-ghost use Rattle.relations.specs.Sorts.{IsSortOf};
+ghost use Rattle.relation_laws.specs.Sorts.{IsSortOf};
 
 use crate::leaves::constant_rows;
 use crate::lists::list_of;

@@ -6,8 +6,8 @@ use Rattle.sql_values.specs.declared.types.SqlType.{SqlType}
 use Rattle.sql_values.specs.declared.value.Value.{Value}
 use Rattle.sql_values.specs.declared.relational.JoinKind.{JoinKind}
 use Rattle.sql_values.specs.declared.relational.JoinKind.TheVariants.{Inner, Left}
-use Rattle.relations.specs.Joins.{are_partners, beside_each, join_of, nulls, partnered}
-use Rattle.relations.proofs.WidthLemmas.{All-each, All-flat}
+use Rattle.relation_laws.specs.Joins.{are_partners, beside_each, join_of, nulls, partnered}
+use Rattle.relation_laws.proofs.WidthLemmas.{All-each, All-flat}
 use Rattle.group_type_laws.proofs.TypeLemmas.{append-are_of, nulls-are_of}
 use Rattle.tree_type_laws.proofs.RowLemmas.{Has}
 

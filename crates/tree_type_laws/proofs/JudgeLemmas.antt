@@ -12,12 +12,12 @@ use Rattle.sql_functions.specs.Truth.{is_true}
 use Rattle.sql_exprs.specs.Forms.{Form}
 use Rattle.sql_exprs.specs.Meaning.{kind_of, value_of}
 use Rattle.sql_exprs.proofs.TypingLemmas.{kind_is}
-use Rattle.relations.specs.Aggregates.{all_values, with_first}
-use Rattle.relations.specs.Verdicts.{keeps, drops, kept, kept_rows, verdict_of}
-use Rattle.relations.proofs.WidthLemmas.{All-flat}
+use Rattle.relation_laws.specs.Aggregates.{all_values, with_first}
+use Rattle.relation_laws.specs.Verdicts.{keeps, drops, kept, kept_rows, verdict_of}
+use Rattle.relation_laws.proofs.WidthLemmas.{All-flat}
 use Rattle.plan_trees.specs.Judges.{filter_judge, filtered, project_judge}
-use Rattle.page_judges.specs.Typed.{AllTyped, IsTyped}
-use Rattle.page_judges.proofs.ProjectLemmas.{ok_same}
+use Rattle.page_processor.specs.Typed.{AllTyped, IsTyped}
+use Rattle.page_processor.proofs.ProjectLemmas.{ok_same}
 use Rattle.type_laws.specs.Keeps.{CastsToTypes, KeepsType}
 use Rattle.type_laws.proofs.FormLemmas.{value_keeps}
 use Rattle.tree_type_laws.specs.TypedTrees.{EachCastsToTypes}

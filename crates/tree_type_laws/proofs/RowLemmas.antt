@@ -7,7 +7,7 @@ use Rattle.sql_values.specs.declared.types.SqlType.{SqlType}
 use Rattle.sql_values.specs.declared.value.Value.{Value}
 use Rattle.sql_values.specs.Types.{row_has_types}
 use Rattle.sql_values.specs.Bags.{SubBag}
-use Rattle.relations.specs.Sorts.{IsBeginning}
+use Rattle.relation_laws.specs.Sorts.{IsBeginning}
 
 abbrev pub Has : List SqlType → List Value → Type 0
 Has types row = IsTrue (row_has_types types row)

@@ -9,9 +9,9 @@ use Rattle.sql_values.specs.declared.relational.Call.{Call}
 use Rattle.sql_functions.specs.CallTypes.{type_at}
 use Rattle.sql_exprs.specs.Meaning.{kind_of}
 use Rattle.accumulators.specs.Limits.{are_allowed}
-use Rattle.relations.specs.Groups.{groups_of}
-use Rattle.relations.specs.Joins.{join_of}
-use Rattle.relations.specs.Verdicts.{kept}
+use Rattle.relation_laws.specs.Groups.{groups_of}
+use Rattle.relation_laws.specs.Joins.{join_of}
+use Rattle.relation_laws.specs.Verdicts.{kept}
 use Rattle.plan_trees.specs.Allowed.{Gives, Mode, scanned, skipping, width_of}
 use Rattle.plan_trees.specs.Stopped.{MayHaveGiven}
 use Rattle.plan_trees.specs.TreeForms.{TreeForm, scan, values, remote, filter, project, join, aggregate, sort, topn, limit, union}

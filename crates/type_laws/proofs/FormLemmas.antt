@@ -2,7 +2,7 @@
 use Rattle.std.proofs.Common.{◌≡◌, ℕ, zero, suc, ◌+◌, List, [], ◌∷◌, Bool, true, false, if◌then◌else◌, Option, Some, None, refl, sym, subst}
 use Rattle.std.specs.Prelude.{Result, Ok, Err, not, ◌&&◌, slice_get}
 use Rattle.std.specs.List.{list_all, list_any}
-use Rattle.plan_places.specs.declared.key.Key.TheVariants as key
+use Rattle.json_paths.specs.declared.key.Key.TheVariants as key
 use Rattle.std.proofs.lemmas.Bool.{and_from}
 use Rattle.sql_values.proofs.BlockLemmas.{typed_fits}
 use Rattle.sql_values.specs.Blocks.{fits}

@@ -11,7 +11,7 @@ ghost use Rattle.sql_exprs.specs.Meaning.{arg_values, value_of};
 ghost use Rattle.sql_exprs.specs.Typing.{form_type};
 ghost use Rattle.type_laws.specs.Keeps.{ArgsCastToTypes, CastsToTypes, KeepsType, NoneIsNull};
 
-use plan_places::Step;
+use json_paths::Step;
 use sql_exprs::Expr;
 use sql_functions::CallName;
 use sql_values::{Row, SqlType, Value, ValueRef};

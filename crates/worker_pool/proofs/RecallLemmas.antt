@@ -7,7 +7,7 @@ use Rattle.std.proofs.lemmas.Option.{get_or_from_slice_get, slice_get_within}
 use Rattle.feedback_queue.specs.declared.level.Entry.{Entry}
 use Rattle.feedback_queue.specs.Levels.{LevelState}
 use Rattle.feedback_queue.specs.Queue.{FeedbackState, IsTaken, all_waiting, changed_at, gave_turn, waiting_at}
-use Rattle.worker_pool.specs.Items.{Placed}
+use Rattle.worker_pool.specs.Items.{PlacedItem}
 use Rattle.worker_pool.specs.Pools.{PoolState, weigh, with_returned}
 
 module _ {W : Type 0} (h : Entry W → ℕ) where
@@ -31,8 +31,8 @@ module _ {W : Type 0} (h : Entry W → ℕ) where
       (in_levels old.levels is.pick.level is.pick.place (record { work = taken.0; waiter = taken.1 }) is.there)
 
 -- who is taken and kept is still in the pool
-pub kept_weighs : {T : Type 0} (has_failed : T → Bool) (pool : PoolState T) (ready : FeedbackState (Placed T)) (taken : ℕ × Placed T) → IsTaken pool.ready taken ready
-    → (h : Placed T → ℕ) → weigh h (with_returned has_failed taken.1 (record pool { ready = ready })) ≡ weigh h pool
+pub kept_weighs : {T : Type 0} (has_failed : T → Bool) (pool : PoolState T) (ready : FeedbackState (PlacedItem T)) (taken : ℕ × PlacedItem T) → IsTaken pool.ready taken ready
+    → (h : PlacedItem T → ℕ) → weigh h (with_returned has_failed taken.1 (record pool { ready = ready })) ≡ weigh h pool
 kept_weighs has_failed pool ready taken is h =
     omega (arith, sum_by_push h pool.returned taken.1, still_wait (λ e. h e.waiter) pool.ready ready taken is)
 

@@ -1,21 +1,21 @@
 -- A pool: who is ready for a turn, and what a pick and a put make of it.
 use Rattle.std.specs.Prelude.{◌≡◌, ◌⊎◌, ℕ, ◌+◌, ◌-◌, List, [], ◌∷◌, ◌++◌, Bool, true, false, ◌||◌, if◌then◌else◌, Option, Some, None, is_some, sum_by}
-use Rattle.blocked.specs.Counts.{next_count}
+use Rattle.count_laws.specs.Counts.{next_count}
 use Rattle.feedback_queue.specs.Queue.{FeedbackState, IsTaken, after_offer, all_waiting}
 use Rattle.worker_pool.specs.declared.pool.Next.{Next}
 use Rattle.worker_pool.specs.declared.pool.Next.TheVariants.{Turn, Wait, Over}
-use Rattle.worker_pool.specs.Items.{Placed, Waiting}
+use Rattle.worker_pool.specs.Items.{PlacedItem, Waiting}
 
 -- who is ready, who came back, how many are having a turn, who failed first, and whether one was given up for want of memory
 pub record PoolState (T : Type 0) : Type 0 where
-  pub ready : FeedbackState (Placed T)
-  pub returned : List (Placed T)
+  pub ready : FeedbackState (PlacedItem T)
+  pub returned : List (PlacedItem T)
   pub at_work : ℕ
   pub first_failed : Option ℕ
   pub is_short : Bool
 
 -- what those that are ready, and those that came back, weigh together, whatever each weighs
-abbrev pub weigh : {T : Type 0} → (Placed T → ℕ) → PoolState T → ℕ
+abbrev pub weigh : {T : Type 0} → (PlacedItem T → ℕ) → PoolState T → ℕ
 weigh h pool = sum_by (λ e. h e.waiter) (all_waiting pool.ready) + sum_by h pool.returned
 
 -- no more turns are given
@@ -23,7 +23,7 @@ abbrev pub stops : {T : Type 0} → PoolState T → Bool
 stops pool = is_some pool.first_failed || pool.is_short
 
 -- with one more, by the work that was done for it
-abbrev pub offered : {T : Type 0} → (T → ℕ) → Placed T → PoolState T → PoolState T
+abbrev pub offered : {T : Type 0} → (T → ℕ) → PlacedItem T → PoolState T → PoolState T
 offered work x pool = record pool { ready = after_offer (work x.item) x pool.ready }
 
 -- with all who waited, in their order
@@ -46,14 +46,14 @@ first_of None false place = None
 first_of None true place = Some place
 
 -- with one who came back
-abbrev pub with_returned : {T : Type 0} → (T → Bool) → Placed T → PoolState T → PoolState T
+abbrev pub with_returned : {T : Type 0} → (T → Bool) → PlacedItem T → PoolState T → PoolState T
 with_returned has_failed x pool = record pool {
   returned = pool.returned ++ x ∷ [];
   first_failed = first_of pool.first_failed (has_failed x.item) x.place;
 }
 
 -- with one that comes: it is ready, unless it needs no turn
-abbrev pub admitted : {T : Type 0} → (T → ℕ) → (T → Bool) → (T → Bool) → Placed T → PoolState T → PoolState T
+abbrev pub admitted : {T : Type 0} → (T → ℕ) → (T → Bool) → (T → Bool) → PlacedItem T → PoolState T → PoolState T
 admitted work is_finished has_failed x pool = if is_finished x.item || has_failed x.item then with_returned has_failed x pool else offered work x pool
 
 -- with all that come, numbered from a place on
@@ -69,7 +69,7 @@ all_returned has_failed (w ∷ ws) pool = all_returned has_failed ws (with_retur
 
 -- The one that the queue picks has a turn. One waits only while another is having a turn, who may make one ready.
 -- It is over where no more turns are given, or nobody can make one ready.
-abbrev pub IsPicked : {T : Type 0} → PoolState T → Next (Placed T) → PoolState T → Type 0
+abbrev pub IsPicked : {T : Type 0} → PoolState T → Next (PlacedItem T) → PoolState T → Type 0
 IsPicked old (Turn x turn) new =
     (stops old ≡ false)
     × ((work : ℕ) × IsTaken old.ready (work, x) new.ready)

@@ -1,7 +1,7 @@
 //! Who is ready for a turn, and who has come back: what workers share behind one lock.
 ghost use Rattle.std.specs.Prelude.{◌≡◌, [], true, false, Some, None, ℕ, IfOk, MatchResult, OnOk, slice_get, sum_by};
 ghost use Rattle.feedback_queue.specs.Queue.{all_waiting, empty_queue};
-ghost use Rattle.worker_pool.specs.Items.{Placed};
+ghost use Rattle.worker_pool.specs.Items.{PlacedItem};
 ghost use Rattle.worker_pool.specs.Pools.{IsPicked, admitted, all_admitted, all_offered, all_returned, fell_short, first_of, left_work, offered, stops, weigh, with_returned};
 
 use crate::runner::{Returned, Roster, Runner, Waiter};
@@ -184,7 +184,7 @@ impl<T: TakesTurns, J: Roster<T>> Pool<T, J> {
     /// Keeps all that are ready.
     #[tactic(auto, using(crate::proofs::RecallLemmas::kept_weighs, crate::proofs::RecallLemmas::fewer_wait))]
     fn recall(&mut self) -> Result<(), Memory>
-        ensures all { OnOk result ((h : Placed T → ℕ) → weigh h self.new ≡ weigh h self.old) }
+        ensures all { OnOk result ((h : PlacedItem T → ℕ) → weigh h self.new ≡ weigh h self.old) }
         ensures none { OnOk result (all_waiting self.new.ready ≡ []) }
     {
         while let Some((_work, runner)) = self.ready.take() {
@@ -195,7 +195,7 @@ impl<T: TakesTurns, J: Roster<T>> Pool<T, J> {
 
     /// Hands out all that came back or are ready, and the place of the one that failed first.
     pub(crate) fn close(mut self) -> Result<(Vec<Returned<T, J>>, Option<usize>), Memory>
-        ensures { IfOk result (λ r. (h : Placed T → ℕ) → sum_by h r.0.items ≡ weigh h self) }
+        ensures { IfOk result (λ r. (h : PlacedItem T → ℕ) → sum_by h r.0.items ≡ weigh h self) }
     {
         self.recall()?;
         if self.is_short {

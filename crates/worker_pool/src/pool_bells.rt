@@ -1,6 +1,6 @@
 //! The bells of a pool, as a turn sees them.
 ghost use Rattle.std.specs.Prelude.{◌≤◌, min};
-ghost use Rattle.blocked.specs.Counts.{most_count};
+ghost use Rattle.count_laws.specs.Counts.{most_count};
 
 use crate::runner::Roster;
 use crate::shared::Shared;

@@ -24,9 +24,9 @@ pub(crate) struct Runner<T: TakesTurns, J: Roster<T>> {
 }
 
 impl<T: TakesTurns, J: Roster<T>> Model for Runner<T, J> {
-    ghost use Rattle.worker_pool.specs.Items.{Placed, IsRunner};
+    ghost use Rattle.worker_pool.specs.Items.{PlacedItem, IsRunner};
 
-    ghost Value = { Placed T };
+    ghost Value = { PlacedItem T };
 
     ghost view = { λ r. record { place = r.place; item = r.item } };
 
@@ -79,9 +79,9 @@ pub(crate) struct Returned<T: TakesTurns, J: Roster<T>> {
 }
 
 impl<T: TakesTurns, J: Roster<T>> Model for Returned<T, J> {
-    ghost use Rattle.worker_pool.specs.Items.{Placed, CameAs};
+    ghost use Rattle.worker_pool.specs.Items.{PlacedItem, CameAs};
 
-    ghost Value = { Placed T };
+    ghost Value = { PlacedItem T };
 
     ghost view = { λ r. record { place = r.place; item = r.item } };
 

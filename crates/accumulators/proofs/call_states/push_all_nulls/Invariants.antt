@@ -1,7 +1,7 @@
 use Rattle.std.proofs.Common.{◌≡◌, ◌++◌, take}
 use Rattle.std.specs.Prelude.{replicate, sum_by}
 use Rattle.sql_values.specs.declared.value.Value.TheVariants.{Null}
-use Rattle.relations.specs.Partials.{call_width}
+use Rattle.relation_laws.specs.Partials.{call_width}
 use Rattle.accumulators.specs.Kept.{calls_of}
 use Rattle.accumulators.proofs.call_states.push_all_nulls.Given as goal
 

@@ -1,6 +1,6 @@
 use Rattle.std.proofs.Common.{◌≡◌, List, ◌∙◌, subst, sym}
 use Rattle.sql_values.specs.declared.types.SqlType.{SqlType}
-use Rattle.aggregation.specs.Giving.{FitsTypes}
+use Rattle.col_pages.specs.Fits.{IsOfTypes}
 use Rattle.plan_trees.specs.Layouts.{layout_types}
 use Rattle.aggregation_tests.proofs.halves.second_half.Goals as goal
 
@@ -10,8 +10,7 @@ loop-page-init c =
     = c.requires.layout
     ∙ (λ i. layout_types (sym c.in_ok-from_slice.ensures.items i) (sym c.in_ok-from_slice-3.ensures.items i) (sym c.in_ok-from_slice-2.ensures.items i)) in
     λ p fit.
-    let typed = subst (λ (ts : List SqlType). FitsTypes ts p) layout fit in
-    (c.in_ok-op.ensures.takes p).1 (record { of_types = typed.0; fit = typed.1 })
+    (c.in_ok-op.ensures.takes p).1 (subst (λ (ts : List SqlType). IsOfTypes ts p) layout fit)
 
 pub take_in-requires : goal.take_in-requires
 take_in-requires c =
@@ -20,4 +19,4 @@ take_in-requires c =
 
 pub loop-page-preserved : goal.loop-page-preserved
 loop-page-preserved c =
-    λ p fit. c.take_in.ensures p (fit.0 ∙ sym c.in_ok-copied.ensures.0) (c.loop-page.invariant p fit)
+    λ p fit. c.take_in.ensures p (fit.of_types ∙ sym c.in_ok-copied.ensures.of_types) (c.loop-page.invariant p fit)

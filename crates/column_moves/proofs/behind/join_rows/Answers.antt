@@ -11,9 +11,9 @@ of_columns-requires-clause-some c =
     let cs = c.into_columns-columns.result.items in
     let ds = c.into_columns.result.items in
     let same : kinds_of cs ≡ kinds_of ds = c.into_columns-columns.ensures.kinds ∙ c.requires.types ∙ sym c.into_columns.ensures.kinds in
-    let is : c.append_each.new.columns.items ≡ joined cs ds = c.in_ok-append_each.ensures.ok ∙ ap (joined cs) c.deref.ensures.value in
+    let is : c.append_all.new.columns.items ≡ joined cs ds = c.in_ok-append_all.ensures in
     let some : 0 < length cs = omega (arith, c.types.ensures.some, ap length c.into_columns-columns.ensures.kinds, length-map cs (λ (d : TypedCells). d.kind)) in
-    whole-some cs ds c.append_each.new.columns.items c.args.left.rows c.args.right.rows same is some
+    whole-some cs ds c.append_all.new.columns.items c.args.left.rows c.args.right.rows same is some
     c.into_columns-columns.ensures.level c.into_columns.ensures.level c.into_columns-columns.ensures.rows c.into_columns.ensures.rows
 
 pub of_columns-requires-clause-kinds : goal.of_columns-requires-clause-kinds
@@ -21,9 +21,9 @@ of_columns-requires-clause-kinds c =
     let cs = c.into_columns-columns.result.items in
     let ds = c.into_columns.result.items in
     let same : kinds_of cs ≡ kinds_of ds = c.into_columns-columns.ensures.kinds ∙ c.requires.types ∙ sym c.into_columns.ensures.kinds in
-    let is : c.append_each.new.columns.items ≡ joined cs ds = c.in_ok-append_each.ensures.ok ∙ ap (joined cs) c.deref.ensures.value in
+    let is : c.append_all.new.columns.items ≡ joined cs ds = c.in_ok-append_all.ensures in
     let some : 0 < length cs = omega (arith, c.types.ensures.some, ap length c.into_columns-columns.ensures.kinds, length-map cs (λ (d : TypedCells). d.kind)) in
-    whole-kinds cs ds c.append_each.new.columns.items c.args.left.rows c.args.right.rows same is some
+    whole-kinds cs ds c.append_all.new.columns.items c.args.left.rows c.args.right.rows same is some
     c.into_columns-columns.ensures.level c.into_columns.ensures.level c.into_columns-columns.ensures.rows c.into_columns.ensures.rows
     ∙ c.into_columns-columns.ensures.kinds ∙ sym (c.in_ok-types.ensures.items ∙ c.types.ensures.types)
 
@@ -32,9 +32,9 @@ of_columns-requires-clause-level c =
     let cs = c.into_columns-columns.result.items in
     let ds = c.into_columns.result.items in
     let same : kinds_of cs ≡ kinds_of ds = c.into_columns-columns.ensures.kinds ∙ c.requires.types ∙ sym c.into_columns.ensures.kinds in
-    let is : c.append_each.new.columns.items ≡ joined cs ds = c.in_ok-append_each.ensures.ok ∙ ap (joined cs) c.deref.ensures.value in
+    let is : c.append_all.new.columns.items ≡ joined cs ds = c.in_ok-append_all.ensures in
     let some : 0 < length cs = omega (arith, c.types.ensures.some, ap length c.into_columns-columns.ensures.kinds, length-map cs (λ (d : TypedCells). d.kind)) in
-    whole-filled cs ds c.append_each.new.columns.items c.args.left.rows c.args.right.rows same is some
+    whole-filled cs ds c.append_all.new.columns.items c.args.left.rows c.args.right.rows same is some
     c.into_columns-columns.ensures.level c.into_columns.ensures.level c.into_columns-columns.ensures.rows c.into_columns.ensures.rows
 
 pub returns : goal.returns
@@ -42,9 +42,9 @@ returns c =
     let cs = c.into_columns-columns.result.items in
     let ds = c.into_columns.result.items in
     let same : kinds_of cs ≡ kinds_of ds = c.into_columns-columns.ensures.kinds ∙ c.requires.types ∙ sym c.into_columns.ensures.kinds in
-    let is : c.append_each.new.columns.items ≡ joined cs ds = c.in_ok-append_each.ensures.ok ∙ ap (joined cs) c.deref.ensures.value in
+    let is : c.append_all.new.columns.items ≡ joined cs ds = c.in_ok-append_all.ensures in
     let some : 0 < length cs = omega (arith, c.types.ensures.some, ap length c.into_columns-columns.ensures.kinds, length-map cs (λ (d : TypedCells). d.kind)) in
-    let rows = whole-rows cs ds c.append_each.new.columns.items c.args.left.rows c.args.right.rows same is some
+    let rows = whole-rows cs ds c.append_all.new.columns.items c.args.left.rows c.args.right.rows same is some
     c.into_columns-columns.ensures.level c.into_columns.ensures.level c.into_columns-columns.ensures.rows c.into_columns.ensures.rows in
     let types : c.in_ok-types.types.items ≡ c.args.left.types = c.in_ok-types.ensures.items ∙ c.types.ensures.types in
     c.of_columns.ensures ∙ (λ i. record { types = types i; rows = rows i; begun = [] })

@@ -3,7 +3,7 @@ use Rattle.std.proofs.lemmas.Result.{err_from_is_err_and}
 use Rattle.csv.specs.Records.{fields_of}
 use Rattle.sql_values.specs.Cells.{lent_value}
 use Rattle.sql_values.specs.ColumnRows.{TypedRows}
-use Rattle.csv_tables.specs.Tables.{kinds}
+use Rattle.sql_values.specs.Columns.{kinds}
 use Rattle.csv_tables.proofs.BuildLemmas.{cell_fits, one_put}
 use Rattle.csv_tables.proofs.RowLemmas.{cells_short, cells_step, goes_on, is_done, stops}
 use Rattle.csv_tables.proofs.rows.read_cells.Goals as goal

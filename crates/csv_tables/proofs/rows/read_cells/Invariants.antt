@@ -1,6 +1,7 @@
 use Rattle.std.proofs.Common.{◌≡◌, drop, length}
 use Rattle.csv.specs.Records.{fields_of}
-use Rattle.csv_tables.specs.Tables.{cells_from, kinds}
+use Rattle.sql_values.specs.Columns.{kinds}
+use Rattle.csv_tables.specs.Tables.{cells_from}
 use Rattle.csv_tables.proofs.RowLemmas.{after}
 use Rattle.csv_tables.proofs.rows.read_cells.Given as goal
 

@@ -1,5 +1,6 @@
 use Rattle.std.proofs.Common.{◌≡◌, ◌≤◌, ◌+◌, [], length}
-use Rattle.csv_tables.specs.Tables.{kinds, rows_from}
+use Rattle.sql_values.specs.Columns.{kinds}
+use Rattle.csv_tables.specs.Tables.{rows_from}
 use Rattle.csv_tables.proofs.RowLemmas.{after}
 use Rattle.csv_tables.proofs.rows.read_rows.Given as goal
 

@@ -1,5 +1,5 @@
 use Rattle.std.proofs.Common.{◌<◌, ◌∙◌, length}
-use Rattle.driver_nets.specs.Settled.{deals_from, deals_in}
+use Rattle.driver_net_laws.specs.Settled.{deals_from, deals_in}
 use Rattle.plan_layout.specs.Pipes.{PipeForm}
 use Rattle.net_closing.specs.Back.{FetchHasTask}
 use Rattle.net_closing.proofs.HeldLemmas.{fewer_than_fewer}

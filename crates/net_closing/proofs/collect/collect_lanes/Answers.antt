@@ -1,5 +1,5 @@
 use Rattle.std.proofs.Common.{◌∷◌, [], ◌∙◌, ap, sym, append-nil}
-use Rattle.driver_nets.specs.Settled.{of_lane, of_number}
+use Rattle.driver_net_laws.specs.Settled.{of_lane, of_number}
 use Rattle.plan_layout.specs.Pipes.{pipe_view}
 use Rattle.net_closing.specs.Left.{at_place}
 use Rattle.net_closing.proofs.HeldLemmas.{fewer_than_fewer}

@@ -1,5 +1,5 @@
 use Rattle.std.proofs.Common.{◌<◌, ◌∙◌, length}
-use Rattle.driver_nets.specs.Settled.{puts_from}
+use Rattle.driver_net_laws.specs.Settled.{puts_from}
 use Rattle.plan_layout.specs.Pipes.{PipeForm}
 use Rattle.net_closing.specs.Back.{SideHasTask}
 use Rattle.net_closing.specs.Left.{outlets_of}

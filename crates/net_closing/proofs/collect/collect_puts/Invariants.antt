@@ -1,7 +1,7 @@
 use Rattle.std.proofs.Common.{◌≡◌, ◌++◌, List, drop, map}
 use Rattle.std.specs.Prelude.{All}
 use Rattle.driver_loop.specs.Drivers.{DriverState}
-use Rattle.driver_nets.specs.Settled.{puts_into}
+use Rattle.driver_net_laws.specs.Settled.{puts_into}
 use Rattle.plan_layout.specs.Pipes.{pipe_view}
 use Rattle.net_closing.specs.Back.{SideHasTask}
 use Rattle.net_closing.specs.Held.{HoldsNoMore}

@@ -1,5 +1,5 @@
 use Rattle.std.proofs.Common.{◌≡◌, ◌++◌, sym, subst, append-nil}
-use Rattle.driver_nets.specs.Settled.{puts_from}
+use Rattle.driver_net_laws.specs.Settled.{puts_from}
 use Rattle.plan_layout.specs.Pipes.{pipe_view, target_view}
 use Rattle.plan_layout.specs.declared.pipe.PipeTarget.{PipeTarget}
 use Rattle.net_closing.specs.Back.{HasTask}

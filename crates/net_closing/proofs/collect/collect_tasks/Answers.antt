@@ -1,4 +1,4 @@
-use Rattle.driver_nets.specs.Settled.{in_task}
+use Rattle.driver_net_laws.specs.Settled.{in_task}
 use Rattle.plan_layout.specs.Pipes.{pipe_view}
 use Rattle.std.proofs.Common.{refl}
 use Rattle.net_closing.specs.Left.{at_place}

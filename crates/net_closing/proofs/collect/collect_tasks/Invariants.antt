@@ -1,7 +1,7 @@
 use Rattle.std.proofs.Common.{◌≡◌, ◌++◌, List}
 use Rattle.bag_laws.specs.Gather.{gather}
 use Rattle.driver_loop.specs.Drivers.{DriverState}
-use Rattle.driver_nets.specs.Settled.{in_task}
+use Rattle.driver_net_laws.specs.Settled.{in_task}
 use Rattle.plan_layout.specs.Pipes.{pipe_view}
 use Rattle.net_closing.specs.Held.{HoldsNoMore}
 use Rattle.net_closing.specs.Left.{AreLeft, at_place}

@@ -2,7 +2,7 @@ use Rattle.std.proofs.Common.{◌≤◌, ◌∙◌, List, ap, arith, length, ref
 use Rattle.std.specs.Prelude.{All}
 use Rattle.std.proofs.lemmas.List.{take_all}
 use Rattle.driver_loop.specs.declared.pieces.CellNote.{CellNote}
-use Rattle.driver_laws.specs.Cells.{LearnedFrom}
+use Rattle.driver_net_laws.specs.Cells.{LearnedFrom}
 use Rattle.net_closing.proofs.NoteLemmas.{all_compared, same_at}
 use Rattle.net_closing.proofs.notes.all_follow.Goals as goal
 

@@ -1,6 +1,6 @@
 use Rattle.std.proofs.Common.{◌≡◌, take}
 use Rattle.std.specs.Prelude.{All}
-use Rattle.driver_laws.specs.Cells.{LearnedFrom}
+use Rattle.driver_net_laws.specs.Cells.{LearnedFrom}
 use Rattle.driver_loop.specs.declared.pieces.CellNote.{CellNote}
 use Rattle.net_closing.proofs.notes.all_follow.Given as goal
 

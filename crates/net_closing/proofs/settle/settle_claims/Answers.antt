@@ -1,6 +1,6 @@
 use Rattle.std.proofs.Common.{◌<◌, arith, length}
 use Rattle.driver_loop.specs.Ends.{claim_of}
-use Rattle.driver_nets.specs.Settled.{claims_in}
+use Rattle.driver_net_laws.specs.Settled.{claims_in}
 use Rattle.plan_layout.specs.Pipes.{pipe_view}
 use Rattle.net_closing.proofs.BackLemmas.{claims_back, claims_settle, piped, some_if}
 use Rattle.net_closing.proofs.settle.settle_claims.Goals as goal

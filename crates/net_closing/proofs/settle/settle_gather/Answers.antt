@@ -1,10 +1,10 @@
 use Rattle.std.proofs.Common.{◌∙◌, sym}
 use Rattle.driver_loop.specs.Seats.{gather_take_of}
-use Rattle.driver_nets.specs.Settled.{gather_takes_in}
+use Rattle.driver_net_laws.specs.Settled.{gather_takes_in}
 use Rattle.std.proofs.Common.{map}
 use Rattle.plan_layout.specs.Pipes.{pipe_view}
 use Rattle.net_closing.proofs.BackLemmas.{begun, gather_back, gathers_settle, tasked}
-use Rattle.driver_nets.specs.Settled.{puts_into}
+use Rattle.driver_net_laws.specs.Settled.{puts_into}
 use Rattle.net_closing.proofs.settle.settle_gather.Goals as goal
 
 pub stop_gather-requires-clause-edge : goal.stop_gather-requires-clause-edge

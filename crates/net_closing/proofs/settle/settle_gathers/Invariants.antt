@@ -1,6 +1,6 @@
 use Rattle.std.proofs.Common.{◌<◌, ℕ, List, map}
 use Rattle.driver_loop.specs.Drivers.{DriverState}
-use Rattle.driver_nets.specs.Settled.{GatherIsBack, gather_takes_in, in_task}
+use Rattle.driver_net_laws.specs.Settled.{GatherIsBack, gather_takes_in, in_task}
 use Rattle.plan_layout.specs.Pipes.{pipe_view}
 use Rattle.net_closing.specs.Left.{ArePartsOf, StayParts}
 use Rattle.net_closing.proofs.settle.settle_gathers.Given as goal

@@ -1,6 +1,6 @@
 use Rattle.std.proofs.Common.{◌∙◌, arith, map, sym}
 use Rattle.driver_loop.specs.Seats.{spread_take_of}
-use Rattle.driver_nets.specs.Settled.{deals_into, spread_takes_in}
+use Rattle.driver_net_laws.specs.Settled.{deals_into, spread_takes_in}
 use Rattle.plan_layout.specs.Pipes.{pipe_view}
 use Rattle.net_closing.proofs.BackLemmas.{begun, some_if, spread_back, spreads_settle, tasked}
 use Rattle.net_closing.proofs.settle.settle_spread.Goals as goal

@@ -1,6 +1,6 @@
 use Rattle.std.proofs.Common.{◌<◌, ℕ, List, map}
 use Rattle.driver_loop.specs.Drivers.{DriverState}
-use Rattle.driver_nets.specs.Settled.{SpreadIsBack, in_task, spread_takes_in}
+use Rattle.driver_net_laws.specs.Settled.{SpreadIsBack, in_task, spread_takes_in}
 use Rattle.plan_layout.specs.Pipes.{pipe_view}
 use Rattle.net_closing.specs.Left.{ArePartsOf, StayParts}
 use Rattle.net_closing.proofs.settle.settle_spreads.Given as goal

@@ -1,8 +1,8 @@
 use Rattle.std.proofs.Common.{List, ℕ, ap, map, subst, sym}
 use Rattle.plan_layout.specs.Pipes.{StepForm, pipe_view, step_view}
-use Rattle.driver_nets.specs.Makes.{StepsFit}
-use Rattle.driver_nets.specs.Nets.{AreStagesFor, IsTargetFor}
-use Rattle.driver_nets.specs.Types.{PipeTypes}
+use Rattle.driver_net_laws.specs.Makes.{StepsFit}
+use Rattle.driver_net_laws.specs.Nets.{AreStagesFor, IsTargetFor}
+use Rattle.driver_net_laws.specs.Types.{PipeTypes}
 use Rattle.net_making.specs.Makings.{typing_in}
 use Rattle.net_making.proofs.DriverLemmas.{made_for, made_new, ok_left}
 use Rattle.net_making.proofs.StockLemmas.{left_then, nets_left, stocked_left}

@@ -2,10 +2,10 @@ use Rattle.std.proofs.Common.{arith, subst}
 use Rattle.std.proofs.lemmas.List.{length-map}
 use Rattle.std.specs.Prelude.{All}
 use Rattle.plan_layout.specs.Pipes.{pipe_view}
-use Rattle.driver_nets.specs.Nets.{AreDriversOf}
+use Rattle.driver_net_laws.specs.Nets.{AreDriversOf}
 use Rattle.net_making.specs.Makings.{InNets}
 use Rattle.net_making.specs.Slots.{IsNew}
-use Rattle.pipe_types.proofs.EachLemmas.{mapped_at}
+use Rattle.pipe_stages.proofs.EachLemmas.{mapped_at}
 use Rattle.net_making.proofs.LaneLemmas.{Made, Pipes, all_made, all_new, answered, no_pipes, one_pipe}
 use Rattle.net_making.proofs.StockLemmas.{stocked_left}
 use Rattle.net_making.proofs.pipes.make_all.Goals as goal
@@ -29,13 +29,13 @@ pub returns-clause-fresh : goal.returns-clause-fresh
 returns-clause-fresh g c =
     let m = c.args.making.now in
     let made = subst (λ old. Made m (Pipes m c.loop-own.own) c.args.stock c.loop-own.stock old c.loop-own.slots) c.in_ok-slots.ensures c.loop-own.invariant in
-    answered (λ v. v.items) c.into_drivers.result c.loop-own.slots (All IsNew) c.into_drivers.ensures
+    answered (λ v. v.items) c.into_items.result c.loop-own.slots (All IsNew) c.into_items.ensures
     (λ ds are. all_new m c.in_ok-count.count c.loop-own.own c.args.stock c.loop-own.stock c.loop-own.slots ds made are)
 
 pub returns-clause-are : goal.returns-clause-are
 returns-clause-are g c =
     let m = c.args.making.now in
     let made = subst (λ old. Made m (Pipes m c.loop-own.own) c.args.stock c.loop-own.stock old c.loop-own.slots) c.in_ok-slots.ensures c.loop-own.invariant in
-    answered (λ v. v.items) c.into_drivers.result c.loop-own.slots (λ ds. InNets m c.args.stock (λ net. AreDriversOf net ds)) c.into_drivers.ensures
+    answered (λ v. v.items) c.into_items.result c.loop-own.slots (λ ds. InNets m c.args.stock (λ net. AreDriversOf net ds)) c.into_items.ensures
     (λ ds are. all_made m c.in_ok-count.count c.loop-own.own c.args.stock c.loop-own.stock c.loop-own.slots ds made are c.requires.can
     (omega (arith, c.loop-own-test.false, length-map m.pipes.now pipe_view)) c.in_ok-count.ensures)

@@ -1,5 +1,5 @@
 use Rattle.std.proofs.Common.{◌∙◌, ap, refl, sym}
-use Rattle.key_index.specs.Keys.{IndexedRows}
+use Rattle.join_index.specs.Keys.{IndexedRows}
 use Rattle.driver_loop.specs.Builds.{BuildState}
 use Rattle.net_making.proofs.target.build_target.Goals as goal
 

@@ -1,6 +1,6 @@
 use Rattle.std.proofs.Common.{◌≡◌, [], ◌∷◌}
 use Rattle.sql_values.specs.declared.types.SqlType.TheVariants.{Bigint}
-use Rattle.page_judges.specs.Typed.{AllFit}
+use Rattle.col_pages.specs.Fits.{AllFit}
 use Rattle.operator_tests.proofs.steps.page_of.Given as goal
 
 abbrev pub invariant-loop-word : goal.invariant-loop-word

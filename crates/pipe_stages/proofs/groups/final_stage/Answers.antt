@@ -5,7 +5,7 @@ use Rattle.sql_values.specs.declared.relational.Call.{Call}
 use Rattle.sql_functions.specs.CallTypes.{type_at}
 use Rattle.plan_trees.specs.Layouts.{layout_types}
 use Rattle.plan_trees.specs.TreeTypes.{call_kind}
-use Rattle.plan_runs.specs.Nets.{final}
+use Rattle.plan_run_laws.specs.Nets.{final}
 use Rattle.aggregation.specs.contracts.final_agg.FinalAggOperator.TheImpl.{ghosts}
 use Rattle.driver_loop.specs.declared.stage.Stage.TheVariants.{Final}
 use Rattle.stage_meanings.specs.Meanings.{Means}

@@ -2,7 +2,7 @@ use Rattle.std.proofs.Common.{◌∷◌, [], ℕ, List, refl, subst}
 use Rattle.sql_values.specs.declared.types.SqlType.{SqlType}
 use Rattle.sql_values.specs.declared.relational.Call.{Call}
 use Rattle.plan_trees.specs.Layouts.{partial_types}
-use Rattle.plan_runs.specs.Nets.{partial}
+use Rattle.plan_run_laws.specs.Nets.{partial}
 use Rattle.aggregation.specs.contracts.partial.PartialAggOperator.TheImpl.{ghosts}
 use Rattle.driver_loop.specs.declared.stage.Stage.TheVariants.{Partial}
 use Rattle.stage_meanings.specs.Meanings.{Means}

@@ -3,7 +3,7 @@ use Rattle.sql_values.specs.declared.types.SqlType.{SqlType}
 use Rattle.sql_values.specs.declared.relational.Call.{Call}
 use Rattle.sql_functions.specs.CallTypes.{type_at}
 use Rattle.plan_trees.specs.TreeTypes.{call_kind}
-use Rattle.plan_runs.specs.Nets.{grouping}
+use Rattle.plan_run_laws.specs.Nets.{grouping}
 use Rattle.aggregation.specs.contracts.single.SingleAggOperator.TheImpl.{ghosts}
 use Rattle.driver_loop.specs.declared.stage.Stage.TheVariants.{Single}
 use Rattle.stage_meanings.specs.Meanings.{Means}

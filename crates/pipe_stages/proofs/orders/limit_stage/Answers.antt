@@ -1,6 +1,6 @@
 use Rattle.std.proofs.Common.{refl}
 use Rattle.driver_loop.specs.declared.stage.Stage.TheVariants.{Limit}
-use Rattle.plan_runs.specs.Nets.{limit}
+use Rattle.plan_run_laws.specs.Nets.{limit}
 use Rattle.stage_meanings.specs.Pipelines.{at_node}
 use Rattle.pipe_stages.proofs.StageLemmas.{limit_means, stage_is}
 use Rattle.pipe_stages.proofs.orders.limit_stage.Goals as goal

@@ -2,7 +2,7 @@ use Rattle.std.proofs.Common.{◌∷◌, [], List, refl, subst}
 use Rattle.sql_values.specs.declared.order.KeySpec.{KeySpec}
 use Rattle.driver_loop.specs.contracts.stage.StageOperator.TheImpl.{ghosts}
 use Rattle.driver_loop.specs.declared.stage.Stage.TheVariants.{Sort}
-use Rattle.plan_runs.specs.Nets.{sort}
+use Rattle.plan_run_laws.specs.Nets.{sort}
 use Rattle.stage_meanings.specs.Meanings.{Means}
 use Rattle.stage_meanings.specs.Pipelines.{at_node}
 use Rattle.pipe_stages.proofs.StageLemmas.{sort_means, stage_is}

@@ -2,8 +2,8 @@ use Rattle.std.proofs.Common.{List, drop, map, subst}
 use Rattle.std.proofs.lemmas.List.{at_drop_all}
 use Rattle.sql_values.specs.declared.types.SqlType.{SqlType}
 use Rattle.plan_layout.specs.Pipes.{step_view}
-use Rattle.driver_nets.specs.Nets.{AreStagesFor}
-use Rattle.pipe_types.specs.Tables.{types_in}
+use Rattle.driver_net_laws.specs.Nets.{AreStagesFor}
+use Rattle.pipe_stages.specs.Tables.{types_in}
 use Rattle.pipe_stages.proofs.StepLemmas.{all_made}
 use Rattle.pipe_stages.proofs.stages.stages_of.Goals as goal
 

@@ -1,6 +1,6 @@
 use Rattle.std.proofs.Common.{drop, map}
 use Rattle.plan_layout.specs.Pipes.{step_view}
-use Rattle.pipe_types.specs.Tables.{types_in}
+use Rattle.pipe_stages.specs.Tables.{types_in}
 use Rattle.pipe_stages.proofs.StepLemmas.{SoFar}
 use Rattle.pipe_stages.proofs.stages.stages_of.Given as goal
 

@@ -1,6 +1,7 @@
 use Rattle.std.proofs.Common.{◌≡◌, Some, map, ◌∙◌, refl, subst, sym, ap}
 use Rattle.command_line.specs.Words.{Refuses, asked, job_of}
 use Rattle.command_line.specs.declared.command.WordsFault.TheVariants as fault
+use Rattle.query_runner.specs.Answers.{heard_on, seen_of}
 use Rattle.query_runner.proofs.CompletenessLemmas.{complete}
 use Rattle.query_runner.proofs.WordLemmas.{words_answered}
 use Rattle.query_runner.proofs.top.run.Goals as goal
@@ -8,44 +9,16 @@ use Rattle.query_runner.proofs.top.run.Goals as goal
 pub returns-in_default-clause-answer : goal.returns-in_default-clause-answer
 returns-in_default-clause-answer g c =
     words_answered fault.Memory c.refuse.result (job_of c.args.words.now)
-    (record {
-      held = g.F.Files.holds c.args.files.now;
-      read_faults_before = g.F.Files.faults c.args.files.now;
-      read_faults_after = g.F.Files.faults c.args.files.now;
-      refused = g.F.Files.refused c.args.files.now;
-      written_before = g.O.Sink.written c.args.out.now;
-      written_after = g.O.Sink.written c.args.out.now;
-      write_faults_before = g.O.Sink.faults c.args.out.now;
-      write_faults_after = g.O.Sink.faults c.args.out.now;
-    })
-    (record {
-      told_before = g.E.Sink.written c.args.err.now;
-      told_after = g.E.Sink.written c.refuse.new.err;
-      faults_before = g.E.Sink.faults c.args.err.now;
-      faults_after = g.E.Sink.faults c.refuse.new.err;
-    })
+    (seen_of g.F.Files g.O.Sink c.args.files.now c.args.files.now c.args.out.now c.args.out.now)
+    (heard_on g.E.Sink c.args.err.now c.refuse.new.err)
     c.refuse.ensures.status tt refl c.refuse.ensures.told
 
 pub returns-clause-answer : goal.returns-clause-answer
 returns-clause-answer g c =
     let words = ap (map (λ word. word.now)) c.as_slice.ensures.value ∙ c.in-Ok.ensures in
     words_answered c.in-Err.fault c.refuse-in-Err.result (job_of c.args.words.now)
-    (record {
-      held = g.F.Files.holds c.args.files.now;
-      read_faults_before = g.F.Files.faults c.args.files.now;
-      read_faults_after = g.F.Files.faults c.args.files.now;
-      refused = g.F.Files.refused c.args.files.now;
-      written_before = g.O.Sink.written c.args.out.now;
-      written_after = g.O.Sink.written c.args.out.now;
-      write_faults_before = g.O.Sink.faults c.args.out.now;
-      write_faults_after = g.O.Sink.faults c.args.out.now;
-    })
-    (record {
-      told_before = g.E.Sink.written c.args.err.now;
-      told_after = g.E.Sink.written c.refuse-in-Err.new.err;
-      faults_before = g.E.Sink.faults c.args.err.now;
-      faults_after = g.E.Sink.faults c.refuse-in-Err.new.err;
-    })
+    (seen_of g.F.Files g.O.Sink c.args.files.now c.args.files.now c.args.out.now c.args.out.now)
+    (heard_on g.E.Sink c.args.err.now c.refuse-in-Err.new.err)
     c.refuse-in-Err.ensures.status (subst (λ w. Refuses (job_of w) c.in-Err.fault) words c.in-Err.ensures.job) refl c.refuse-in-Err.ensures.told
 
 pub returns-in-Ok-read_words-clause-answer : goal.returns-in-Ok-read_words-clause-answer
@@ -59,20 +32,6 @@ returns-in-Ok-read_words-clause-complete g c =
     let words = ap (map (λ word. word.now)) c.as_slice.ensures.value ∙ c.in-Ok.ensures in
     let is : job_of c.args.words.now ≡ Some (asked c.in-Ok-read_words.job) = ap job_of (sym words) ∙ c.in-Ok-read_words.ensures.job in
     complete (job_of c.args.words.now)
-    (record {
-      held = g.F.Files.holds c.args.files.now;
-      read_faults_before = g.F.Files.faults c.args.files.now;
-      read_faults_after = g.F.Files.faults c.run_source.new.files;
-      refused = g.F.Files.refused c.run_source.new.files;
-      written_before = g.O.Sink.written c.args.out.now;
-      written_after = g.O.Sink.written c.run_source.new.out;
-      write_faults_before = g.O.Sink.faults c.args.out.now;
-      write_faults_after = g.O.Sink.faults c.run_source.new.out;
-    })
-    (record {
-      told_before = g.E.Sink.written c.args.err.now;
-      told_after = g.E.Sink.written c.run_source.new.err;
-      faults_before = g.E.Sink.faults c.args.err.now;
-      faults_after = g.E.Sink.faults c.run_source.new.err;
-    })
+    (seen_of g.F.Files g.O.Sink c.args.files.now c.run_source.new.files c.args.out.now c.run_source.new.out)
+    (heard_on g.E.Sink c.args.err.now c.run_source.new.err)
     c.run_source.result (rw is c.run_source.ensures.answer)

@@ -1,6 +1,6 @@
 use Rattle.std.proofs.Common.{ℕ, List, Option, Some, None, subst}
 use Rattle.command_line.specs.Words.{asked}
-use Rattle.query_runner.specs.Answers.{JobAnswered}
+use Rattle.query_runner.specs.Answers.{JobAnswered, heard_on}
 use Rattle.query_runner.proofs.top.run_demo.Goals as goal
 
 pub returns : goal.returns
@@ -16,11 +16,6 @@ returns g c = record {
         write_faults_before = g.O.Sink.faults c.args.out.now;
         write_faults_after = g.O.Sink.faults c.run_job.new.out;
       })
-      (record {
-        told_before = g.E.Sink.written c.args.err.now;
-        told_after = g.E.Sink.written c.run_job.new.err;
-        faults_before = g.E.Sink.faults c.args.err.now;
-        faults_after = g.E.Sink.faults c.run_job.new.err;
-      })
+      (heard_on g.E.Sink c.args.err.now c.run_job.new.err)
       c.run_job.result) c.in-Ok.ensures c.run_job.ensures.answer;
 }

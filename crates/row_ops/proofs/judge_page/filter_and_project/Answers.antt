@@ -1,8 +1,8 @@
 use Rattle.std.proofs.Common.{◌∙◌, List, ap, length, map, refl, subst, sym}
 use Rattle.sql_values.specs.declared.types.SqlType.{SqlType}
 use Rattle.sql_exprs.specs.Forms.{form_view}
-use Rattle.page_judges.specs.declared.judged.Judged.{Judged}
-use Rattle.page_judges.specs.Typed.{AllFit}
+use Rattle.page_processor.specs.declared.judged.Judged.{Judged}
+use Rattle.col_pages.specs.Fits.{AllFit}
 use Rattle.row_ops.proofs.JudgeLemmas.{then-project}
 use Rattle.row_ops.proofs.OwnLemmas.{filter-alone, own-kinds}
 use Rattle.row_ops.proofs.judge_page.filter_and_project.Goals as goal

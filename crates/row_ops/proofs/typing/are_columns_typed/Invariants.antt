@@ -1,6 +1,6 @@
 use Rattle.std.proofs.Common.{◌≡◌, drop, map}
 use Rattle.sql_exprs.specs.Forms.{form_view}
-use Rattle.page_judges.specs.Typed.{AllTyped}
+use Rattle.page_processor.specs.Typed.{AllTyped}
 use Rattle.row_ops.specs.RowJudges.{are_all_typed}
 use Rattle.row_ops.proofs.typing.are_columns_typed.Given as goal
 

@@ -1,4 +1,4 @@
-use Rattle.page_judges.proofs.JudgedLemmas.{range_more}
+use Rattle.page_processor.proofs.JudgedLemmas.{range_more}
 use Rattle.row_ops.proofs.values.all_places.Goals as goal
 
 pub loop-place-preserved : goal.loop-place-preserved

@@ -1,6 +1,6 @@
 use Rattle.std.proofs.Common.{List, Contains, get_or, subst, sym}
-use Rattle.lost_rows.specs.Domains.{sieve_of}
-use Rattle.lost_rows.specs.Sieves.{Sieve}
+use Rattle.lost_row_laws.specs.Domains.{sieve_of}
+use Rattle.lost_row_laws.specs.Sieves.{Sieve}
 use Rattle.sieve_laws.proofs.ComingLemmas.{own_arrives}
 use Rattle.sieve_laws.proofs.SureLemmas.{has_sieve}
 use Rattle.sieve_laws.proofs.joins.known_domains_arrive.Goals as goal

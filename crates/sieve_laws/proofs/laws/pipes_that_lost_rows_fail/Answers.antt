@@ -1,7 +1,7 @@
 use Rattle.std.proofs.Common.{ℕ, [], arith, subst}
-use Rattle.lane_laws.specs.Lanes.{notes_of_lanes}
-use Rattle.lost_rows.specs.Faults.{FailedLosing}
-use Rattle.lost_rows.proofs.FailedLemmas.{failed}
+use Rattle.pipe_laws.specs.Lanes.{notes_of_lanes}
+use Rattle.lost_row_laws.specs.Faults.{FailedLosing}
+use Rattle.lost_row_laws.proofs.FailedLemmas.{failed}
 use Rattle.sieve_laws.proofs.FailLemmas.{failed_in}
 use Rattle.sieve_laws.proofs.laws.pipes_that_lost_rows_fail.Goals as goal
 

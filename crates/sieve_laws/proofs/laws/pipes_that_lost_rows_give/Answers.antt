@@ -1,10 +1,10 @@
 use Rattle.std.proofs.Common.{ℕ, [], arith, subst}
 use Rattle.plan_trees.specs.Allowed.{strict}
-use Rattle.plan_runs.specs.Nets.{Went, of_tasks}
-use Rattle.plan_runs.proofs.ComposeLemmas.{composed}
-use Rattle.lost_rows.specs.Nets.{BelowLosing}
-use Rattle.lost_rows.proofs.RestoreLemmas.{put_back}
-use Rattle.lost_rows.proofs.WireLemmas.{wired}
+use Rattle.plan_run_laws.specs.Nets.{Went, of_tasks}
+use Rattle.plan_run_laws.proofs.ComposeLemmas.{composed}
+use Rattle.lost_row_laws.specs.Nets.{BelowLosing}
+use Rattle.lost_row_laws.proofs.RestoreLemmas.{put_back}
+use Rattle.lost_row_laws.proofs.WireLemmas.{wired}
 use Rattle.sieve_laws.proofs.OverLemmas.{gave_root}
 use Rattle.sieve_laws.proofs.laws.pipes_that_lost_rows_give.Goals as goal
 

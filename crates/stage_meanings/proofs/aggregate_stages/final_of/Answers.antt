@@ -1,11 +1,10 @@
 use Rattle.aggregation.specs.contracts.final_agg.FinalAggOperator.TheImpl.{ghosts}
-use Rattle.plan_trees.specs.Layouts.{layout_types}
-use Rattle.stage_meanings.proofs.GroupLemmas.{finals-mean, if_all, if_made, of_types}
+use Rattle.stage_meanings.proofs.GroupLemmas.{finals-mean, if_all, if_made}
 use Rattle.stage_meanings.proofs.aggregate_stages.final_of.Goals as goal
 
 pub returns-clause-takes : goal.returns-clause-takes
 returns-clause-takes c =
-    if_made c.new.result (λ op takes page. of_types (layout_types c.args.kinds.items c.args.types.items c.args.calls.items) page (ghosts.takes op page) (takes page)) c.new.ensures.takes
+    if_made c.new.result (λ op takes page. takes page) c.new.ensures.takes
 
 pub returns-clause-means : goal.returns-clause-means
 returns-clause-means c =

@@ -1,11 +1,11 @@
 use Rattle.aggregation.specs.contracts.partial.PartialAggOperator.TheImpl.{ghosts}
 use Rattle.bag_laws.specs.Pieces.{partials_of}
 use Rattle.bag_laws.proofs.BagLemmas.{same_from_bag}
-use Rattle.stage_meanings.proofs.GroupLemmas.{if_both, if_made, of_types, partials-mean}
+use Rattle.stage_meanings.proofs.GroupLemmas.{if_both, if_made, partials-mean}
 use Rattle.stage_meanings.proofs.aggregate_stages.partial_of.Goals as goal
 
 pub returns-clause-takes : goal.returns-clause-takes
-returns-clause-takes c = if_made c.new.result (λ op takes page. of_types c.args.types.items page (ghosts.takes op page) (takes page)) c.new.ensures.takes
+returns-clause-takes c = if_made c.new.result (λ op takes page. takes page) c.new.ensures.takes
 
 pub returns-clause-means : goal.returns-clause-means
 returns-clause-means c =

@@ -1,9 +1,9 @@
 use Rattle.aggregation.specs.contracts.single.SingleAggOperator.TheImpl.{ghosts}
-use Rattle.stage_meanings.proofs.GroupLemmas.{groupings-mean, if_all, if_made, of_types}
+use Rattle.stage_meanings.proofs.GroupLemmas.{groupings-mean, if_all, if_made}
 use Rattle.stage_meanings.proofs.aggregate_stages.single_of.Goals as goal
 
 pub returns-clause-takes : goal.returns-clause-takes
-returns-clause-takes c = if_made c.new.result (λ op takes page. of_types c.args.types.items page (ghosts.takes op page) (takes page)) c.new.ensures.takes
+returns-clause-takes c = if_made c.new.result (λ op takes page. takes page) c.new.ensures.takes
 
 pub returns-clause-means : goal.returns-clause-means
 returns-clause-means c =

@@ -1,4 +1,4 @@
-use Rattle.plan_runs.specs.Nets.{limit}
+use Rattle.plan_run_laws.specs.Nets.{limit}
 use Rattle.stage_meanings.proofs.OrderLemmas.{rows_mean, limit_keeps}
 use Rattle.stage_meanings.proofs.laws.limits_mean.Goals as goal
 

@@ -1,4 +1,4 @@
-use Rattle.plan_runs.specs.Nets.{sort}
+use Rattle.plan_run_laws.specs.Nets.{sort}
 use Rattle.stage_meanings.proofs.OrderLemmas.{rows_mean, sort_keeps}
 use Rattle.stage_meanings.proofs.laws.sorts_mean.Goals as goal
 

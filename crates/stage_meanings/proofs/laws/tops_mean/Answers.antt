@@ -1,4 +1,4 @@
-use Rattle.plan_runs.specs.Nets.{topn}
+use Rattle.plan_run_laws.specs.Nets.{topn}
 use Rattle.stage_meanings.proofs.OrderLemmas.{rows_mean, topn_keeps}
 use Rattle.stage_meanings.proofs.laws.tops_mean.Goals as goal
 

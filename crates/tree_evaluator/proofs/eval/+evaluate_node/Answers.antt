@@ -2,7 +2,7 @@ use Rattle.std.proofs.Common.{◌≡◌, ◌∙◌, ap, map, subst, sym}
 use Rattle.plan_trees.specs.declared.tree.Tree.{Tree}
 use Rattle.plan_trees.specs.TreeForms.{TreeForm, join, pair_view, tree_view}
 use Rattle.tree_evaluator.specs.Fits.{FitsTables}
-use Rattle.tree_evaluator.specs.Stops.{rows_of}
+use Rattle.tree_evaluator.specs.Stops.{rows_of_table}
 use Rattle.tree_evaluator.proofs.ViewLemmas.{view_join}
 use Rattle.tree_evaluator.proofs.SortLemmas.{gave_column}
 use Rattle.tree_evaluator.proofs.eval.+evaluate_node.Goals as goal
@@ -12,6 +12,6 @@ join_rows-requires t c =
     let view : tree_view c.args.tree.now ≡ join c.in-Join.id c.in-Join.kind (map pair_view c.in-Join.on) (tree_view c.deref-in-Join.result.now) (tree_view c.in-Join.right.value) =
     ap tree_view c.in-Join.is ∙ view_join c.in-Join.id c.in-Join.kind c.in-Join.on c.in-Join.left c.in-Join.right
     ∙ ap (λ (i : Tree). join c.in-Join.id c.in-Join.kind (map pair_view c.in-Join.on) (tree_view i) (tree_view c.in-Join.right.value)) (sym c.deref-in-Join.ensures) in
-    let fit : FitsTables (join c.in-Join.id c.in-Join.kind (map pair_view c.in-Join.on) (tree_view c.deref-in-Join.result.now) (tree_view c.in-Join.right.value)) (map rows_of c.args.tables.now) =
-    subst (λ (f : TreeForm). FitsTables f (map rows_of c.args.tables.now)) view c.requires in
-    gave_column (tree_view c.deref-in-Join.result.now) (map rows_of c.args.tables.now) c.in_ok-left-in-Join.left.types fit.0 c.in_ok-left-in-Join.ensures.types
+    let fit : FitsTables (join c.in-Join.id c.in-Join.kind (map pair_view c.in-Join.on) (tree_view c.deref-in-Join.result.now) (tree_view c.in-Join.right.value)) (map rows_of_table c.args.tables.now) =
+    subst (λ (f : TreeForm). FitsTables f (map rows_of_table c.args.tables.now)) view c.requires in
+    gave_column (tree_view c.deref-in-Join.result.now) (map rows_of_table c.args.tables.now) c.in_ok-left-in-Join.left.types fit.0 c.in_ok-left-in-Join.ensures.types

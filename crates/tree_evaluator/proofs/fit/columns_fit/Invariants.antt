@@ -1,5 +1,6 @@
 use Rattle.std.proofs.Common.{drop}
-use Rattle.tree_evaluator.specs.Fits.{ColumnsFit, kinds}
+use Rattle.sql_values.specs.Columns.{kinds}
+use Rattle.tree_evaluator.specs.Fits.{ColumnsFit}
 use Rattle.tree_evaluator.proofs.fit.columns_fit.Given as goal
 
 abbrev pub invariant-loop-place : goal.invariant-loop-place

@@ -2,7 +2,7 @@ use Rattle.std.proofs.Common.{◌∙◌, List, ap, arith, length, subst, sym}
 use Rattle.std.proofs.lemmas.List.{take_all}
 use Rattle.sql_values.specs.declared.types.SqlType.{SqlType}
 use Rattle.sql_values.specs.ColumnRows.{TypedRows, fits_row}
-use Rattle.page_judges.specs.Typed.{AllFit}
+use Rattle.col_pages.specs.Fits.{AllFit}
 use Rattle.tree_evaluator.proofs.FitLemmas.{fit_more, has_some}
 use Rattle.tree_evaluator.proofs.fit.rows_fit.Goals as goal
 

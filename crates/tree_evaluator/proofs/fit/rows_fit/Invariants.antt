@@ -1,5 +1,5 @@
 use Rattle.std.proofs.Common.{◌≡◌, take}
-use Rattle.page_judges.specs.Typed.{AllFit}
+use Rattle.col_pages.specs.Fits.{AllFit}
 use Rattle.tree_evaluator.proofs.fit.rows_fit.Given as goal
 
 abbrev pub invariant-loop-place : goal.invariant-loop-place

@@ -1,6 +1,7 @@
 use Rattle.std.proofs.Common.{List, length, subst}
 use Rattle.sql_values.specs.declared.types.Column.{Column}
-use Rattle.tree_evaluator.specs.Fits.{ColumnsFit, kinds}
+use Rattle.sql_values.specs.Columns.{kinds}
+use Rattle.tree_evaluator.specs.Fits.{ColumnsFit}
 use Rattle.tree_evaluator.proofs.FitLemmas.{has_some, scan_missing, scan_there}
 use Rattle.tree_evaluator.proofs.fit.scan_fits.Goals as goal
 

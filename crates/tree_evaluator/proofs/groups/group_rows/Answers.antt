@@ -1,7 +1,7 @@
 use Rattle.std.proofs.Common.{◌∙◌, ◌++◌, ap, map}
 use Rattle.sql_functions.specs.CallTypes.{type_at}
 use Rattle.col_pages.specs.Pages.{TypedPage}
-use Rattle.relations.specs.Verdicts.{keeps}
+use Rattle.relation_laws.specs.Verdicts.{keeps}
 use Rattle.plan_trees.specs.TreeTypes.{call_kind}
 use Rattle.tree_evaluator.proofs.groups.group_rows.Goals as goal
 

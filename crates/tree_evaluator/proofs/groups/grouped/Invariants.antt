@@ -1,5 +1,5 @@
 use Rattle.std.proofs.Common.{◌≡◌, length}
-use Rattle.relations.specs.Groups.{groups_of}
+use Rattle.relation_laws.specs.Groups.{groups_of}
 use Rattle.aggregation.specs.Giving.{verdicts_with}
 use Rattle.tree_evaluator.proofs.groups.grouped.Given as goal
 

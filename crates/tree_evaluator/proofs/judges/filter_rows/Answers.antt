@@ -3,7 +3,7 @@ use Rattle.std.proofs.lemmas.Result.{err_from_is_err_and}
 use Rattle.sql_exprs.specs.Forms.{form_view}
 use Rattle.sql_values.specs.declared.types.SqlType.{SqlType}
 use Rattle.plan_trees.specs.Judges.{filter_judge}
-use Rattle.page_judges.specs.Judged.{first_failure, judged}
+use Rattle.page_processor.specs.Judged.{first_failure, judged}
 use Rattle.tree_evaluator.proofs.JudgeLemmas.{judging_goes_on, judging_stops, stops_whole}
 use Rattle.tree_evaluator.proofs.judges.filter_rows.Goals as goal
 

@@ -4,7 +4,7 @@ use Rattle.sql_exprs.specs.Forms.{form_view}
 use Rattle.sql_exprs.specs.Meaning.{kind_of}
 use Rattle.sql_values.specs.declared.types.SqlType.{SqlType}
 use Rattle.plan_trees.specs.Judges.{project_judge}
-use Rattle.page_judges.specs.Judged.{first_failure, judged}
+use Rattle.page_processor.specs.Judged.{first_failure, judged}
 use Rattle.tree_evaluator.proofs.JudgeLemmas.{judging_goes_on, judging_stops, stops_whole}
 use Rattle.tree_evaluator.proofs.judges.project_rows.Goals as goal
 

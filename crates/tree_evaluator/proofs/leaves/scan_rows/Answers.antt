@@ -2,7 +2,7 @@ use Rattle.std.proofs.Common.{◌≡◌, ◌∙◌, ◌+◌, ◌-◌, ◌++◌, 
 use Rattle.sql_values.specs.declared.types.SqlType.{SqlType}
 use Rattle.sql_values.specs.Cells.{cut}
 use Rattle.col_pages.specs.Pages.{TypedPage}
-use Rattle.page_judges.specs.Typed.{AllFit}
+use Rattle.col_pages.specs.Fits.{AllFit}
 use Rattle.tree_evaluator.proofs.LeafLemmas.{part_fits, part_more}
 use Rattle.tree_evaluator.proofs.leaves.scan_rows.Goals as goal
 

@@ -1,6 +1,6 @@
 use Rattle.std.proofs.Common.{◌≡◌, ◌∙◌, List, subst, sym}
 use Rattle.sql_values.specs.declared.types.SqlType.{SqlType}
-use Rattle.page_judges.specs.Typed.{AllFit}
+use Rattle.col_pages.specs.Fits.{AllFit}
 use Rattle.tree_evaluator.proofs.SortLemmas.{sort_fits}
 use Rattle.tree_evaluator.proofs.sorts.sort_rows.Goals as goal
 

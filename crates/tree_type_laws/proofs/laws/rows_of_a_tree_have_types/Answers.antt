@@ -1,9 +1,9 @@
 use Rattle.std.proofs.Common.{map}
 use Rattle.plan_trees.specs.Allowed.{strict}
 use Rattle.plan_trees.specs.TreeForms.{tree_view}
-use Rattle.tree_evaluator.specs.Stops.{rows_of}
+use Rattle.tree_evaluator.specs.Stops.{rows_of_table}
 use Rattle.tree_type_laws.proofs.TreeLemmas.{rows_keep}
 use Rattle.tree_type_laws.proofs.laws.rows_of_a_tree_have_types.Goals as goal
 
 pub returns : goal.returns
-returns c = rows_keep strict (tree_view c.args.tree.now) (map rows_of c.args.tables.now) c.requires.fit c.requires.typed c.args.rows.now c.requires.allowed
+returns c = rows_keep strict (tree_view c.args.tree.now) (map rows_of_table c.args.tables.now) c.requires.fit c.requires.typed c.args.rows.now c.requires.allowed

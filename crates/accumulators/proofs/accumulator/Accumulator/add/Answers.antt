@@ -1,5 +1,5 @@
 use Rattle.std.proofs.Common.{◌≡◌, ◌+◌, ◌≤◌, ap, ◌∙◌, arith}
-use Rattle.relations.specs.Aggregates.{most_rows}
+use Rattle.relation_laws.specs.Aggregates.{most_group_rows}
 use Rattle.accumulators.specs.Groups.{Group}
 use Rattle.accumulators.proofs.GroupLemmas.{add-stays, can-add, group-added, view-added}
 use Rattle.accumulators.proofs.accumulator.Accumulator.add.Goals as goal
@@ -7,13 +7,13 @@ use Rattle.accumulators.proofs.accumulator.Accumulator.add.Goals as goal
 pub add_each-requires-clause-can : goal.add_each-requires-clause-can
 add_each-requires-clause-can g c =
     let s = c.self.inside in
-    let few : s.rows + 1 ≤ most_rows = omega (arith, c.min-rows.ensures, c.if-rows-gt-MOST_ROWS.false) in
+    let few : s.rows + 1 ≤ most_group_rows = omega (arith, c.min-rows.ensures, c.if-rows-gt-MOST_ROWS.false) in
     can-add s.rows s.states.items s.states.items c.args.self.now c.self.view_is c.self.invariant (g.C.Cells.values c.args.cells.now) few c.requires
 
 pub invariant_of-self-2 : goal.invariant_of-self-2
 invariant_of-self-2 g c =
     let s = c.self.inside in
-    let few : s.rows + 1 ≤ most_rows = omega (arith, c.min-rows.ensures, c.if-rows-gt-MOST_ROWS.false) in
+    let few : s.rows + 1 ≤ most_group_rows = omega (arith, c.min-rows.ensures, c.if-rows-gt-MOST_ROWS.false) in
     let rows : c.min-rows.result ≡ s.rows + 1 = omega (arith, c.min-rows.ensures, c.if-rows-gt-MOST_ROWS.false) in
     group-added s.rows s.states.items c.add_each.new.states.items c.args.self.now c.self.view_is c.self.invariant (g.C.Cells.values c.args.cells.now)
     c.min-rows.result rows few c.requires c.add_each.ensures
@@ -21,7 +21,7 @@ invariant_of-self-2 g c =
 pub returns-clause-ok : goal.returns-clause-ok
 returns-clause-ok g c =
     let s = c.self.inside in
-    let few : s.rows + 1 ≤ most_rows = omega (arith, c.min-rows.ensures, c.if-rows-gt-MOST_ROWS.false) in
+    let few : s.rows + 1 ≤ most_group_rows = omega (arith, c.min-rows.ensures, c.if-rows-gt-MOST_ROWS.false) in
     let rows : c.min-rows.result ≡ s.rows + 1 = omega (arith, c.min-rows.ensures, c.if-rows-gt-MOST_ROWS.false) in
     view-added s.rows s.states.items c.add_each.new.states.items c.args.self.now c.self.view_is c.self.invariant (g.C.Cells.values c.args.cells.now)
     c.min-rows.result rows few c.add_each.ensures

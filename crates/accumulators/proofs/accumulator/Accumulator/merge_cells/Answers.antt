@@ -1,8 +1,8 @@
 use Rattle.std.proofs.Common.{◌≡◌, ◌+◌, ◌≤◌, drop, ap, ◌∙◌, arith}
 use Rattle.std.specs.Prelude.{nat_abs}
 use Rattle.sql_values.specs.Order.{number_in}
-use Rattle.relations.specs.Aggregates.{most_rows}
-use Rattle.relations.specs.Partials.{rows_in}
+use Rattle.relation_laws.specs.Aggregates.{most_group_rows}
+use Rattle.relation_laws.specs.Partials.{rows_in}
 use Rattle.accumulators.specs.Groups.{Group}
 use Rattle.accumulators.proofs.CellLemmas.{behind_first, first_cell}
 use Rattle.accumulators.proofs.GroupLemmas.{can-merge, group-merged, merge-stays, view-merged}
@@ -15,7 +15,7 @@ merge_each-requires-clause-can g c =
     let columns = drop (c.args.first + 1) (g.C.Cells.values c.args.cells.now) in
     let behind : columns ≡ drop 1 part = behind_first (g.C.Cells.values c.args.cells.now) c.args.first in
     let more : c.row_count-more.result ≡ rows_in part = c.row_count-more.ensures.number ∙ ap (λ v. nat_abs (number_in v)) (c.cell.ensures ∙ first_cell (g.C.Cells.values c.args.cells.now) c.args.first) in
-    let few : s.rows + rows_in part ≤ most_rows = omega (arith, more, c.saturating_add.ensures, c.min-rows.ensures, c.if-rows-gt-MOST_ROWS.false) in
+    let few : s.rows + rows_in part ≤ most_group_rows = omega (arith, more, c.saturating_add.ensures, c.min-rows.ensures, c.if-rows-gt-MOST_ROWS.false) in
     can-merge s.rows s.states.items s.states.items c.args.self.now c.self.view_is c.self.invariant part columns behind few c.requires.takes
 
 pub invariant_of-self-2 : goal.invariant_of-self-2
@@ -25,7 +25,7 @@ invariant_of-self-2 g c =
     let columns = drop (c.args.first + 1) (g.C.Cells.values c.args.cells.now) in
     let behind : columns ≡ drop 1 part = behind_first (g.C.Cells.values c.args.cells.now) c.args.first in
     let more : c.row_count-more.result ≡ rows_in part = c.row_count-more.ensures.number ∙ ap (λ v. nat_abs (number_in v)) (c.cell.ensures ∙ first_cell (g.C.Cells.values c.args.cells.now) c.args.first) in
-    let few : s.rows + rows_in part ≤ most_rows = omega (arith, more, c.saturating_add.ensures, c.min-rows.ensures, c.if-rows-gt-MOST_ROWS.false) in
+    let few : s.rows + rows_in part ≤ most_group_rows = omega (arith, more, c.saturating_add.ensures, c.min-rows.ensures, c.if-rows-gt-MOST_ROWS.false) in
     let rows : c.min-rows.result ≡ s.rows + rows_in part = omega (arith, more, c.saturating_add.ensures, c.min-rows.ensures, c.if-rows-gt-MOST_ROWS.false) in
     group-merged s.rows s.states.items c.merge_each.new.states.items c.args.self.now c.self.view_is c.self.invariant part columns
     c.min-rows.result behind rows few c.requires.takes c.merge_each.ensures
@@ -37,7 +37,7 @@ returns-clause-ok g c =
     let columns = drop (c.args.first + 1) (g.C.Cells.values c.args.cells.now) in
     let behind : columns ≡ drop 1 part = behind_first (g.C.Cells.values c.args.cells.now) c.args.first in
     let more : c.row_count-more.result ≡ rows_in part = c.row_count-more.ensures.number ∙ ap (λ v. nat_abs (number_in v)) (c.cell.ensures ∙ first_cell (g.C.Cells.values c.args.cells.now) c.args.first) in
-    let few : s.rows + rows_in part ≤ most_rows = omega (arith, more, c.saturating_add.ensures, c.min-rows.ensures, c.if-rows-gt-MOST_ROWS.false) in
+    let few : s.rows + rows_in part ≤ most_group_rows = omega (arith, more, c.saturating_add.ensures, c.min-rows.ensures, c.if-rows-gt-MOST_ROWS.false) in
     let rows : c.min-rows.result ≡ s.rows + rows_in part = omega (arith, more, c.saturating_add.ensures, c.min-rows.ensures, c.if-rows-gt-MOST_ROWS.false) in
     view-merged s.rows s.states.items c.merge_each.new.states.items c.args.self.now c.self.view_is c.self.invariant part columns
     c.min-rows.result behind rows few c.merge_each.ensures

@@ -1,6 +1,6 @@
 use Rattle.std.proofs.Common.{ap, ◌∙◌}
-use Rattle.relations.specs.Partials.{results_from}
-use Rattle.relations.proofs.PartialLemmas.{results_from-partial_of}
+use Rattle.relation_laws.specs.Partials.{results_from}
+use Rattle.relation_laws.proofs.PartialLemmas.{results_from-partial_of}
 use Rattle.accumulators.proofs.accumulator.Accumulator.results_are_aggregates.Goals as goal
 
 pub returns : goal.returns

@@ -1,7 +1,7 @@
 use Rattle.std.proofs.Common.{List, [], ◌∷◌, ap, sym, ◌∙◌}
 use Rattle.sql_values.specs.declared.value.Value.{Value}
-use Rattle.relations.specs.Partials.{merged, partial_of}
-use Rattle.relations.proofs.PartialLemmas.{partial_of-append}
+use Rattle.relation_laws.specs.Partials.{merged, partial_of}
+use Rattle.relation_laws.proofs.PartialLemmas.{partial_of-append}
 use Rattle.accumulators.proofs.accumulator.Accumulator.rows_are_taken.Goals as goal
 
 pub returns-clause-row : goal.returns-clause-row

@@ -1,6 +1,6 @@
 use Rattle.std.proofs.Common.{◌≡◌, ◌≤◌, length, refl, ap, ◌∙◌, arith}
 use Rattle.std.specs.Prelude.{flat_map}
-use Rattle.relations.specs.Verdicts.{kept}
+use Rattle.relation_laws.specs.Verdicts.{kept}
 use Rattle.bag_laws.specs.Pieces.{finals_of}
 use Rattle.accumulators.specs.Groups.{empty_group}
 use Rattle.aggregation.specs.Giving.{merged_with}

@@ -2,7 +2,7 @@ use Rattle.std.proofs.Common.{◌≡◌, [], ◌++◌, true, false, ap, subst, s
 use Rattle.std.specs.Prelude.{◌↔◌, Contains, Err, Ok}
 use Rattle.operator_core.specs.Answers.{gave}
 use Rattle.operator_core.specs.Rows.{Coming}
-use Rattle.relations.specs.Verdicts.{fails}
+use Rattle.relation_laws.specs.Verdicts.{fails}
 use Rattle.aggregation.specs.Finals.{FinalState}
 use Rattle.aggregation.specs.Giving.{GroupsFail, GroupsGive, merged_with}
 use Rattle.aggregation.proofs.OperatorLemmas.{failed-none, got-fails, got-gives}

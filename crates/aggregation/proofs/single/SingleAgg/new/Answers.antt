@@ -1,7 +1,7 @@
 use Rattle.std.proofs.Common.{refl}
 use Rattle.std.specs.Prelude.{flat_map}
-use Rattle.relations.specs.Groups.{groups_of}
-use Rattle.relations.specs.Verdicts.{kept}
+use Rattle.relation_laws.specs.Groups.{groups_of}
+use Rattle.relation_laws.specs.Verdicts.{kept}
 use Rattle.aggregation.specs.Giving.{verdicts_with}
 use Rattle.aggregation.proofs.MadeLemmas.{none-fails, none-gives, none-said}
 use Rattle.aggregation.proofs.single.SingleAgg.new.Goals as goal

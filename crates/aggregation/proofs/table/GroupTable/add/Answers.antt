@@ -1,7 +1,7 @@
 use Rattle.std.proofs.Common.{[], ◌∷◌, ap, length, subst}
 use Rattle.std.proofs.lemmas.List.{length-map}
 use Rattle.sql_values.specs.Cells.{cell, cut}
-use Rattle.relations.specs.Partials.{partial_of}
+use Rattle.relation_laws.specs.Partials.{partial_of}
 use Rattle.aggregation.specs.Held.{AreHeld}
 use Rattle.aggregation.specs.Tables.{TableState}
 use Rattle.aggregation.proofs.TableLemmas.{part-added}

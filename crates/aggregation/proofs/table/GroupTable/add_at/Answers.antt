@@ -1,6 +1,6 @@
 use Rattle.std.proofs.Common.{◌<◌, List, [], ◌∷◌, length, sym, subst}
 use Rattle.sql_values.specs.declared.relational.Call.{Call}
-use Rattle.relations.specs.Partials.{partial_of}
+use Rattle.relation_laws.specs.Partials.{partial_of}
 use Rattle.aggregation.specs.Tables.{IsGroupOf, TableState}
 use Rattle.aggregation.proofs.TableLemmas.{group-there, partials-set, table-set}
 use Rattle.aggregation.proofs.table.GroupTable.add_at.Goals as goal

@@ -1,4 +1,4 @@
-use Rattle.std.proofs.Common.{◌<◌, length, sym, subst}
+use Rattle.std.proofs.Common.{◌<◌, [], ap, get_or, length, sym, subst}
 use Rattle.aggregation.specs.Tables.{TableState}
 use Rattle.aggregation.proofs.ResultLemmas.{fails-there, put-there}
 use Rattle.aggregation.proofs.table.GroupTable.put_result.Goals as goal
@@ -8,7 +8,8 @@ returns-in_ok-put_group-in-Ok c =
     let s = c.self.inside in
     let within = subst (λ (t : TableState). c.args.place < length t.keys) (sym c.self.view_is) c.requires.within in
     put-there s.columns.items s.calls.items s.types.items s.index s.groups.items c.self.invariant c.args.self.now c.self.view_is c.args.place c.index.result.now
-    c.key.result.now c.in-Ok.results c.args.rows.now c.put_group.new.rows within c.index.ensures c.in-Ok.ensures c.key.ensures c.in_ok-put_group-in-Ok.ensures
+    (get_or c.args.self.now.keys c.args.place []) c.in-Ok.results c.args.rows.now c.put_group.new.rows within c.index.ensures c.in-Ok.ensures
+    (ap (λ (t : TableState). get_or t.keys c.args.place []) (sym c.self.view_is)) c.in_ok-put_group-in-Ok.ensures
 
 pub returns-in-Err : goal.returns-in-Err
 returns-in-Err c =

@@ -1,4 +1,4 @@
-use Rattle.std.proofs.Common.{◌≡◌, ◌∙◌, None, length, map, arith, refl, sym, ap, subst}
+use Rattle.std.proofs.Common.{◌≡◌, ◌∙◌, length, map, arith, refl, sym, ap, subst}
 use Rattle.std.specs.Prelude.{All}
 use Rattle.std.specs.Vec.{with_items}
 use Rattle.std.proofs.lemmas.List.{length-map, with_items_is}
@@ -30,7 +30,7 @@ invariant_of-self c =
     ∙ c.self.invariant.early (no_end t.is_told t.waiting c.in-Some.page c.in-Some.is) k d (omega (arith, less, long)) in
     record {
       fits = subst (λ outlets. FitsKind t.kind (length outlets)) (sym is) (subst (FitsKind t.kind) (sym long) c.self.invariant.fits);
-      waits = λ is. refl;
+      waits = λ is. c.take.ensures.after;
       early = λ told. subst (All (λ (l : OutletState). end_count l.seat.put ≡ 0)) (sym is) going;
       order = subst (All OutletInOrder) (sym is) c.hold_all.ensures.order;
       none = c.self.invariant.none;
@@ -51,6 +51,7 @@ returns-in_ok-pages-clause-sent c given sent =
     c.in_ok-pages.ensures ∙ (λ i. sent_to t.kind (count i) (sym waits i)) in
     let holds : map rows_sent new ≡ add_each (map rows_sent t.outlets.items) (sent_to t.kind (length t.outlets.items) (rows_of_held t.waiting)) =
     c.hold_all.ensures.sent ∙ (λ i. add_each (map rows_sent (c.deref_mut.ensures.value i)) (parts i)) in
-    let after : TargetState = record { kind = t.kind; outlets = new; waiting = None; is_told = t.is_told } in
-    subst (λ outlets. HasSent (record { kind = t.kind; outlets = outlets; waiting = None; is_told = t.is_told }) given) (sym is)
-    (spreads_all (target_view t) after given holds long refl refl (subst (λ (s : TargetState). HasSent s given) (sym c.self.view_is) sent))
+    let left = c.take.new.self in
+    let after : TargetState = record { kind = t.kind; outlets = new; waiting = left; is_told = t.is_told } in
+    subst (λ outlets. HasSent (record { kind = t.kind; outlets = outlets; waiting = left; is_told = t.is_told }) given) (sym is)
+    (spreads_all (target_view t) after given holds long refl c.take.ensures.after (subst (λ (s : TargetState). HasSent s given) (sym c.self.view_is) sent))

@@ -1,6 +1,6 @@
 use Rattle.std.proofs.Common.{ap, ◌++◌, ◌∷◌, []}
 use Rattle.sql_values.specs.Cells.{lent_value}
-use Rattle.relations.specs.Equality.{is_present}
+use Rattle.relation_laws.specs.Equality.{is_present}
 use Rattle.dyn_filter.proofs.DomainLemmas.{of_same, with_null}
 use Rattle.dyn_filter.proofs.domain.Domain.with.Goals as goal
 

@@ -1,7 +1,6 @@
-use Rattle.std.proofs.Common.{◌≡◌, [], false, ℕ, ◌<◌, length, map, refl, ap, sym, subst, ◌∙◌, arith}
+use Rattle.std.proofs.Common.{◌≡◌, false, ℕ, length, map, refl, ap, sym, subst, ◌∙◌}
 use Rattle.std.specs.Prelude.{Option, Some}
-use Rattle.std.proofs.lemmas.List.{get_or_read, length-map}
-use Rattle.relations.specs.Equality.{same_row}
+use Rattle.relation_laws.specs.Equality.{same_row}
 use Rattle.sql_values.specs.Cells.{cut}
 use Rattle.group_index.specs.Chains.{hash_at, last_of_hash}
 use Rattle.cell_hashes.specs.Hashes.{hash_of}
@@ -13,7 +12,7 @@ pub loop-found-init : goal.loop-found-init
 loop-found-init g c =
     let key = cut c.args.columns.now (g.C.Cells.values c.args.cells.now) in
     let keys = c.args.self.now in
-    let hashes : c.self.inside.chains ≡ map hash_of keys = c.self.invariant ∙ ap (map hash_of) c.self.view_is in
+    let hashes : c.self.inside.chains ≡ map hash_of keys = c.self.invariant.0 ∙ ap (map hash_of) c.self.view_is in
     let is : c.last_of-found.result ≡ last_of_hash (map hash_of keys) (hash_of key) (length (map hash_of keys))
     = c.last_of-found.ensures ∙ (λ i. last_of_hash (hashes i) (c.hash_cells.ensures i) (length (hashes i))) in
     subst (λ (found : Option ℕ). IsAt keys (map hash_of keys) key found) (sym is) (begins-at keys (map hash_of keys) key refl)
@@ -27,12 +26,9 @@ loop-found-preserved g c =
     let key = cut c.args.columns.now (g.C.Cells.values c.args.cells.now) in
     let keys = c.args.self.now in
     let place = c.in-Some.place in
-    let hashes : c.self.inside.chains ≡ map hash_of keys = c.self.invariant ∙ ap (map hash_of) c.self.view_is in
+    let hashes : c.self.inside.chains ≡ map hash_of keys = c.self.invariant.0 ∙ ap (map hash_of) c.self.view_is in
     let at : IsAt keys (map hash_of keys) key (Some place) = subst (λ (found : Option ℕ). IsAt keys (map hash_of keys) key found) c.in-Some.is c.loop-found.invariant in
-    let within : place < length c.self.inside.keys.items = omega (arith, at.at.0, length-map keys hash_of, ap length c.self.view_is) in
-    let here : c.as_slice.result.now ≡ key_at keys place
-    = c.as_slice.ensures ∙ get_or_read c.self.inside.keys.items place c.index.result.now within c.index.ensures [] ∙ ap (λ ks. key_at ks place) c.self.view_is in
-    let other : same_row (key_at keys place) key ≡ false = ap (λ k. same_row k key) (sym here) ∙ sym c.is_key_of.ensures ∙ c.if-is_key_of.false in
+    let other : same_row (key_at keys place) key ≡ false = sym c.is_key_of.ensures ∙ c.if-is_key_of.false in
     let is : c.before-found.result ≡ last_of_hash (map hash_of keys) (hash_at (map hash_of keys) place) place
     = c.before-found.ensures ∙ ap (λ hs. last_of_hash hs (hash_at hs place) place) hashes in
     subst (λ (found : Option ℕ). IsAt keys (map hash_of keys) key found) (sym is) (goes-on keys (map hash_of keys) key refl place at other)

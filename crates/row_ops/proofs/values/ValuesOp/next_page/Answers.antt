@@ -2,8 +2,8 @@ use Rattle.std.proofs.Common.{◌≡◌, ◌≤◌, ◌+◌, List, length, ap, a
 use Rattle.std.specs.List.{range_with_len}
 use Rattle.std.proofs.lemmas.List.FromFn.{length-range_with_len}
 use Rattle.sql_values.specs.declared.types.SqlType.{SqlType}
-use Rattle.row_ops.specs.RowJudges.{IsOf}
-use Rattle.row_ops.specs.ValueRows.{ValuesState, rows_left}
+use Rattle.col_pages.specs.Fits.{IsOfTypes}
+use Rattle.row_ops.specs.ValueRows.{ValuesState, rows_to_give}
 use Rattle.row_ops.proofs.ValueLemmas.{page-next, page-of, whole_fit_at}
 use Rattle.row_ops.proofs.values.ValuesOp.next_page.Goals as goal
 
@@ -27,7 +27,7 @@ returns-clause-rows c =
     let all : c.deref-3.result.now ≡ range_with_len 0 (length s.types.items)
     = c.deref-3.ensures.value ∙ c.in_ok-columns.ensures ∙ ap (λ (ts : List SqlType). range_with_len 0 (length ts)) c.deref.ensures.value in
     let order : s.given ≤ s.given + c.min.result = omega arith in
-    sym (ap rows_left c.self.view_is)
+    sym (ap rows_to_give c.self.view_is)
     ∙ page-next s.types.items s.rows c.self.invariant.givable.fit s.given (s.given + c.min.result) order
     c.deref-2.result.now c.deref-3.result.now c.in_ok-page.page c.deref-2.ensures.value all c.in_ok-page.ensures
 
@@ -37,6 +37,6 @@ returns-clause-of c =
     let all : c.deref-3.result.now ≡ range_with_len 0 (length s.types.items)
     = c.deref-3.ensures.value ∙ c.in_ok-columns.ensures ∙ ap (λ (ts : List SqlType). range_with_len 0 (length ts)) c.deref.ensures.value in
     let order : s.given ≤ s.given + c.min.result = omega arith in
-    subst (λ ts. IsOf ts c.in_ok-page.page) (ap (λ (v : ValuesState). v.types) c.self.view_is)
+    subst (λ ts. IsOfTypes ts c.in_ok-page.page) (ap (λ (v : ValuesState). v.types) c.self.view_is)
     (page-of s.types.items s.rows c.self.invariant.givable.fit s.given (s.given + c.min.result) order
     c.deref-2.result.now c.deref-3.result.now c.in_ok-page.page c.deref-2.ensures.value all c.in_ok-page.ensures)

@@ -1,12 +1,12 @@
 use Rattle.std.proofs.Common.{ℕ, ap, ◌∙◌}
-use Rattle.worker_pool.specs.Items.{Placed}
+use Rattle.worker_pool.specs.Items.{PlacedItem}
 use Rattle.worker_pool.specs.Pools.{PoolState, weigh, with_returned}
 use Rattle.worker_pool.proofs.RecallLemmas.{kept_weighs}
 use Rattle.worker_pool.proofs.pool.Pool.recall.Goals as goal
 
 pub loop-work-preserved : goal.loop-work-preserved
 loop-work-preserved g c h =
-    let taken : ℕ × Placed g.row.T.Denot = (c.in-Some._work, c.in-Some.runner) in
+    let taken : ℕ × PlacedItem g.row.T.Denot = (c.in-Some._work, c.in-Some.runner) in
     let old : PoolState g.row.T.Denot = record {
       ready = c.self.inside.ready;
       returned = c.self.inside.returned.items;

@@ -1,0 +1,1 @@
+use Rattle.aggregation.proofs.table.GroupTable.put_group.Goals as goal

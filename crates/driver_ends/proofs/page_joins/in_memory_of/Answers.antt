@@ -1,0 +1,1 @@
+use Rattle.driver_ends.proofs.page_joins.in_memory_of.Goals as goal

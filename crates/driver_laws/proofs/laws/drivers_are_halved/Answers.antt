@@ -1,5 +1,0 @@
-use Rattle.driver_laws.proofs.MadeLemmas.{halved}
-use Rattle.driver_laws.proofs.laws.drivers_are_halved.Goals as goal
-
-pub returns : goal.returns
-returns c = λ names. halved names c.laws.ensures

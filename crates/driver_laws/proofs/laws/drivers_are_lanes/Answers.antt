@@ -1,5 +1,0 @@
-use Rattle.driver_laws.proofs.MadeLemmas.{lane}
-use Rattle.driver_laws.proofs.laws.drivers_are_lanes.Goals as goal
-
-pub returns : goal.returns
-returns c = λ names. lane names c.laws.ensures

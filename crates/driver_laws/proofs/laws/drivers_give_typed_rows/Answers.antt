@@ -1,8 +1,0 @@
-use Rattle.driver_laws.proofs.MadeLemmas.{half_gives, lane_gives}
-use Rattle.driver_laws.proofs.laws.drivers_give_typed_rows.Goals as goal
-
-pub returns-clause-lanes : goal.returns-clause-lanes
-returns-clause-lanes c = λ names. lane_gives names c.laws.ensures
-
-pub returns-clause-halves : goal.returns-clause-halves
-returns-clause-halves c = λ names. half_gives names c.laws.ensures

@@ -1,0 +1,87 @@
+-- The stages of a driver, made for the nodes of its pipeline, and what the notes of its probes know.
+use Rattle.std.specs.Prelude.{◌≡◌, ℕ, List, [], ◌∷◌, ◌++◌, Some, length, map}
+use Rattle.sql_values.specs.declared.types.SqlType.{SqlType}
+use Rattle.operator_core.specs.Rows.{Row}
+use Rattle.join_index.specs.Keys.{IndexedRows}
+use Rattle.hash_join.specs.Probing.{ProbeState}
+use Rattle.driver_loop.specs.declared.stage.Stage.{Stage}
+use Rattle.driver_loop.specs.declared.stage.Stage.TheVariants.{Filter, Final, Limit, Partial, Probe, Single, Sort, TopN}
+use Rattle.driver_loop.specs.contracts.stage.StageOperator.TheImpl.{ghosts}
+use Rattle.plan_trees.specs.TreeTypes.{types_of}
+use Rattle.plan_run_laws.specs.Nets as stage
+use Rattle.plan_run_laws.specs.RunPlans.{RunPlan, tree_of_run, scan, values, remote, filter, project, join, aggregate, aggregate_parts, sort, topn, topn_parts, limit, limit_parts, union}
+use Rattle.pipe_laws.specs.Pipelines.{NodeStage, at_node}
+use Rattle.pipe_laws.specs.Lookups.{IsSourceOf, rows_known}
+use Rattle.plan_trees.specs.Layouts.{partial_types}
+use Rattle.pipe_laws.specs.Operators.{EndsIn, NoOperator}
+use Rattle.pipe_laws.specs.Lanes.{Noted}
+use Rattle.driver_net_laws.specs.Cells.{Names}
+use Rattle.driver_net_laws.specs.Stages.{IsProbeOf, IsStageOf}
+
+-- behind stages for the input stands that of the node
+abbrev pub Behind : (List Stage → List SqlType → Type 0) → NodeStage → List Stage → List SqlType → Type 0
+Behind AreForInput at all given = EndsIn AreForInput (λ last between. IsStageOf at between given (ghosts.as_made last)) all
+
+-- the stages are those of the nodes from the source up to this one. The bells are those of the cells of its joins in the
+-- driver's task, from the node down
+abbrev pub AreMadeFor : Names → RunPlan → List ℕ → List Stage → List SqlType → Type 0
+AreMadeFor names (scan id table columns types) bells all given = NoOperator types all given
+AreMadeFor names (values id types rows) bells all given = NoOperator types all given
+AreMadeFor names (remote id output tasks input) bells all given = NoOperator (types_of (tree_of_run input)) all given
+AreMadeFor names (filter id predicate input) bells all given =
+    Behind (AreMadeFor names input bells) (at_node id (stage.filter (types_of (tree_of_run input)) predicate)) all given
+AreMadeFor names (project id columns input) bells all given =
+    Behind (AreMadeFor names input bells) (at_node id (stage.project (types_of (tree_of_run input)) columns)) all given
+AreMadeFor names (join id kind on left right) [] all given = ⊥
+AreMadeFor names (join id kind on left right) (bell ∷ bells) all given =
+    EndsIn (AreMadeFor names left bells) (λ last between. IsProbeOf names bell kind on (types_of (tree_of_run right)) between given (ghosts.as_made last)) all
+AreMadeFor names (aggregate id keys calls input) bells all given =
+    Behind (AreMadeFor names input bells) (at_node id (stage.grouping (types_of (tree_of_run input)) keys calls)) all given
+AreMadeFor names (aggregate_parts id source output tasks keys calls input) bells all given =
+    Behind (NoOperator (partial_types (types_of (tree_of_run input)) keys calls)) (at_node id (stage.final (types_of (tree_of_run input)) (length keys) calls)) all given
+AreMadeFor names (sort id keys input) bells all given = Behind (AreMadeFor names input bells) (at_node id (stage.sort keys)) all given
+AreMadeFor names (topn id count keys input) bells all given = Behind (AreMadeFor names input bells) (at_node id (stage.topn count keys)) all given
+AreMadeFor names (topn_parts id source output tasks count keys input) bells all given =
+    Behind (NoOperator (types_of (tree_of_run input))) (at_node id (stage.topn count keys)) all given
+AreMadeFor names (limit id count input) bells all given = Behind (AreMadeFor names input bells) (at_node id (stage.limit count)) all given
+AreMadeFor names (limit_parts id source output tasks count input) bells all given =
+    Behind (NoOperator (types_of (tree_of_run input))) (at_node id (stage.limit count)) all given
+AreMadeFor names (union id left right) bells all given = NoOperator (types_of (tree_of_run left)) all given
+
+-- what the note of a stage knows, if it has one
+abbrev pub note_known : Stage → Noted
+note_known (Filter op) = []
+note_known (Limit op types) = []
+note_known (Sort op) = []
+note_known (TopN op) = []
+note_known (Single op) = []
+note_known (Partial op) = []
+note_known (Final op) = []
+note_known (Probe op types) = rows_known op.note.known ∷ []
+
+-- what the notes of a driver's stages know, from the last one down
+abbrev pub notes_known : List Stage → Noted
+notes_known [] = []
+notes_known (s ∷ stages) = notes_known stages ++ note_known s
+
+-- what a probe of this bell knows, among stages that pass the test, is a source for its join: found by the right columns,
+-- and of rows of the right side's types
+abbrev pub KnowSources : RunPlan → List ℕ → (Stage → Type 0) → Type 0
+KnowSources (scan id table columns types) bells IsOne = Unit {0}
+KnowSources (values id types rows) bells IsOne = Unit {0}
+KnowSources (remote id output tasks input) bells IsOne = Unit {0}
+KnowSources (filter id predicate input) bells IsOne = KnowSources input bells IsOne
+KnowSources (project id columns input) bells IsOne = KnowSources input bells IsOne
+KnowSources (join id kind on left right) [] IsOne = Unit {0}
+KnowSources (join id kind on left right) (bell ∷ bells) IsOne =
+    ((op : ProbeState) (types : List SqlType) → IsOne (Probe op types) → op.bell ≡ bell → (source : IndexedRows) → op.note.known ≡ Some source
+    → IsSourceOf (map (λ (pair : ℕ × ℕ). pair.1) on) (types_of (tree_of_run right)) source)
+    × KnowSources left bells IsOne
+KnowSources (aggregate id keys calls input) bells IsOne = KnowSources input bells IsOne
+KnowSources (aggregate_parts id source output tasks keys calls input) bells IsOne = Unit {0}
+KnowSources (sort id keys input) bells IsOne = KnowSources input bells IsOne
+KnowSources (topn id count keys input) bells IsOne = KnowSources input bells IsOne
+KnowSources (topn_parts id source output tasks count keys input) bells IsOne = Unit {0}
+KnowSources (limit id count input) bells IsOne = KnowSources input bells IsOne
+KnowSources (limit_parts id source output tasks count input) bells IsOne = Unit {0}
+KnowSources (union id left right) bells IsOne = Unit {0}

@@ -1,5 +1,0 @@
-pub mod Types
-pub mod Nets
-pub mod Makes
-pub mod Settled
-pub mod States

@@ -1,5 +1,0 @@
-use Rattle.lane_laws.proofs.LaneLemmas.{lanes_open}
-use Rattle.lane_laws.proofs.laws.lanes_go_on.Goals as goal
-
-pub returns : goal.returns
-returns g c = lanes_open g.O.Operator c.laws.ensures

@@ -1,2 +1,0 @@
-mod MakeLemmas
-mod LayoutLemmas

@@ -1,5 +1,0 @@
-use Rattle.lost_rows.proofs.DomainLemmas.{alone_by}
-use Rattle.lost_rows.proofs.laws.domains_hold_back_what_is_alone.Goals as goal
-
-pub returns : goal.returns
-returns c = λ k lt is. alone_by c.args.domain.now c.args.on.now k c.args.rows.now lt is

@@ -1,5 +1,0 @@
-use Rattle.lost_rows.proofs.RestoreLemmas.{put_back}
-use Rattle.lost_rows.proofs.laws.lost_rows_are_put_back.Goals as goal
-
-pub returns : goal.returns
-returns c = λ mode n plan typed out ran. put_back mode c.args.tables.now n plan typed out ran

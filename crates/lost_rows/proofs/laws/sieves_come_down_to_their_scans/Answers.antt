@@ -1,5 +1,0 @@
-use Rattle.lost_rows.proofs.ArrivalLemmas.{comes_down}
-use Rattle.lost_rows.proofs.laws.sieves_come_down_to_their_scans.Goals as goal
-
-pub returns : goal.returns
-returns c = λ own plan sieves s held o is. comes_down own o plan sieves s held is

@@ -1,8 +1,0 @@
-use Rattle.net_lanes.proofs.LaneLemmas.{follows, half_follows}
-use Rattle.net_lanes.proofs.laws.notes_follow.Goals as goal
-
-pub returns-clause-pipes : goal.returns-clause-pipes
-returns-clause-pipes c = λ net drivers of settled gave given n run own pipe is tasks r. follows net drivers of settled gave given n own pipe is tasks run r
-
-pub returns-clause-halves : goal.returns-clause-halves
-returns-clause-halves c = λ net drivers of settled gave given n run half own pipe is tasks r. half_follows net drivers of settled gave given n own pipe is tasks run half r

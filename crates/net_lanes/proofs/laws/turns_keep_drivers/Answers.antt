@@ -1,8 +1,0 @@
-use Rattle.net_lanes.proofs.LaterLemmas.{driver_on, drivers_on}
-use Rattle.net_lanes.proofs.laws.turns_keep_drivers.Goals as goal
-
-pub returns-clause-one : goal.returns-clause-one
-returns-clause-one c = driver_on
-
-pub returns-clause-all : goal.returns-clause-all
-returns-clause-all c = drivers_on

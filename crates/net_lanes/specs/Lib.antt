@@ -1,4 +1,0 @@
-pub mod Halves
-pub mod Typed
-pub mod Along
-pub mod Later

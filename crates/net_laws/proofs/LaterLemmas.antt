@@ -1,0 +1,316 @@
+-- What turns keep of a driver: the parts of its pipe.
+use Rattle.std.proofs.Common.{◌≡◌, inl, inr, ℕ, zero, suc, List, [], ◌∷◌, Some, None, length, map, refl, ap, sym, subst, ◌∙◌}
+use Rattle.std.specs.Prelude.{All, slice_get}
+use Rattle.std.proofs.lemmas.Simd.{map-map}
+use Rattle.std.proofs.lemmas.List.Elements.{All-head, All-tail, length_all_zip}
+use Rattle.sql_values.specs.declared.types.SqlType.{SqlType}
+use Rattle.sql_values.specs.declared.relational.JoinKind.{JoinKind}
+use Rattle.sql_values.specs.declared.value.Value.{Value}
+use Rattle.operator_core.specs.Stages.{AllCameFrom, CameFrom}
+use Rattle.hash_join.specs.Probing.{ProbeState}
+use Rattle.split_source.specs.Scans.{ScanState}
+use Rattle.split_source.specs.Seats.{ClaimsId}
+use Rattle.output_buffer.specs.Seats.{EdgeId}
+use Rattle.driver_ends.specs.Deals.{DealState}
+use Rattle.driver_ends.specs.Ends.{outlet_as_made, put_as_made}
+use Rattle.driver_ends.specs.Fetching.{FetchingState}
+use Rattle.driver_ends.specs.Outlets.{OutletState}
+use Rattle.driver_ends.specs.Sources.{LocalState, RemoteState}
+use Rattle.driver_ends.specs.Targets.{TargetState}
+use Rattle.driver_loop.specs.Builds.{BuildState}
+use Rattle.driver_loop.specs.Drivers.{DriverState, IsWhole}
+use Rattle.driver_loop.specs.Ends.{source_made, target_made}
+use Rattle.driver_loop.specs.RowsSources.{RowsState}
+use Rattle.driver_loop.specs.Sources.{Source, Scan, Rows, Local, Remote, Fetch}
+use Rattle.driver_loop.specs.contracts.stage.StageOperator.TheImpl.{ghosts}
+use Rattle.driver_loop.specs.declared.stage.Stage.{Stage}
+use Rattle.driver_loop.specs.declared.target.Target.{Target}
+use Rattle.driver_loop.specs.declared.target.Target.TheVariants.{Build, Deal, Put, Result}
+use Rattle.plan_run_laws.specs.Nets as stage
+use Rattle.plan_run_laws.specs.RunPlans as plan
+use Rattle.plan_trees.specs.Allowed.{table_rows}
+use Rattle.plan_trees.specs.TreeForms.{pair_view}
+use Rattle.plan_spreads.specs.Runs.{output_view}
+use Rattle.pipe_laws.specs.Pipelines.{NodeStage, at_node}
+use Rattle.source_laws.specs.Edges.{output_of}
+use Rattle.driver_net_laws.specs.Cells.{Names}
+use Rattle.driver_net_laws.specs.Stages.{IsProbeOf, IsStageOf}
+use Rattle.plan_layout.specs.Pipes.{PipeForm, SourceForm, StepForm, TargetForm, driver_number}
+use Rattle.plan_layout.specs.Pipes as form
+use Rattle.driver_net_laws.specs.Nets.{AreDriversOf, AreStagesFor, IsDriverOf, IsPutFor, IsResultTarget, IsScanFor, IsSourceFor, IsStageFor, IsTargetFor, NetForm, edges_to}
+use Rattle.driver_net_laws.specs.Types.{types_after}
+use Rattle.net_laws.specs.Later.{AreLater, IsLaterDriver}
+
+-- turns one after the other
+pub later_same : (d : DriverState) → IsLaterDriver d d
+later_same d = record { number = refl; source = refl; target = λ whole. refl; stages = λ whole made came. came }
+
+pub later_then : (a b c : DriverState) → b.fault ≡ None → IsLaterDriver a b → IsLaterDriver b c → IsLaterDriver a c
+later_then a b c none first then = record {
+  number = then.number ∙ first.number;
+  source = then.source ∙ first.source;
+  target = λ whole. then.target whole ∙ first.target (subst IsWhole (sym none) tt);
+  stages = λ whole made came. then.stages whole made (first.stages (subst IsWhole (sym none) tt) made came);
+}
+
+-- each stage came from itself
+came_self : (stages : List Stage) → AllCameFrom ghosts (map ghosts.as_made stages) stages
+came_self [] = tt
+came_self (s ∷ stages) = (inl refl, came_self stages)
+
+stage_on : (at : NodeStage) (between given : List SqlType) (made now : Stage) → IsStageOf at between given made → CameFrom ghosts made now → IsStageOf at between given (ghosts.as_made now)
+stage_on at between given made now is (inl same) = subst (IsStageOf at between given) (sym same) is
+stage_on at between given made now is (inr learned) = absurd (is.fixed (ghosts.as_made now) learned)
+
+probe_on : (names : Names) (bell : ℕ) (kind : JoinKind) (on : List (ℕ × ℕ)) (right between given : List SqlType) (made now : Stage) → IsProbeOf names bell kind on right between given made
+    → CameFrom ghosts made now → IsProbeOf names bell kind on right between given (ghosts.as_made now)
+probe_on names bell kind on right between given made now is (inl same) = subst (IsProbeOf names bell kind on right between given) (sym same) is
+probe_on names bell kind on right between given made now is (inr learned) =
+    let p = is.probes in
+    let l = subst (λ (m : Stage). ghosts.may_learn m (ghosts.as_made now)) p.is learned in
+    let (to, same, (source, fit, own)) = l in
+    record {
+      probes = record {
+        op = to;
+        types = p.types;
+        is = same;
+        of_kind = ap (λ (s : ProbeState). s.kind) own ∙ p.of_kind;
+        columns = ap (λ (s : ProbeState). s.on) own ∙ p.columns;
+        rings = ap (λ (s : ProbeState). s.bell) own ∙ p.rings;
+        cell = ap (λ (s : ProbeState). s.note.cell) own ∙ p.cell;
+      };
+      types = is.types;
+    }
+
+-- a source that was made as one of a kind is of this kind, and was made as that one
+record MadeAs {X : Type 0} (Kind : X → Source) (x : X) (now : Source) : Type 0 where
+  own : X
+  is : now ≡ Kind own
+  made : source_made (Kind own) ≡ source_made (Kind x)
+
+scan_now : (scan : ScanState) (now : Source) → source_made now ≡ source_made (Scan scan) → MadeAs Scan scan now
+scan_now scan (Scan s) same = record { own = s; is = refl; made = same }
+scan_now scan (Rows s) same = absurd cc
+scan_now scan (Local s) same = absurd cc
+scan_now scan (Remote s) same = absurd cc
+scan_now scan (Fetch s) same = absurd cc
+
+rows_now : (rows : RowsState) (now : Source) → source_made now ≡ source_made (Rows rows) → MadeAs Rows rows now
+rows_now rows (Scan s) same = absurd cc
+rows_now rows (Rows s) same = record { own = s; is = refl; made = same }
+rows_now rows (Local s) same = absurd cc
+rows_now rows (Remote s) same = absurd cc
+rows_now rows (Fetch s) same = absurd cc
+
+local_now : (local : LocalState) (now : Source) → source_made now ≡ source_made (Local local) → MadeAs Local local now
+local_now local (Scan s) same = absurd cc
+local_now local (Rows s) same = absurd cc
+local_now local (Local s) same = record { own = s; is = refl; made = same }
+local_now local (Remote s) same = absurd cc
+local_now local (Fetch s) same = absurd cc
+
+remote_now : (remote : RemoteState) (now : Source) → source_made now ≡ source_made (Remote remote) → MadeAs Remote remote now
+remote_now remote (Scan s) same = absurd cc
+remote_now remote (Rows s) same = absurd cc
+remote_now remote (Local s) same = absurd cc
+remote_now remote (Remote s) same = record { own = s; is = refl; made = same }
+remote_now remote (Fetch s) same = absurd cc
+
+fetch_now : (fetch : FetchingState) (now : Source) → source_made now ≡ source_made (Fetch fetch) → MadeAs Fetch fetch now
+fetch_now fetch (Scan s) same = absurd cc
+fetch_now fetch (Rows s) same = absurd cc
+fetch_now fetch (Local s) same = absurd cc
+fetch_now fetch (Remote s) same = absurd cc
+fetch_now fetch (Fetch s) same = record { own = s; is = refl; made = same }
+
+-- what a source is, or what stands for it
+abbrev scan_or : ScanState → Source → ScanState
+scan_or none (Scan s) = s
+scan_or none source = none
+
+abbrev rows_or : RowsState → Source → RowsState
+rows_or none (Rows s) = s
+rows_or none source = none
+
+abbrev edge_or : EdgeId → Source → EdgeId
+edge_or none (Local s) = s.seat.edge
+edge_or none (Remote s) = s.seat.edge
+edge_or none (Fetch s) = s.local.seat.edge
+edge_or none source = none
+
+scan_on : (list : List (List Value)) (columns : List ℕ) (size : ℕ) (claims : ClaimsId) (source now : Source) → source_made now ≡ source_made source
+    → IsScanFor list columns size claims source → IsScanFor list columns size claims now
+scan_on list columns size claims source now same s =
+    let n = scan_now s.scan now (same ∙ ap source_made s.is) in
+    let own = λ (x : Source). scan_or s.scan x in
+    record {
+      scan = n.own;
+      is = n.is;
+      of = record {
+        of = ap (λ (x : Source). (scan_or s.scan x).rows) n.made ∙ s.of.of;
+        cut_to = ap (λ (x : Source). (scan_or s.scan x).columns) n.made ∙ s.of.cut_to;
+        sized = ap (λ (x : Source). (scan_or s.scan x).size) n.made ∙ s.of.sized;
+      };
+      seat = ap (λ (x : Source). (scan_or s.scan x).seat.claims) n.made ∙ s.seat;
+      some = s.some;
+      count = s.count;
+    }
+
+source_on : (net : NetForm) (at task : ℕ) (kind : SourceForm) (source now : Source) → source_made now ≡ source_made source → IsSourceFor net at task kind source
+    → IsSourceFor net at task kind now
+source_on net at task (form.table place columns kinds) source now same s = scan_on (table_rows net.tables place) columns net.split (net.links.claims at) source now same s
+source_on net at task (form.rows kinds list) source now same s =
+    let n = rows_now s.own now (same ∙ ap source_made s.is) in
+    record { own = n.own; is = n.is; of = ap (λ (x : Source). (rows_or s.own x).rows) n.made ∙ s.of }
+source_on net at task form.sides source now same s =
+    let n = local_now s.local now (same ∙ ap source_made s.is) in
+    record { local = n.own; is = n.is; seat = ap (edge_or s.local.seat.edge) n.made ∙ s.seat }
+source_on net at task (form.fragment number) source now same s =
+    let n = remote_now s.remote now (same ∙ ap source_made s.is) in
+    record { remote = n.own; is = n.is; seat = ap (edge_or s.remote.seat.edge) n.made ∙ s.seat }
+source_on net at task (form.edge pipe numbers) source now same s =
+    let n = fetch_now s.fetch now (same ∙ ap source_made s.is) in
+    record { fetch = n.own; is = n.is; seat = ap (edge_or s.fetch.local.seat.edge) n.made ∙ s.seat }
+
+-- so it is of targets
+record TargetAs {X : Type 0} (Kind : X → Target) (x : X) (now : Target) : Type 0 where
+  own : X
+  is : now ≡ Kind own
+  made : target_made (Kind own) ≡ target_made (Kind x)
+
+build_now : (build : BuildState) (now : Target) → target_made now ≡ target_made (Build build) → TargetAs Build build now
+build_now build (Result t) same = absurd cc
+build_now build (Build t) same = record { own = t; is = refl; made = same }
+build_now build (Put t) same = absurd cc
+build_now build (Deal t) same = absurd cc
+
+put_now : (put : TargetState) (now : Target) → target_made now ≡ target_made (Put put) → TargetAs Put put now
+put_now put (Result t) same = absurd cc
+put_now put (Build t) same = absurd cc
+put_now put (Put t) same = record { own = t; is = refl; made = same }
+put_now put (Deal t) same = absurd cc
+
+deal_now : (deal : DealState) (now : Target) → target_made now ≡ target_made (Deal deal) → TargetAs Deal deal now
+deal_now deal (Result t) same = absurd cc
+deal_now deal (Build t) same = absurd cc
+deal_now deal (Put t) same = absurd cc
+deal_now deal (Deal t) same = record { own = t; is = refl; made = same }
+
+result_on : (target now : Target) → target_made now ≡ target_made target → IsResultTarget target → IsResultTarget now
+result_on (Result t) (Result own) same is = tt
+result_on (Result t) (Build own) same is = absurd cc
+result_on (Result t) (Put own) same is = absurd cc
+result_on (Result t) (Deal own) same is = absurd cc
+result_on (Build t) now same is = absurd is
+result_on (Put t) now same is = absurd is
+result_on (Deal t) now same is = absurd is
+
+abbrev build_or : BuildState → Target → BuildState
+build_or none (Build t) = t
+build_or none target = none
+
+abbrev put_or : TargetState → Target → TargetState
+put_or none (Put t) = t
+put_or none target = none
+
+abbrev deal_or : DealState → Target → DealState
+deal_or none (Deal t) = t
+deal_or none target = none
+
+abbrev edges_of : TargetState → List EdgeId
+edges_of put = map (λ (outlet : OutletState). outlet.seat.edge) put.outlets
+
+edges_made : (put : TargetState) → edges_of (put_as_made put) ≡ edges_of put
+edges_made put = map-map (λ (outlet : OutletState). outlet.seat.edge) outlet_as_made put.outlets
+
+put_on : (output : plan.Output) (edges : List EdgeId) (target now : Target) → target_made now ≡ target_made target → IsPutFor output edges target → IsPutFor output edges now
+put_on output edges target now same t =
+    let n = put_now t.put now (same ∙ ap target_made t.is) in
+    record {
+      put = n.own;
+      is = n.is;
+      sends = ap (λ (x : Target). output_of (put_or t.put x).kind) n.made ∙ t.sends;
+      of = sym (edges_made n.own) ∙ ap (λ (x : Target). edges_of (put_or t.put x)) n.made ∙ edges_made t.put ∙ t.of;
+    }
+
+target_on : (net : NetForm) (at task : ℕ) (kind : TargetForm) (target now : Target) → target_made now ≡ target_made target → IsTargetFor net at task kind target
+    → IsTargetFor net at task kind now
+target_on net at task form.result target now same t = result_on target now same t
+target_on net at task (form.cell on) target now same t =
+    let n = build_now t.build now (same ∙ ap target_made t.is) in
+    record {
+      build = n.own;
+      is = n.is;
+      rings = ap (λ (x : Target). (build_or t.build x).bell) n.made ∙ t.rings;
+      cell = ap (λ (x : Target). (build_or t.build x).note.cell) n.made ∙ t.cell;
+      by = ap (λ (x : Target). (build_or t.build x).source.keys) n.made ∙ t.by;
+      of = ap (λ (x : Target). (build_or t.build x).source.types) n.made ∙ t.of;
+    }
+target_on net at task (form.side pipe) target now same t = put_on plan.single (net.links.gathers pipe task ∷ []) target now same t
+target_on net at task (form.readers output pipe) target now same t = put_on (output_view output) (edges_to net pipe) target now same t
+target_on net at task (form.takers pipe) target now same t =
+    let n = deal_now t.deal now (same ∙ ap target_made t.is) in
+    record { deal = n.own; is = n.is; seat = ap (λ (x : Target). (deal_or t.deal x).seat.edge) n.made ∙ t.seat }
+
+module _ (net : NetForm) (task : ℕ) (halved : List SqlType) where
+  step_on : (step : StepForm) (between given : List SqlType) (made now : Stage) → IsStageFor net task halved step between given made → CameFrom ghosts made now
+      → IsStageFor net task halved step between given (ghosts.as_made now)
+  step_on (form.filter id predicate) between given made now is came = stage_on (at_node id (stage.filter between predicate)) between given made now is came
+  step_on (form.project id columns) between given made now is came = stage_on (at_node id (stage.project between columns)) between given made now is came
+  step_on (form.probe id kind on at) between given made now is came =
+      probe_on net.links.names (net.links.cells at task) kind (map pair_view on) (net.types at).given between given made now is came
+  step_on (form.aggregate id keys calls) between given made now is came = stage_on (at_node id (stage.grouping between keys calls)) between given made now is came
+  step_on (form.partial id keys calls) between given made now is came = stage_on (at_node id (stage.partial keys calls)) between given made now is came
+  step_on (form.final id keys calls) between given made now is came = stage_on (at_node id (stage.final halved (length keys) calls)) between given made now is came
+  step_on (form.sort id keys) between given made now is came = stage_on (at_node id (stage.sort keys)) between given made now is came
+  step_on (form.top_n id count keys) between given made now is came = stage_on (at_node id (stage.topn count keys)) between given made now is came
+  step_on (form.limit id count) between given made now is came = stage_on (at_node id (stage.limit count)) between given made now is came
+
+  stages_on : (steps : List StepForm) (between : List SqlType) (all now : List Stage) → AreStagesFor net task halved steps between all → AllCameFrom ghosts (map ghosts.as_made all) now
+      → AreStagesFor net task halved steps between now
+  stages_on [] between [] [] are came = refl
+  stages_on [] between [] (s ∷ now) are came = absurd came
+  stages_on [] between (a ∷ all) now are came = absurd cc
+  stages_on (step ∷ steps) between [] now are came = absurd are
+  stages_on (step ∷ steps) between (a ∷ all) [] are came = absurd came
+  stages_on (step ∷ steps) between (a ∷ all) (s ∷ now) are came = (
+    step_on step between (types_after net.types halved step between) (ghosts.as_made a) s are.0 came.0,
+    stages_on steps (types_after net.types halved step between) all now are.1 came.1,
+  )
+
+module _ (net : NetForm) where
+  pub driver_on : (at : ℕ) (pipe : PipeForm) (task lane : ℕ) (before after : DriverState) → IsDriverOf net at pipe task lane before → IsLaterDriver before after → IsWhole after.fault
+      → IsDriverOf net at pipe task lane after
+  driver_on at pipe task lane before after is later whole = record {
+    number = later.number ∙ is.number;
+    source = source_on net at task pipe.source before.source after.source later.source is.source;
+    stages = stages_on net task (net.types at).halved pipe.steps (net.types at).taken before.stages after.stages is.stages
+        (later.stages whole (map ghosts.as_made before.stages) (came_self before.stages));
+    target = target_on net at task pipe.target before.target after.target (later.target whole) is.target;
+  }
+
+  -- the driver at a place, later
+  record LaterAt (now : List DriverState) (i : ℕ) (d : DriverState) : Type 0 where
+    after : DriverState
+    there : slice_get now i ≡ Some after
+    later : IsLaterDriver d after
+    whole : IsWhole after.fault
+
+  later_at : (drivers now : List DriverState) (i : ℕ) (d : DriverState) → AreLater drivers now → All (λ e. IsWhole e.fault) now → slice_get drivers i ≡ Some d → LaterAt now i d
+  later_at [] now i d later whole is = absurd cc
+  later_at (c ∷ drivers) [] i d later whole is = absurd later
+  later_at (c ∷ drivers) (e ∷ now) zero d later whole is =
+      record { after = e; there = refl; later = subst (λ (x : DriverState). IsLaterDriver x e) (cc is) later.0; whole = All-head (λ (x : DriverState). IsWhole x.fault) e now whole }
+  later_at (c ∷ drivers) (e ∷ now) (suc i) d later whole is =
+      let r = later_at drivers now i d later.1 (All-tail (λ (x : DriverState). IsWhole x.fault) e now whole) is in
+      record { after = r.after; there = r.there; later = r.later; whole = r.whole }
+
+  pub drivers_on : (drivers now : List DriverState) → AreDriversOf net drivers → AreLater drivers now → All (λ e. IsWhole e.fault) now → AreDriversOf net now
+  drivers_on drivers now are later whole = record {
+    typed = are.typed;
+    count = sym (length_all_zip IsLaterDriver drivers now later) ∙ are.count;
+    each = λ at pipe is task lane in_tasks in_lanes.
+        let h = are.each at pipe is task lane in_tasks in_lanes in
+        let l = later_at drivers now (driver_number pipe task lane) h.driver later whole h.there in
+        record { driver = l.after; there = l.there; is = driver_on at pipe task lane h.driver l.after h.is l.later l.whole };
+  }

@@ -1,0 +1,13 @@
+pub mod Giving
+pub mod Takes
+pub mod Halves
+pub mod Typed
+pub mod Along
+pub mod Later
+pub mod Tidy
+pub mod Standing
+pub mod Roots
+pub use Rattle.driver_net_laws.specs.Makes
+pub use Rattle.driver_net_laws.specs.Nets
+pub use Rattle.driver_net_laws.specs.Settled
+pub use Rattle.driver_net_laws.specs.Types

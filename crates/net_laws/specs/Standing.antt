@@ -1,0 +1,29 @@
+-- How a pipe that runs a plan stands, with all pipes below it.
+use Rattle.std.specs.Prelude.{ℕ, List}
+use Rattle.plan_trees.specs.TreeTypes.{types_of}
+use Rattle.plan_run_laws.specs.RunPlans.{RunPlan, tree_of_run}
+use Rattle.plan_run_laws.specs.Spreads.{Tables}
+use Rattle.pipe_laws.specs.Operators.{types_of_source}
+use Rattle.driver_loop.specs.declared.stage.Stage.{Stage}
+use Rattle.driver_loop.specs.contracts.stage.StageOperator.TheImpl.{ghosts}
+use Rattle.pipe_laws.specs.Lanes.{Noted}
+use Rattle.pipe_laws.specs.Pipes.{IsBelow, IsPipeOf, PipeState, Stands}
+use Rattle.plan_layout.specs.Pipes.{PipeForm, SourceForm, StepForm}
+use Rattle.layout_laws.specs.Reached.{IsWithin}
+use Rattle.layout_laws.specs.RunPipes.{RunsAs}
+use Rattle.net_laws.specs.Along.{Along, BuiltTyped, GaveTyped, TookTyped}
+
+-- what its drivers took of the sources of the plan, and how the pipes below stand
+pub record StandsOn (pipes : ℕ → PipeState Stage) (tables : Tables) (layout : List PipeForm) (n : ℕ) (run : RunPlan) (own w : ℕ) (source : SourceForm) (steps : List StepForm)
+    (r : RunsAs layout n run own w source steps) (notes : ℕ → ℕ → Noted) : Type 0 where
+  pub stands : Stands ghosts pipes tables own n run notes
+  pub below : (place : ℕ) → IsWithin layout place n run own w source steps r → IsBelow ghosts pipes tables place own n run notes stands
+  pub typed : TookTyped (types_of_source run) n (pipes own)
+  pub built : Along (BuiltTyped pipes n) layout n run own w source steps r notes
+
+-- and its drivers are the lanes of the plan
+pub record IsStanding (pipes : ℕ → PipeState Stage) (tables : Tables) (layout : List PipeForm) (n : ℕ) (run : RunPlan) (own : ℕ) (pipe : PipeForm)
+    (r : RunsAs layout n run own pipe.drivers pipe.source pipe.steps) : Type 0 where
+  pub is : IsPipeOf ghosts n run (pipes own)
+  pub on : StandsOn pipes tables layout n run own pipe.drivers pipe.source pipe.steps r (pipes own).notes
+  pub gave : GaveTyped (types_of (tree_of_run run)) n (pipes own)

@@ -1,0 +1,38 @@
+//! What is known of the drivers of a laid out plan once all were taken apart, as laws: no code and no thread.
+//!
+//! In a layout whose pipes run a plan (`RunsAs` of `layout_laws`) each driver is made of the parts of its pipe
+//! (`AreDriversOf` of `driver_net_laws`), and the seats of what the drivers shared came back.
+//!
+//! - `sources`: what the drivers of a pipe took together of its source, in the words in which a run is composed
+//!   (`specs/Takes.antt`): `tables_pass`, `rows_pass`, `unions_pass`, `fragments_pass`, of a table, of rows of the plan, of
+//!   the two pipes that give to a union, and of the pipe of a fragment's root. Which pipes these are is a premise on the
+//!   layout (`specs/Giving.antt`). `targets_were_given`: there are rows that the targets were given
+//! - `lanes`: the drivers as lanes of their pipes. `pipes_are_typed`: a pipe takes and gives rows of the types of the plan
+//!   that it runs; `stages_are_made`: the stages of its drivers were made for the nodes of that plan; `notes_follow`: what
+//!   their notes know of the right sides of joins is what the pipes of these gave; `pipes_stand`, `pipes_give_typed_rows`:
+//!   they are the lanes of that plan, and give rows of its types; `turns_keep_drivers`, `turns_follow_turns`: what turns
+//!   leave of the drivers (`specs/Later.antt`). `specs/Along.antt` has what is said of the joins of a pipe and the bells of
+//!   their cells, `specs/Halves.antt` the first halves of operators
+//! - `stands`: `pipes_stand_together`: the pipes of a layout that runs a plan stand, one below the other, as a net of pipes
+//!   (`Stands` of `pipe_laws`); `nets_give`: where all drivers are finished, the plan's answer; `nets_fail`: where one
+//!   failed, a failure of the plan. `specs/Standing.antt` says it of one pipe
+//! - `plans`: the same of the layout of a consistent plan: `layouts_are_tidy`, `plans_give`, `plans_fail`.
+//!   `specs/Tidy.antt`: what is asked of a layout besides that it runs the plan
+//! - `layouts`: `layouts_fit`: the drivers of the layout of a consistent plan can be made, over tables of the columns that
+//!   it declares: expressions have types, calls can be made, and sources can be read
+#![tactic(auto)]
+
+mod lanes;
+mod layouts;
+mod plans;
+mod sources;
+mod stands;
+
+pub use lanes::{
+    notes_follow, pipes_are_typed, pipes_give_typed_rows, pipes_stand, stages_are_made,
+    turns_follow_turns, turns_keep_drivers,
+};
+pub use layouts::layouts_fit;
+pub use plans::{layouts_are_tidy, plans_fail, plans_give};
+pub use sources::{fragments_pass, rows_pass, tables_pass, targets_were_given, unions_pass};
+pub use stands::{nets_fail, nets_give, pipes_stand_together};

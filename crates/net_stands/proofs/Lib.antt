@@ -1,5 +1,0 @@
-pub mod FitLemmas
-pub mod StandLemmas
-pub mod EndLemmas
-pub mod PlainLemmas
-pub mod PlanLemmas

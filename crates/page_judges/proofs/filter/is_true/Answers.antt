@@ -1,1 +1,0 @@
-use Rattle.page_judges.proofs.filter.is_true.Goals as goal

@@ -1,5 +1,0 @@
-use Rattle.page_judges.proofs.JudgedLemmas.{range_more}
-use Rattle.page_judges.proofs.values.all_positions.Goals as goal
-
-pub loop-position-preserved : goal.loop-position-preserved
-loop-position-preserved c = range_more _ _ _ c.loop-position.invariant c.in_ok-push.ensures.items

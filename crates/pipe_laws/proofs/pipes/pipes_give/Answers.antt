@@ -1,0 +1,16 @@
+use Rattle.std.proofs.Common.{ℕ, arith, subst}
+use Rattle.plan_trees.specs.Allowed.{strict}
+use Rattle.plan_run_laws.specs.Nets.{Below, Went, of_tasks}
+use Rattle.plan_run_laws.proofs.ComposeLemmas.{composed}
+use Rattle.plan_run_laws.proofs.WireLemmas.{wired}
+use Rattle.pipe_laws.proofs.OverLemmas.{gave_root}
+use Rattle.pipe_laws.proofs.pipes.pipes_give.Goals as goal
+
+pub returns : goal.returns
+returns g c = λ run fits placed pipes root is one stands over.
+    let tables = c.args.tables.now in
+    let gave = gave_root g.O.Operator c.laws.ensures pipes tables over root run is stands in
+    let took = (pipes root).took in
+    let below = subst (λ (w : ℕ). Below strict tables 1 w run gave.builds took) one gave.below in
+    let went = subst (λ (w : ℕ). Went strict 1 w run gave.builds took (pipes root).gave) one gave.went in
+    composed strict tables (omega arith) fits placed (of_tasks 1 (pipes root).gave) (wired strict tables 1 1 run gave.builds took (pipes root).gave below went)

@@ -1,9 +1,0 @@
-use Rattle.std.proofs.Common.{map}
-use Rattle.plan_layout.specs.Pipes.{pipe_view}
-use Rattle.driver_nets.specs.Types.{IsTyped}
-use Rattle.pipe_types.specs.Each.{EachBelow}
-use Rattle.pipe_types.specs.Tables.{types_in}
-use Rattle.pipe_types.proofs.pipes.check_all.Given as goal
-
-abbrev pub invariant-loop-at : goal.invariant-loop-at
-invariant-loop-at l = EachBelow (IsTyped (map pipe_view l.pipes) (types_in l.table)) (map pipe_view l.pipes) l.at

@@ -1,8 +1,0 @@
-use Rattle.std.proofs.Common.{map, subst}
-use Rattle.plan_layout.specs.Pipes.{pipe_view}
-use Rattle.driver_nets.specs.Types.{AreTyped}
-use Rattle.pipe_types.specs.Tables.{types_in}
-use Rattle.pipe_types.proofs.pipes.types_of_pipes.Goals as goal
-
-pub returns : goal.returns
-returns c = subst (λ table. AreTyped (map pipe_view c.args.pipes.now) (types_in table)) c.as_slice.ensures.value c.in_ok-check_all.ensures

@@ -1,6 +1,0 @@
-use Rattle.plan_nets.proofs.FinishLemmas.{finish_all}
-use Rattle.plan_nets.proofs.laws.operators_finish.Goals as goal
-
-pub returns : goal.returns
-returns g c = λ run notes builds given are agree ended took gave turns linked fit over.
-    (finish_all g.O.Operator c.laws.ensures run notes builds c.args.all.now given are agree ended took gave turns linked fit over).0

@@ -1,6 +1,0 @@
-use Rattle.plan_nets.proofs.OperatorLemmas.{made_all}
-use Rattle.plan_nets.proofs.laws.operators_make.Goals as goal
-
-pub returns : goal.returns
-returns g c = λ run notes builds given are known took gave fit chain.
-    (made_all g.O.Operator c.laws.ensures run notes builds c.args.all.now given are known took gave fit chain).0

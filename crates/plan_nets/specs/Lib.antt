@@ -1,4 +1,0 @@
-pub mod Trees
-pub mod Stopped
-pub mod Operators
-pub mod Lookups

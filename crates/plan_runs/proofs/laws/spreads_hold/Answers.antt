@@ -1,5 +1,0 @@
-use Rattle.plan_runs.proofs.ComposeLemmas.{composed}
-use Rattle.plan_runs.proofs.laws.spreads_hold.Goals as goal
-
-pub returns : goal.returns
-returns c = λ mode n plan spread lt fits placed out ran. composed mode c.args.tables.now lt fits placed out ran

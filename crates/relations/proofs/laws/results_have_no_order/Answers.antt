@@ -1,5 +1,0 @@
-use Rattle.relations.proofs.PartialOrderLemmas.{aggregates_of-same}
-use Rattle.relations.proofs.laws.results_have_no_order.Goals as goal
-
-pub returns : goal.returns
-returns c = aggregates_of-same c.args.calls.now c.args.types.now c.args.rows.now c.args.others.now c.requires

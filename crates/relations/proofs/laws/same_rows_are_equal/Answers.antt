@@ -1,5 +1,0 @@
-use Rattle.relations.proofs.EqualityLemmas.{same_row_decides}
-use Rattle.relations.proofs.laws.same_rows_are_equal.Goals as goal
-
-pub returns : goal.returns
-returns c = same_row_decides c.args.a.now c.args.b.now

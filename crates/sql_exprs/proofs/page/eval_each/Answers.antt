@@ -1,0 +1,1 @@
+use Rattle.sql_exprs.proofs.page.eval_each.Goals as goal

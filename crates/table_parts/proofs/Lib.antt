@@ -1,0 +1,4 @@
+pub mod CutLemmas
+pub mod FaultLemmas
+pub mod PlaceLemmas
+pub mod JoinLemmas

@@ -1,0 +1,1 @@
+use Rattle.table_parts.proofs.cut.is_plain.Goals as goal

@@ -1,0 +1,1 @@
+use Rattle.table_parts.proofs.joined.fault_behind.Goals as goal

@@ -3,8 +3,8 @@
 
 usage: python3 docs/gate_parts.py [LOG]
 
-To measure from nothing, run it at the top of a fresh clone, on a machine that does nothing else, with the folder
-that `rt ci` keeps its proofs in (/opt/rattle-kept) moved away. What `rt ci` prints goes to LOG (gate.log).
+To measure from nothing, run it at the top of a fresh clone, on a machine that does nothing else. What `rt ci` prints goes
+to LOG (gate.log).
 
 The sum is what /usr/bin/time would tell: user and system seconds of rt and all that it started. The parts are read
 from /proc five times a second, by the words of each prover's command line, so that they miss up to a fifth of a

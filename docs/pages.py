@@ -83,7 +83,7 @@ def wrong_crates():
         floor = floor_of(name, uses)
         if [row[1] for row in listed if row[2] == name] != [floor]:
             yield f"{page}: {name} is not listed once on floor {floor}"
-        if drawn.get(name) != floor and name != "operator_examples":
+        if drawn.get(name) != floor and name not in ("operator_examples", "test_fixtures"):
             yield f"{page}: {name} is not drawn on floor {floor}"
 
 

@@ -1,4 +1,5 @@
-//! Tests of `query_runner`: whole runs over the objects in memory, and what a plan gives under every cutting.
+//! Tests of `query_runner`: whole runs over the objects in memory, and what a plan gives under every cutting; and of the types
+//! of a plan's pipes.
 //!
 //! Plans are written with `'` for the quotation mark, and tables and answers with `~` for the line feed. A case is
 //! a line `tables | names | root | rows | answer`: the tables of the plan by their short name (none: the root is the
@@ -13,6 +14,7 @@
 //! - `fragments`: the cases of several, and `couriers`: couriers for them
 //! - `workers`: runs on one worker and on more
 //! - `outside`: a failing outside, and input that is cut
+//! - `types`: the types of the pipes of plans, of `pipe_stages`
 #![tactic(auto)]
 
 #[cfg(test)]
@@ -37,5 +39,7 @@ mod plain;
 mod plans;
 #[cfg(test)]
 mod scans;
+#[cfg(test)]
+mod types;
 #[cfg(test)]
 mod workers;

@@ -1,5 +1,10 @@
-//! Tests of the crates of values: `columns`, `decimals`, `scalar_texts`, `sql_values` and `col_pages`, a module for
-//! each, and two for `sql_values`. What they want was computed outside, or by hand.
+//! Tests of the crates of values and of expressions, a module for each, and two for `sql_values` and for `sql_exprs`. What
+//! they want is what PostgreSQL and Trino document, or was computed outside or by hand.
+//!
+//! - `column_tests`, `decimal_tests`, `scalar_tests`, `list_tests`, `value_tests`, `page_tests`: `columns`, `decimals`,
+//!   `scalar_texts`, `sql_values` and `col_pages`
+//! - `function_tests`: `sql_functions`
+//! - `expr_tests`, with its `expr_cases`, and `typing_tests`: `sql_exprs`
 #![tactic(auto)]
 
 #[cfg(test)]
@@ -7,10 +12,18 @@ mod column_tests;
 #[cfg(test)]
 mod decimal_tests;
 #[cfg(test)]
+mod expr_cases;
+#[cfg(test)]
+mod expr_tests;
+#[cfg(test)]
+mod function_tests;
+#[cfg(test)]
 mod list_tests;
 #[cfg(test)]
 mod page_tests;
 #[cfg(test)]
 mod scalar_tests;
+#[cfg(test)]
+mod typing_tests;
 #[cfg(test)]
 mod value_tests;

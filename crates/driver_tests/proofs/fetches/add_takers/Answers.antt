@@ -1,0 +1,13 @@
+use Rattle.std.proofs.Common.{◌≡◌, [], ◌∷◌, rules, subst}
+use Rattle.std.specs.Prelude.{All}
+use Rattle.std.specs.Vec.Iter.{into_iter_items}
+use Rattle.std.proofs.lemmas.List.Elements.{All-tail}
+use Rattle.output_buffer.specs.Seats.{SpreadTakeState}
+use Rattle.driver_tests.proofs.fetches.add_takers.Goals as goal
+
+pub loop-seat-preserved : goal.loop-seat-preserved
+loop-seat-preserved c =
+    let before = into_iter_items c.loop-seat.seat-iterator in
+    let after = into_iter_items c.next.new.self in
+    let step : before ≡ c.in-Some.seat ∷ after = search rules in
+    All-tail (λ (s : SpreadTakeState). s.took ≡ []) c.in-Some.seat after (subst (All (λ (s : SpreadTakeState). s.took ≡ [])) step c.loop-seat.invariant)

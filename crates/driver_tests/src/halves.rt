@@ -1,0 +1,242 @@
+//! Rows in two pieces: a driver for each gives the partial rows of its groups to an edge, and a third merges them.
+ghost use Rattle.std.specs.Prelude.{◌≡◌, [], ◌∷◌, All, IfOk, IsOk, IsTrue, map, false};
+ghost use Rattle.sql_values.specs.ColumnRows.{fits_row};
+ghost use Rattle.sql_values.specs.declared.types.SqlType.TheVariants.{Bigint};
+ghost use Rattle.sql_values.specs.declared.relational.Call.TheVariants.{CountAll, Sum};
+ghost use Rattle.output_buffer.specs.Seats.{new_gather_put};
+ghost use Rattle.driver_loop.specs.Ends.{rows_taken, target_made};
+
+use crate::net_turns::{give_turns, write_outcome};
+use crate::slow::Slow;
+use aggregation::{FinalAgg, PartialAgg};
+use driver_ends::{LocalSource, PutKind, PutTarget};
+use driver_loop::{Driver, ResultTarget, RowsSource, Source, Stage, Target};
+use futures::task::{Doorbell, Solo};
+use operator_core::Operator;
+use output_buffer::{Gather, GatherPut, GatherTake};
+use row_ops::ValuesOp;
+use sql_values::{Call, Memory, Row, RowList, SqlType, Types, Value};
+use std::alloc::Global;
+use std::sync::Wait;
+use std::test::Fail;
+use std::thread::Threads;
+
+/// The rows of two pieces, each a key and a number; the groups of all, each a key, the count and the sum, or the fault.
+const CASES: &str = "1:5 1:7 2:-3|2:10 3:1|1 2 12 2 2 7 3 1 1 
+1:9223372036854775807|1:-7 1:7 2:0|1 3 9223372036854775807 2 1 0 
+1:9223372036854775807 2:4|1:1|node 7 failed: a number is out of its type's range
+1:9223372036854775807 1:1|1:-1 2:4|1 3 9223372036854775807 2 1 4 ";
+
+fn pairs(alloc: Global) -> Result<Vec<SqlType>, Memory>
+    ensures { IfOk result (λ types. types.items ≡ Bigint ∷ Bigint ∷ []) }
+{
+    Ok(Vec::from_array(alloc, [SqlType::Bigint, SqlType::Bigint])?)
+}
+
+fn calls(alloc: Global) -> Result<Vec<Call>, Memory>
+    ensures { IfOk result (λ calls. calls.items ≡ CountAll ∷ Sum 1 ∷ []) }
+{
+    Ok(Vec::from_array(alloc, [Call::CountAll, Call::Sum(1)])?)
+}
+
+/// A row of a key and a number.
+fn row(alloc: Global, key: i64, number: i64) -> Result<Row, Memory>
+    ensures { IfOk result (λ r. IsTrue (fits_row (Bigint ∷ Bigint ∷ []) r)) }
+{
+    let mut values = Vec::new(alloc);
+    values.push(Value::Bigint(key))?;
+    values.push(Value::Bigint(number))?;
+    Ok(Row::of(values))
+}
+
+/// Puts the row of a word behind the others.
+#[tactic(auto, using(test_fixtures::proofs::RowLemmas::row_more))]
+fn push(alloc: Global, rows: &mut RowList, word: &str) -> Result<(), Memory>
+    requires { All (λ row. IsTrue (fits_row (Bigint ∷ Bigint ∷ []) row)) rows.old }
+    ensures { IsOk result → All (λ row. IsTrue (fits_row (Bigint ∷ Bigint ∷ []) row)) rows.new }
+{
+    let (key, number) = word.split_once(':').unwrap_or((word, ""));
+    let row = row(
+        alloc,
+        key.parse::<i64>().unwrap_or(0),
+        number.parse::<i64>().unwrap_or(0),
+    )?;
+    rows.push(row)?;
+    Ok(())
+}
+
+fn rows(alloc: Global, words: &str) -> Result<RowList, Memory>
+    ensures { IfOk result (λ rows. All (λ row. IsTrue (fits_row (Bigint ∷ Bigint ∷ []) row)) rows) }
+{
+    let mut rows = RowList::new(alloc);
+    for word in words.split(' ') {
+        push(alloc, &mut rows, word)?;
+    }
+    Ok(rows)
+}
+
+/// Pages of two rows.
+fn source<'w>(alloc: Global, words: &str) -> Result<Source<'w, Slow>, Memory>
+    ensures { IfOk result (λ s. rows_taken s ≡ []) }
+{
+    let types = pairs(alloc)?;
+    let rows = rows(alloc, words)?;
+    let op = ValuesOp::new(alloc, rows, types, 2);
+    Ok(Source::rows(RowsSource::new(op)))
+}
+
+fn partial(alloc: Global) -> Result<PartialAgg, Memory>
+    ensures { IfOk result (λ op. ⟦<PartialAgg as Operator>⟧.as_made op ≡ op) }
+{
+    let keys = Vec::from_array(alloc, [0])?;
+    let calls = calls(alloc)?;
+    PartialAgg::new(alloc, keys, calls, pairs(alloc)?, 8)
+}
+
+/// The groups by the first column.
+fn first_half<'w>(alloc: Global) -> Result<Vec<Stage<'w>>, Memory>
+    ensures { IfOk result (λ v. map ⟦<Stage<'w> as Operator>⟧.as_made v.items ≡ v.items) }
+{
+    let op = partial(alloc)?;
+    Ok(Vec::from_array(alloc, [Stage::Partial(op)])?)
+}
+
+fn last(alloc: Global) -> Result<FinalAgg, Memory>
+    ensures { IfOk result (λ op. ⟦<FinalAgg as Operator>⟧.as_made op ≡ op) }
+{
+    let keys = Vec::from_array(alloc, [SqlType::Bigint])?;
+    let calls = calls(alloc)?;
+    FinalAgg::new(alloc, 7, keys, calls, pairs(alloc)?, 8)
+}
+
+/// The results of the groups. Their node is 7.
+fn second_half<'w>(alloc: Global) -> Result<Vec<Stage<'w>>, Memory>
+    ensures { IfOk result (λ v. map ⟦<Stage<'w> as Operator>⟧.as_made v.items ≡ v.items) }
+{
+    let op = last(alloc)?;
+    Ok(Vec::from_array(alloc, [Stage::Final(op)])?)
+}
+
+fn put_target<'w>(alloc: Global, seat: GatherPut<'w>) -> Result<Target<'w>, Memory>
+    requires { seat ≡ new_gather_put seat.edge seat.number }
+    ensures { IfOk result (λ t. target_made t ≡ t) }
+{
+    let seats = Vec::from_array(alloc, [seat])?;
+    Ok(Target::Put(PutTarget::new(alloc, PutKind::One, seats)?))
+}
+
+/// Rows of a key, a count and a sum.
+fn result<'w>(alloc: Global) -> Result<Target<'w>, Memory>
+    ensures { IfOk result (λ t. target_made t ≡ t) }
+{
+    let types = Vec::from_array(alloc, [SqlType::Bigint, SqlType::Bigint, SqlType::Bigint])?;
+    Ok(Target::Result(ResultTarget::new(alloc, Types::of(types))))
+}
+
+/// Gives the partial rows of the groups of some rows to an edge.
+fn giver<'w>(alloc: Global, words: &str, target: Target<'w>) -> Result<Driver<'w, Slow>, Memory>
+    requires { target_made target ≡ target }
+{
+    let source = source(alloc, words)?;
+    let stages = first_half(alloc)?;
+    Driver::new(alloc, 1, source, stages, target)
+}
+
+fn local(seat: GatherTake<'_>) -> Source<'_, Slow>
+    requires { seat.took ≡ [] }
+    ensures { rows_taken result ≡ [] }
+{
+    Source::local(LocalSource::new(seat))
+}
+
+/// Merges the partial rows of an edge.
+fn merger<'w>(alloc: Global, source: Source<'w, Slow>) -> Result<Driver<'w, Slow>, Memory>
+    requires { rows_taken source ≡ [] }
+{
+    let stages = second_half(alloc)?;
+    let target = result(alloc)?;
+    Driver::new(alloc, 2, source, stages, target)
+}
+
+/// A driver for each seat, of the rows of a piece.
+fn givers<'w>(
+    alloc: Global,
+    case: &str,
+    seats: Vec<GatherPut<'w>>,
+) -> Result<Vec<Driver<'w, Slow>>, Memory>
+    requires { All (λ seat. seat ≡ new_gather_put seat.edge seat.number) seats.items }
+{
+    let mut pieces = case.split('|');
+    let mut drivers = Vec::new(alloc);
+    for seat in seats {
+        let target = put_target(alloc, seat)?;
+        drivers.push(giver(alloc, pieces.next().unwrap_or(""), target)?)?;
+    }
+    Ok(drivers)
+}
+
+/// The drivers of both halves, that of the second behind the others.
+fn drivers_of<'e>(
+    alloc: Global,
+    case: &str,
+    edge: &'e mut Gather,
+) -> Result<Vec<Driver<'e, Slow>>, Memory>
+    requires { edge.old.is_handed_out ≡ false }
+{
+    let (puts, take) = edge.seats()?;
+    let mut drivers = givers(alloc, case, puts)?;
+    drivers.push(merger(alloc, local(take))?)?;
+    Ok(drivers)
+}
+
+/// What the last driver says once each had three turns.
+fn said<R: Threads + Wait + Sync>(
+    rt: &R,
+    alloc: Global,
+    mut drivers: Vec<Driver<'_, Slow>>,
+    solo: &Solo,
+) -> Result<String, Memory> {
+    for _ in 0..3 {
+        give_turns(rt, alloc, &mut drivers, solo);
+    }
+    let mut text = String::new(alloc);
+    if let Some(driver) = drivers.pop() {
+        write_outcome(&mut text, driver)?;
+    }
+    Ok(text)
+}
+
+fn halves_say<R: Threads + Wait + Sync>(
+    rt: &R,
+    alloc: Global,
+    case: &str,
+    solo: &Solo,
+) -> Result<String, Memory> {
+    let mut edge = Gather::new(alloc, 2, 8, 0, 1)?;
+    let drivers = drivers_of(alloc, case, &mut edge)?;
+    said(rt, alloc, drivers, solo)
+}
+
+/// Whether the groups of a case are as it says.
+fn case_holds<R: Threads + Wait + Sync>(
+    rt: &R,
+    alloc: Global,
+    case: &str,
+    solo: &Solo,
+) -> Result<bool, Memory> {
+    let mut parts = case.split('|');
+    let (Some(_), Some(_), Some(wanted)) = (parts.next(), parts.next(), parts.next()) else {
+        return Ok(false);
+    };
+    let said = halves_say(rt, alloc, case, solo)?;
+    Ok(said.as_str() == wanted)
+}
+
+#[test]
+fn halves_of_an_aggregate_give_the_groups_of_all_rows(rt: HostRuntime) -> Result<(), Fail> {
+    let solo = Solo::new(&rt, Doorbell::spinning())?;
+    for case in CASES.lines() {
+        assert!(rt; case_holds(&rt, rt.alloc(), case, &solo)?);
+    }
+    Ok(())
+}

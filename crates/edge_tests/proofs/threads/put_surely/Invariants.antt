@@ -1,0 +1,7 @@
+use Rattle.std.proofs.Common.{◌≡◌}
+use Rattle.output_buffer.specs.Seats.{MayPut}
+use Rattle.edge_tests.proofs.threads.put_surely.Given as goal
+
+abbrev pub invariant-loop : goal.invariant-loop
+invariant-loop g l =
+    (l.piece ≡ l.fn.piece) × (l.put.put ≡ l.initial.put.put) × (l.put.number ≡ l.initial.put.number) × (l.put.edge ≡ l.initial.put.edge)

@@ -1,5 +1,0 @@
-use Rattle.std.proofs.Common.{length}
-use Rattle.exchange_tests.proofs.numbered.number_behind.Given as goal
-
-abbrev pub decreases-loop-page : goal.decreases-loop-page
-decreases-loop-page l = length l.pages

@@ -1,4 +1,4 @@
--- What `clap` makes of words: its walk over them gives what the items of the words give.
+-- What `clap` makes of words: its walk over them gives what the items of the arguments give.
 use Rattle.std.proofs.Common.{◌≡◌, ◌∙◌, ◌&&◌, ◌==◌, ℕ, Bool, cond, true, false, refl, sym, ap, ap₂, subst, List, [], ◌∷◌, map, Option, Some, None, option_and_then, true≢false, IsUtf8}
 use Rattle.std.specs.List.{find, fold, list_any}
 use Rattle.std.specs.Option.{option_map_or}
@@ -53,7 +53,7 @@ module _ (names : List Text) where
   abbrev now : List Row → Option (Text × List Text) → Option (List Row)
   now rows pending = cond (none (fault_at rows pending)) (Some (rows_at rows pending)) None
 
-  -- the rows at the end of the words, or None where the parse fails
+  -- the rows at the end of the arguments, or None where the parse fails
   abbrev pub ending : Kinds → Held → Option (List Row)
   ending walk_faults h = cond (none walk_faults && none (settle_fault (rules names) false h)) (Some (settled (rules names) h).rows) None
 
@@ -161,7 +161,7 @@ module _ (names : List Text) where
   plain_walk rows (Some p) positional word rest plain = rw (plain.ends, plain.long, plain.short) (plain_held rows p word (bytes_eq p.0 tables_id))
   plain_walk rows pending (option name) word rest plain = absurd rest
 
-  -- what holds of the words behind, where no option waits, and where one does
+  -- what holds of the arguments behind, where no option waits, and where one does
   abbrev Reads : List Text → Type 0
   Reads words = (rows : List Row) (pending : Option (Text × List Text)) (waiting : Waiting) → IsAtRest waiting
       → outcome (at rows pending waiting false) words ≡ told (now rows pending) (items_from None words)
@@ -256,7 +256,7 @@ module _ (names : List Text) where
     long_step rows pending positional rest = outcome_step (at rows pending positional false) long rest
     long_step rows pending (option other) rest = outcome_step (at rows pending (option other) false) long rest
 
-  -- what is told of an option
+  -- what is given for an option
   told_valued : (rows : List Row) (name value : Text) (items : Option (List Item)) → list_any (λ other. same_text other name) names ≡ true
       → cond (has_row name rows) None (told (Some (added name value rows)) items) ≡ told (Some rows) (before (valued name value) items)
   told_valued rows name value None known = by_bool (λ b. cond b None None) None (has_row name rows) refl refl

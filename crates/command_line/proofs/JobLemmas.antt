@@ -81,7 +81,7 @@ has_more id m value (r ∷ rs) = here (bytes_eq r.id id) refl (has_more id m val
     here true same behind = or_same (bytes_eq r.id m) (has_row m rs) ∙ ap (λ t. same_text t m || (bytes_eq r.id m || has_row m rs)) (text_is r.id id same)
     here false same behind = ap (λ b. bytes_eq r.id m || b) behind ∙ or_swap (bytes_eq r.id m) (same_text id m) (has_row m rs)
 
--- the words that belong to no option
+-- the arguments that belong to no option
 abbrev pub tables_of : List Row → List Text
 tables_of rows = unwrap_or (all_of tables_id rows) []
 

@@ -1,11 +1,11 @@
--- What is found in the words: the command as it is told to `clap`, and what its matches give.
+-- What is found in the arguments: the command as it is given to `clap`, and what its matches give.
 use Rattle.std.specs.Prelude.{ℕ, List, [], ◌∷◌, ◌++◌, map, true, Option, Some, None, option_map, unwrap_or, codes, IsUtf8}
 use Rattle.clap.specs.Words.{App, Rule, app_of, first_value, found_of, matched_of, new_app, new_rule, raw_values}
 use Rattle.clap.specs.declared.builder.action.ArgAction.TheVariants.{Append}
 use Rattle.clap.specs.declared.parser.matches.ArgMatches.{ArgMatches}
 use Rattle.command_line.specs.Options.{Given, option_names}
 
--- under which the words that belong to no option are found
+-- under which the arguments that belong to no option are found
 abbrev pub tables_id : List ℕ
 tables_id = codes "NAME=FILE"
 
@@ -17,7 +17,7 @@ option_rule name = record (new_rule name) { long = Some name }
 abbrev pub tables_rule : Rule
 tables_rule = record (new_rule tables_id) { action = Some Append }
 
--- a command with the words alone, no help and these options
+-- a command with the arguments alone, no help and these options
 abbrev pub app_with : List (List ℕ) → App
 app_with names = record (new_app (codes "trinorun")) {
   top = record (new_app (codes "trinorun")).top {
@@ -34,7 +34,7 @@ words_app = app_with option_names
 abbrev pub given_in : ArgMatches → Given
 given_in found = λ name. first_value (found_of found) name
 
--- the words found that belong to no option
+-- the arguments found that belong to no option
 abbrev pub tables_in : ArgMatches → List (List ℕ)
 tables_in found = unwrap_or (option_map raw_values (matched_of (found_of found) tables_id)) []
 

@@ -70,7 +70,7 @@ items_from None (word ∷ words) =
 abbrev pub items_of : List (List ℕ) → Option (List Item)
 items_of words = items_from None words
 
--- the words that are no options and belong to none
+-- the arguments that are no options and belong to none
 abbrev pub named_in : List Item → List (List ℕ)
 named_in [] = []
 named_in (valued name value ∷ items) = named_in items

@@ -73,7 +73,7 @@ abbrev pub names_differ : List (List ℕ) → Bool
 names_differ [] = true
 names_differ (word ∷ words) = not (list_any (names (first_part word)) words) && names_differ words
 
--- the words give files to tables
+-- the arguments give files to tables
 abbrev pub are_named_files : List (List ℕ) → Bool
 are_named_files words = list_all is_named_file words && names_differ words
 
@@ -131,18 +131,18 @@ job_with given source =
       counts = counts;
     }) (counts_in given))))))))
 
--- what is asked for by what is written for the options, and by the words that belong to none
+-- what is asked for by what is written for the options, and by the arguments that belong to none
 abbrev pub job_from : Given → List (List ℕ) → Option Job
 job_from given words = if are_plain given then option_and_then (job_with given) (source_in given words) else None
 
 abbrev pub job_of_items : List Item → Option Job
 job_of_items items = if are_options items then job_from (λ name. written_in name items) (named_in items) else None
 
--- what the words ask for; None where they are no command line
+-- what the arguments ask for; None where they are no command line
 abbrev pub job_of : List (List ℕ) → Option Job
 job_of words = option_and_then job_of_items (items_of words)
 
--- a job of no file and of the usual numbers, for what is told where the words are no command line
+-- a job of no file and of the usual numbers, for what is reported where the arguments are no command line
 abbrev pub no_job : Job
 no_job = record {
   plan = [];

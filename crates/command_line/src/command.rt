@@ -1,4 +1,4 @@
-//! The command as `clap` is told of it, and what it finds in the words.
+//! The command as `clap` is given it, and what it finds in the arguments.
 ghost use Rattle.std.specs.Prelude.{◌≡◌, false, IfOk, map, MatchResult, IsUtf8};
 ghost use Rattle.clap.specs.Words.{app_of, kind_of, rule_of};
 ghost use Rattle.command_line.specs.Found.{AllTexts, app_with, given_in, option_rule, tables_in, tables_rule};
@@ -35,7 +35,7 @@ fn tables<'a>(alloc: Global) -> Arg<'a>
     Arg::new(alloc, TABLES).action(ArgAction::Append)
 }
 
-/// The command with options of these names: the words alone, with no help and no version.
+/// The command with options of these names: the arguments alone, with no help and no version.
 fn command<'a>(alloc: Global, names: &[&'a str]) -> Result<Command<'a>, AllocError>
     ensures { IfOk result (λ command. app_of command ≡ app_with (map (λ name. name.now) names.now)) }
 {
@@ -63,7 +63,7 @@ fn words_are_texts(words: &[&str])
     }
 }
 
-/// What is found in the words.
+/// What is found in the arguments.
 pub fn find<'a>(alloc: Global, words: &'a [&'a str]) -> Result<ArgMatches<'a>, WordsFault>
     ensures { MatchResult result
         (λ found. job_of (map (λ word. word.now) words.entry.now) ≡ job_from (given_in found) (tables_in found))

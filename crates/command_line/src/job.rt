@@ -22,7 +22,7 @@ pub struct Source<'a> {
     pub demo: Option<u64>,
 }
 
-/// What the words ask for: what is run, and the numbers of the options.
+/// What the arguments ask for: what is run, and the numbers of the options.
 #[derive(Drop)]
 pub struct Job<'a> {
     pub source: Source<'a>,
@@ -44,7 +44,7 @@ pub struct Job<'a> {
     pub counts: bool,
 }
 
-/// The file that the words name for a table, and its place among the files, from 0.
+/// The file that the arguments name for a table, and its place among the files, from 0.
 #[derive(Clone, Copy)]
 pub struct TableFile<'a> {
     pub place: usize,

@@ -1,10 +1,10 @@
-//! The command line: the words after the program's name, and what they ask for.
+//! The command line: the arguments, that is the words after the program's name, and what they ask for.
 //!
 //! `specs/Items.antt` says what stands on a command line, `specs/Options.antt` which options there are and what each
 //! has for its value, `specs/Words.antt` which words are a command line and what it asks for. None of them knows how
-//! words are read: that is `clap`'s part, and `specs/Found.antt` says what it is told and what it finds.
+//! words are read: that is `clap`'s part, and `specs/Found.antt` says what it is given and what it finds.
 //!
-//! - `command`: the command for `clap`, and what it finds in the words
+//! - `command`: the command for `clap`, and what it finds in the arguments
 //! - `options`: the options, and what each is given
 //! - `words`: `read_words`
 //! - `job`: what is asked for, and the file of a table

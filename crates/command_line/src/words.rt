@@ -23,7 +23,7 @@ pub fn lend_words<'a>(alloc: Global, words: &'a [Text]) -> Result<Vec<&'a str>, 
     Ok(lent)
 }
 
-/// Reads the words of a command line.
+/// Reads the arguments of a command line.
 pub fn read_words<'a>(alloc: Global, words: &'a [&'a str]) -> Result<Job<'a>, WordsFault>
     ensures job { MatchResult result
         (λ job. job_of (map (λ word. word.now) words.entry.now) ≡ Some (asked job))

@@ -22,7 +22,7 @@ fn is_told_with(alloc: Global, from: &str, to: &str, want: &str) -> Result<bool,
     is_told(alloc, document.as_str(), want)
 }
 
-/// Whether the line tells what is told. A line that begins with `#` is a heading.
+/// Whether the line says what is reported. A line that begins with `#` is a heading.
 fn is_case(alloc: Global, line: &str) -> Result<bool, Fail> {
     match case_of(line) {
         Some(case) => is_told_with(alloc, case.from, case.to, case.told),
@@ -30,7 +30,7 @@ fn is_case(alloc: Global, line: &str) -> Result<bool, Fail> {
     }
 }
 
-/// The first line that does not tell what is told.
+/// The first line that does not say what is reported.
 fn untold(alloc: Global, lines: &'static str) -> Result<&'static str, Fail> {
     for line in lines.lines() {
         if !is_case(alloc, line)? {
@@ -64,7 +64,7 @@ fn push_entries(text: &mut String, entry: &str, count: usize) -> Result<(), Fail
     Ok(())
 }
 
-/// Whether a list of so many entries tells what is told.
+/// Whether a list of so many entries says what is reported.
 fn is_told_of(
     alloc: Global,
     from: &str,
@@ -117,7 +117,7 @@ fn is_list(alloc: Global, line: &str) -> Result<bool, Fail> {
     }
 }
 
-/// The first line that does not tell what is told.
+/// The first line that does not say what is reported.
 fn untold_list(alloc: Global, lines: &'static str) -> Result<&'static str, Fail> {
     for line in lines.lines() {
         if !is_list(alloc, line)? {
@@ -139,7 +139,7 @@ fn name_of(alloc: Global, count: usize) -> Result<String, Fail> {
     Ok(format!(in alloc; "'{name}'")?)
 }
 
-/// Whether the line tells what is told, and what is told with a name in place of the empty one.
+/// Whether the line says what is reported, and what is reported with a name in place of the empty one.
 fn is_name(alloc: Global, line: &str, name: &str) -> Result<bool, Fail> {
     match case_of(line) {
         Some(case) => Ok(
@@ -155,7 +155,7 @@ fn is_told_named(alloc: Global, case: Case<'_>, name: &str) -> Result<bool, Fail
     is_told_with(alloc, case.from, to.as_str(), case.told)
 }
 
-/// The first line that does not tell what is told.
+/// The first line that does not say what is reported.
 fn untold_name(alloc: Global, lines: &'static str, name: &str) -> Result<&'static str, Fail> {
     for line in lines.lines() {
         if !is_name(alloc, line, name)? {
@@ -179,7 +179,7 @@ fn a_name_may_have_128_bytes(rt: HostRuntime) -> Result<(), Fail> {
     Ok(())
 }
 
-/// Whether the line tells what is told of the small document, with a scan in place of `SCAN`.
+/// Whether the line says what is reported of the small document, with a scan in place of `SCAN`.
 fn is_root(alloc: Global, line: &str) -> Result<bool, Fail> {
     match case_of(line) {
         Some(case) => {
@@ -195,7 +195,7 @@ fn is_told_scanned(alloc: Global, document: &str, want: &str) -> Result<bool, Fa
     is_told(alloc, document.as_str(), want)
 }
 
-/// The first line that does not tell what is told.
+/// The first line that does not say what is reported.
 fn untold_root(alloc: Global, lines: &'static str) -> Result<&'static str, Fail> {
     for line in lines.lines() {
         if !is_root(alloc, line)? {
@@ -223,7 +223,7 @@ fn refuses_what_is_no_document(rt: HostRuntime) -> Result<(), Fail> {
     Ok(())
 }
 
-/// What is told of the small document with the root.
+/// What is reported of the small document with the root.
 fn is_told_root(alloc: Global, root: &str, want: &str) -> Result<bool, Fail> {
     let document = SMALL.replace(alloc, "ROOT", root)?;
     is_told(alloc, document.as_str(), want)

@@ -147,7 +147,7 @@ fn is_case(alloc: Global, line: &str) -> Result<bool, Fail> {
     }
 }
 
-/// The first line that does not tell what is told.
+/// The first line that does not say what is reported.
 fn untold(alloc: Global, lines: &'static str) -> Result<&'static str, Fail> {
     for line in lines.lines() {
         if !is_case(alloc, line)? {

@@ -3,7 +3,7 @@ use plan_checks::PlanFault;
 use std::alloc::Global;
 use std::test::Fail;
 
-/// A text of a document, what is put in its place, and what is told then.
+/// A text of a document, what is put in its place, and what is reported then.
 #[derive(Clone, Copy)]
 pub struct Case<'a> {
     pub from: &'a str,

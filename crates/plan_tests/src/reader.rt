@@ -20,7 +20,7 @@ fn is_told(alloc: Global, quoted: &str, want: &str) -> Result<bool, Fail> {
     }
 }
 
-/// Whether the line tells what is told of the document with one text in place of another. A line
+/// Whether the line says what is reported of the document with one text in place of another. A line
 /// that begins with `#` is a heading.
 fn is_case(alloc: Global, line: &str) -> Result<bool, Fail> {
     match case_of(line) {
@@ -32,7 +32,7 @@ fn is_case(alloc: Global, line: &str) -> Result<bool, Fail> {
     }
 }
 
-/// The first line that does not tell what is told.
+/// The first line that does not say what is reported.
 fn untold(alloc: Global, lines: &'static str) -> Result<&'static str, Fail> {
     for line in lines.lines() {
         if !is_case(alloc, line)? {
@@ -64,7 +64,7 @@ fn is_root(alloc: Global, line: &str) -> Result<bool, Fail> {
     }
 }
 
-/// The first root of which something else is told.
+/// The first root of which something else is reported.
 fn untold_root(alloc: Global, lines: &'static str) -> Result<&'static str, Fail> {
     for line in lines.lines() {
         if !is_root(alloc, line)? {
@@ -90,7 +90,7 @@ fn is_several(alloc: Global, line: &str) -> Result<bool, Fail> {
     }
 }
 
-/// The first line that does not tell what is told of several fragments.
+/// The first line that does not say what is reported of several fragments.
 fn untold_several(alloc: Global, lines: &'static str) -> Result<&'static str, Fail> {
     for line in lines.lines() {
         if !is_several(alloc, line)? {
@@ -106,7 +106,7 @@ fn refuses_several_fragments_at_the_first_place(rt: HostRuntime) -> Result<(), F
     Ok(())
 }
 
-/// Whether the line tells what is told of the document with its scan.
+/// Whether the line says what is reported of the document with its scan.
 fn is_step(alloc: Global, document: &str, line: &str) -> Result<bool, Fail> {
     match case_of(line) {
         Some(case) => {
@@ -118,7 +118,7 @@ fn is_step(alloc: Global, document: &str, line: &str) -> Result<bool, Fail> {
     }
 }
 
-/// The first line that does not tell what is told of the document.
+/// The first line that does not say what is reported of the document.
 fn untold_step(alloc: Global, document: &str, lines: &'static str) -> Result<&'static str, Fail> {
     for line in lines.lines() {
         if !is_step(alloc, document, line)? {

@@ -70,7 +70,7 @@ fn is_case(alloc: Global, document: &str, line: &str) -> Result<bool, Fail> {
     }
 }
 
-/// The first line that does not tell what is told.
+/// The first line that does not say what is reported.
 fn untold(alloc: Global, document: &str, lines: &'static str) -> Result<&'static str, Fail> {
     for line in lines.lines() {
         if !is_case(alloc, document, line)? {

@@ -95,7 +95,7 @@ fn is_root(alloc: Global, line: &str) -> Result<bool, Fail> {
     }
 }
 
-/// The first line that does not tell what is told.
+/// The first line that does not say what is reported.
 fn untold_root(alloc: Global, lines: &'static str) -> Result<&'static str, Fail> {
     for line in lines.lines() {
         if !is_root(alloc, line)? {
@@ -121,7 +121,7 @@ fn is_half(alloc: Global, line: &str) -> Result<bool, Fail> {
     }
 }
 
-/// The first line that does not tell what is told.
+/// The first line that does not say what is reported.
 fn untold_half(alloc: Global, lines: &'static str) -> Result<&'static str, Fail> {
     for line in lines.lines() {
         if !is_half(alloc, line)? {

@@ -1,7 +1,7 @@
 //! Tests of the crates at the outside of a run: a module for each, over its public items alone.
 //!
 //! - `ports`: files, sinks, couriers and meetings of `run_ports`
-//! - `words`: the words of `command_line`, and what they ask for
+//! - `words`: the arguments of `command_line`, and what they ask for
 //! - `tables`: texts in CSV, read and printed by `csv_tables`
 //! - `parts`: the same texts, read as parts by `table_parts`
 //! - `demo`: the documents of `demo_documents`

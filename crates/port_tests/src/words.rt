@@ -14,7 +14,7 @@ fn words_in(alloc: Global, line: &str) -> Result<Vec<Text>, Fail> {
     Ok(words)
 }
 
-/// Whether the words are no command line.
+/// Whether the arguments are no command line.
 fn is_refused(alloc: Global, line: &str) -> Result<bool, Fail> {
     let words = words_in(alloc, line)?;
     let lent = lend_words(alloc, words.as_slice())?;
@@ -309,7 +309,7 @@ fn gives_numbers(alloc: Global, words: &[Text], want: &str) -> Result<bool, Fail
     }
 }
 
-/// Whether the words after `--plan p` give the numbers.
+/// Whether the arguments after `--plan p` give the numbers.
 fn is_told(alloc: Global, options: &str, want: &str) -> Result<bool, Fail> {
     let line = format!(in alloc; "--plan p {options}")?;
     let words = words_in(alloc, line.as_str())?;
@@ -323,7 +323,7 @@ fn is_case(alloc: Global, line: &str) -> Result<bool, Fail> {
     }
 }
 
-/// The first line that does not tell what is told.
+/// The first line that does not say what is reported.
 fn untold(alloc: Global, lines: &'static str) -> Result<&'static str, Fail> {
     for line in lines.lines() {
         if !is_case(alloc, line)? {

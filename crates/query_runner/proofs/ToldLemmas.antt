@@ -1,4 +1,4 @@
--- What is told of an answer.
+-- What is reported of an answer.
 use Rattle.std.proofs.Common.{◌≡◌, ℕ, List, refl}
 use Rattle.std.specs.Io.KnownBytes.{Appends}
 use Rattle.count_laws.specs.Counts.{Rose}
@@ -8,7 +8,7 @@ use Rattle.query_runner.specs.Lines.{line}
 use Rattle.query_runner.specs.declared.status.Status.{Status}
 use Rattle.query_runner.specs.declared.status.Status.TheVariants as status
 
--- of each answer but Ok a line is told, or a beginning of it
+-- of each answer but Ok a line is written, or a beginning of it
 pub told : (heard : Heard) (text : List ℕ) (answer : Status) → ¬ (answer ≡ status.Ok)
     → (¬ Rose heard.faults_before heard.faults_after → Appends heard.told_before heard.told_after (line text))
     → AppendsPrefix heard.told_before heard.told_after (line text)

@@ -1,4 +1,4 @@
--- What is answered where the words were not read.
+-- What is answered where the arguments were not read.
 use Rattle.std.proofs.Common.{◌≡◌, ◌⊎◌, inl, inr, ℕ, [], Option, Some, None, refl, subst, sym}
 use Rattle.command_line.specs.Words.{Job, Refuses, no_job}
 use Rattle.command_line.specs.declared.command.WordsFault.{WordsFault}
@@ -12,7 +12,7 @@ nothing_for : (demo : Option ℕ) (seen : SeenOutside) → WroteNothing seen →
 nothing_for None seen nothing = nothing
 nothing_for (Some number) seen nothing = nothing
 
--- memory was wanting, whatever the words ask for
+-- memory was wanting, whatever the arguments ask for
 memory_answered : (asked : Option Job) (seen : SeenOutside) (heard : Heard) → WroteNothing seen → Told heard (message no_job [] status.Memory) status.Memory
     → Answered asked seen heard status.Memory
 memory_answered None seen heard nothing told = record { is = inr refl; nothing = nothing; told = told }
@@ -28,7 +28,7 @@ refused_answered : (fault : WordsFault) (asked : Option Job) (seen : SeenOutside
 refused_answered fault.Bad asked seen heard none nothing told = bad_answered asked seen heard none nothing told
 refused_answered fault.Memory asked seen heard any nothing told = memory_answered asked seen heard nothing told
 
--- the same of an answer that is told so
+-- the same of an answer that is reported so
 pub words_answered : (fault : WordsFault) (answer : Status) (asked : Option Job) (seen : SeenOutside) (heard : Heard) → answer ≡ status_of_words fault → Refuses asked fault → WroteNothing seen
     → Told heard (message no_job [] answer) answer → Answered asked seen heard answer
 words_answered fault answer asked seen heard is refused nothing told =

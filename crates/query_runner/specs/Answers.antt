@@ -35,7 +35,7 @@ pub record SeenOutside : Type 0 where
   pub write_faults_before : ℕ
   pub write_faults_after : ℕ
 
--- what was told on the errors, before a run and after it
+-- what was written to the errors, before a run and after it
 pub record Heard : Type 0 where
   pub told_before : Option (List ℕ)
   pub told_after : Option (List ℕ)
@@ -55,7 +55,7 @@ seen_of of_files of_output files files_after out out_after = record {
   write_faults_after = of_output.faults out_after;
 }
 
--- what was told on these errors
+-- what was written to these errors
 abbrev pub heard_on : {E : Type 0} → SinkGhosts E → E → E → Heard
 heard_on of_errors err err_after = record {
   told_before = of_errors.written err;
@@ -125,7 +125,7 @@ pub record ToldLine (heard : Heard) (text : List ℕ) : Type 0 where
   pub whole : ¬ Rose heard.faults_before heard.faults_after → Appends heard.told_before heard.told_after (line text)
   pub begun : AppendsPrefix heard.told_before heard.told_after (line text)
 
--- what was told on the errors: nothing where all went well, else the answer's message
+-- what was written to the errors: nothing where all went well, else the answer's message
 abbrev pub Told : Heard → List ℕ → Status → Type 0
 Told heard text status.Ok = heard.told_after ≡ heard.told_before
 Told heard text _ = ToldLine heard text
@@ -143,7 +143,7 @@ pub record PlanRan (job : Job) (seen : SeenOutside) (heard : Heard) (answer : St
   pub answered : PlanAnswered job plan seen answer
   pub told : Told heard (message job plan.tables answer) answer
 
--- what an answer means where the words ask for this
+-- what an answer means where the arguments ask for this
 abbrev pub JobAnswered : Job → SeenOutside → Heard → Status → Type 0
 JobAnswered job seen heard answer = PlanIsUnread job seen heard answer ⊎ PlanRan job seen heard answer
 
@@ -162,12 +162,12 @@ seen_for (Some number) seen = record seen {
   refused = None;
 }
 
--- the answer where the words were not read
+-- the answer where the arguments were not read
 abbrev pub status_of_words : WordsFault → Status
 status_of_words fault.Bad = status.BadWords
 status_of_words fault.Memory = status.Memory
 
--- the words are no command line: that is told, or memory was wanting
+-- the arguments are no command line: that is reported, or memory was wanting
 pub record WordsAreBad (seen : SeenOutside) (heard : Heard) (answer : Status) : Type 0 where
   pub is : (answer ≡ status.BadWords) ⊎ (answer ≡ status.Memory)
   pub nothing : WroteNothing seen

@@ -1,4 +1,4 @@
--- What the words ask for, over what the files hold: the plan, and the rows of its tables.
+-- What the arguments ask for, over what the files hold: the plan, and the rows of its tables.
 use Rattle.std.specs.Prelude.{◌≡◌, ℕ, List, [], ◌∷◌, Option, Some, is_none}
 use Rattle.std.specs.List.{position_from}
 use Rattle.sql_values.specs.declared.value.Value.{Value}
@@ -27,11 +27,11 @@ pub record IsPlanAsked (held : Contents) (job : Job) (plan : PlanForm) : Type 0 
   pub are_bytes : AreBytesOf held job.plan bytes
   pub is_plan : IsPlan bytes plan
 
--- the first table for which the words name no file
+-- the first table for which the arguments name no file
 abbrev pub first_without_file : Job → List TableDoc → Option ℕ
 first_without_file job docs = position_from (λ doc. is_none (file_of doc.name job.files)) 0 docs
 
--- the words name this file for a table
+-- the arguments name this file for a table
 pub record IsFileOf (job : Job) (doc : TableDoc) (place : ℕ) (file : List ℕ) : Type 0 where
   pub is : file_of doc.name job.files ≡ Some (place, file)
 

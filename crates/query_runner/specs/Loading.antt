@@ -47,7 +47,7 @@ pub record SomeTableIsUnread (held : Contents) (job : Job) (docs : List TableDoc
 abbrev pub name_path : ℕ → List ℕ
 name_path table = pointer_text (step.Key key.Tables ∷ step.Index table ∷ step.Key key.Name ∷ [])
 
--- the words name no file for a table, and this is the first such table
+-- the arguments name no file for a table, and this is the first such table
 pub record HasNoFile (job : Job) (docs : List TableDoc) (code : ℕ) (path : List ℕ) : Type 0 where
   pub table : ℕ
   pub is_first : first_without_file job docs ≡ Some table

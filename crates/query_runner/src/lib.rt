@@ -1,16 +1,16 @@
-//! `run`, the top call: what the words of a command line ask for, done over the files and the sinks that it is given.
+//! `run`, the top call: what the arguments of a command line ask for, done over the files and the sinks that it is given.
 //!
 //! What `run` promises is its contract, in the words of `specs/Answers.antt`: for every command line
 //! and all that the files tell, status 0 means that what was written is the text of a list of rows
 //! that the plan's tree allows over its tables, and each other status but want of memory has its
 //! cause.
 //!
-//! - `words`: the words that the system gives
+//! - `words`: the arguments that the system gives
 //! - `documents`: those of a demo, in the place of files
 //! - `load`: the plan and its tables, from files
 //! - `top`: `run`
 //! - `results`: the text of what a plan gives
-//! - `lines`: the line that is told for each answer
+//! - `lines`: the line that is written for each answer
 //! - `status`: the answers, and the exit status of each
 #![tactic(auto)]
 

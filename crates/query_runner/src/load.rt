@@ -45,7 +45,7 @@ fn read_file<F: Files>(
     }
 }
 
-/// Reads the plan that the words name.
+/// Reads the plan that the arguments name.
 pub fn load_plan<F: Files>(alloc: Global, job: &Job<'_>, files: &mut F) -> Result<Plan, Status>
     ensures read { IfOk result (λ plan. WasRead (plan_view plan)) }
     ensures same { F.holds files.new ≡ F.holds files.old }
@@ -63,7 +63,7 @@ pub fn load_plan<F: Files>(alloc: Global, job: &Job<'_>, files: &mut F) -> Resul
     }
 }
 
-/// The files that the words name for the tables of a plan.
+/// The files that the arguments name for the tables of a plan.
 pub fn files_of<'a>(
     alloc: Global,
     job: &Job<'a>,
@@ -106,7 +106,7 @@ fn has_no_file(
     })
 }
 
-/// Reads the tables of a plan, each from its file and with the workers that the words ask for.
+/// Reads the tables of a plan, each from its file and with the workers that the arguments ask for.
 #[tactic(auto, using(crate::proofs::TableLemmas::images_at, crate::proofs::TableLemmas::item_there, crate::proofs::TableLemmas::one_table_more, crate::proofs::TableLemmas::table_fails))]
 pub fn load_tables<R: Threads + Sync, F: Files>(
     rt: &R,

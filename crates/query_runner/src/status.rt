@@ -15,7 +15,7 @@ pub enum Status {
     /// The words are no command line.
     BadWords,
     /// A file could not be read: 0 is the plan's, and the others are counted from 1 in the order of
-    /// the words.
+    /// the arguments.
     ReadFault {
         file: u32,
     },

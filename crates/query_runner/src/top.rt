@@ -25,7 +25,7 @@ use std::sync::Wait;
 use std::thread::Threads;
 use task_executor::Shape;
 
-/// Runs the plan that the words name over the tables that they name, and writes the result's text
+/// Runs the plan that the arguments name over the tables that they name, and writes the result's text
 /// to `out`. For each answer but Ok it writes one line to `err`.
 #[tactic(auto, using(crate::proofs::CompletenessLemmas::complete))]
 pub fn run<R, F, O, E, C, M>(
@@ -66,7 +66,7 @@ where
     }
 }
 
-/// Tells why the words were not read.
+/// Tells why the arguments were not read.
 fn refuse<E: Sink>(alloc: Global, err: &mut E, fault: WordsFault) -> Status
     ensures status { result ≡ status_of_words fault }
     ensures told { Told (heard_on E.Sink err.old err.new) (message no_job [] result) result }
@@ -79,7 +79,7 @@ fn refuse<E: Sink>(alloc: Global, err: &mut E, fault: WordsFault) -> Status
     status
 }
 
-/// Does what the words ask for, over the files or over the documents of a demo.
+/// Does what the arguments ask for, over the files or over the documents of a demo.
 fn run_source<R, F, O, E, C, M>(
     rt: &R,
     alloc: Global,
@@ -110,7 +110,7 @@ where
     }
 }
 
-/// Does what the words ask for over the documents of the demo of a number, which no read takes from the files.
+/// Does what the arguments ask for over the documents of the demo of a number, which no read takes from the files.
 fn run_demo<R, O, E, C, M>(
     rt: &R,
     alloc: Global,
@@ -146,7 +146,7 @@ where
     run_job(rt, alloc, job, &mut documents, out, err, courier, meet)
 }
 
-/// Does what the words ask for, over some files.
+/// Does what the arguments ask for, over some files.
 fn run_job<R, F, O, E, C, M>(
     rt: &R,
     alloc: Global,

@@ -141,7 +141,7 @@ fn is_told_into<R: Threads + Wait + Sync + RandomSource + AllocGlobal>(
     Ok(is_answer(status.exit_code(), out.written(), err.written(), told))
 }
 
-/// Whether this is the answer that is told.
+/// Whether this is the answer that is given.
 fn is_answer(code: u8, written: &[u8], noted: &[u8], told: &str) -> bool {
     let (status, rest) = told.split_once('|').unwrap_or((told, ""));
     let (text, notes) = rest.split_once('|').unwrap_or((rest, ""));

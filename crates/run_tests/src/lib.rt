@@ -4,7 +4,7 @@
 //! Plans are written with `'` for the quotation mark, and tables and answers with `~` for the line feed. A case is
 //! a line `tables | names | root | rows | answer`: the tables of the plan by their short name (none: the root is the
 //! whole document), the names of its output, its root with `@x` for the scans, the rows of the tables with a `;`
-//! between two, and the answer: the exit status, what was written and what was told, with a `|` between them.
+//! between two, and the answer: the exit status, what was written and what was written to the errors, with a `|` between them.
 //!
 //! - `plans`: the plan of a case
 //! - `answers`: runs of `run`

@@ -16,7 +16,7 @@ const SCAN: &str = "'op':'scan','table':'t','columns':['a','b']}";
 
 const VALUES: &str = "'op':'values','types':['date'],'rows':[]}";
 
-/// Types are told by their first letters. Where pipes do not fit together, that is told by a word.
+/// Types are written by their first letters. Where pipes do not fit together, that is written as a word.
 const CASES: &str = "\
 {'placement':'SINGLE','root':{'id':1,SCAN} | bv/bv//bv\n\
 {'placement':'SINGLE','root':{'id':1,'op':'project','columns':[{'col':1}],'input':{'id':2,SCAN}} | bv/bv//v\n\

@@ -15,12 +15,12 @@ AreFinished drivers = All (λ d. d.is_finished ≡ true) drivers
 abbrev pub AreWholeDrivers : List DriverState → Type 0
 AreWholeDrivers drivers = All (λ d. IsWhole d.fault) drivers
 
--- the driver failed so in its last turn
+-- the driver failed in this way in its last turn
 abbrev pub IsFailing : DriverState → RunFault → Type 0
 IsFailing driver (ExprFailed node kind) = (driver.fault ≡ Some (ExprFailed node kind)) × HasFailed driver node kind
 IsFailing driver Memory = Unit {0}
 
--- one of the drivers failed so, and none for want of memory
+-- one of the drivers failed in this way, and none for want of memory
 abbrev pub AreFailing : List DriverState → RunFault → Type 0
 AreFailing drivers (ExprFailed node kind) = AreWholeDrivers drivers × ((d : DriverState) × Contains drivers d × HasFailed d node kind)
 AreFailing drivers Memory = Unit {0}

@@ -54,7 +54,7 @@ where
     answer_of(alloc, plan, pipes, drivers, failed)
 }
 
-/// Gives turns until each driver is finished, or an expression failed in one, which is told.
+/// Gives turns until each driver is finished, or an expression failed in one, which is reported.
 fn drive_whole<R: Threads + Wait + Sync, C: Courier>(
     rt: &R,
     solo: &Solo,

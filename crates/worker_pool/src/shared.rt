@@ -43,7 +43,7 @@ impl<T: TakesTurns, J: Roster<T>> Shared<T, J> {
         None
     }
 
-    /// Puts the one that had a turn where it belongs. Nobody is told, since this worker picks next.
+    /// Puts the one that had a turn where it belongs. Nobody is woken, since this worker picks next.
     pub(crate) fn settle<R: Wait>(
         &self,
         rt: &R,

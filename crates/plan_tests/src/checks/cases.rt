@@ -27,7 +27,7 @@ pub const WHOLE: &str = "{'version':1,'output':['x','y'],'tables':[\
     {'id':15,'op':'scan','table':'u','columns':['a']}}}}}]}";
 
 /// A line for each case: a text of the document, what is put in its place, and the code and the
-/// path that are told then. A line that begins with `#` is a heading.
+/// path that are reported then. A line that begins with `#` is a heading.
 pub const CASES: &str = "\
 'version':1, | 'version':1 , | 0\n\
 'version':1, | 'version':01, | 1\n\
@@ -203,7 +203,7 @@ pub const CASES: &str = "\
 {'id':0,'key':4,'scan':10,'column':5,'wait':false} | {'wait':0,'column':0,'scan':'','key':0,'id':0} | 2 /fragments/1/root/input/filters/0/scan";
 
 /// A line for each list of the document: the list, an entry for a list in its place, and then how
-/// many entries it may have, what is told at most, and what is told of a list that is too long.
+/// many entries it may have, what is reported at most, and what is reported of a list that is too long.
 pub const LISTS: &str = "\
 ['x','y'] | 'z' | 1..256, 0, 3 /output\n\
 [{'name':'a','type':'date'}] | {'name':'a','type':'date'} | 1..256, 4 /tables/1/columns/1/name, 3 /tables/1/columns\n\
@@ -239,7 +239,7 @@ pub const FILTERED: &str = "{'id':2,'op':'filter','predicate':FORM,'input':SCAN}
 
 pub const SCAN: &str = "{'id':1,'op':'scan','table':'t','columns':['a']}";
 
-/// A line for each root over a scan, which stands as `SCAN` in it, and what is told then.
+/// A line for each root over a scan, which stands as `SCAN` in it, and what is reported then.
 pub const ROOTS: &str = "\
 ROOT | SCAN | 0\n\
 'id':0,'placement':'SINGLE','root':ROOT | 'id':1,'placement':'SINGLE','root':SCAN | 6 /fragments/0/id\n\

@@ -14,7 +14,7 @@ pub const WHOLE: &str = "{'version':1,'output':['x','y'],'tables':[\
     {'id':3,'op':'scan','table':'t','columns':['a','b','c','d','e']}}}}]}";
 
 /// A line for each case: a text of the document, what is put in its place, and the code and the
-/// path that are told then, 0 where it is a plan. A line that begins with `#` is a heading.
+/// path that are reported then, 0 where it is a plan. A line that begins with `#` is a heading.
 pub const CASES: &str = "\
 'version':1, | 'version':1 , | 0\n\
 # Code 1: no JSON.\n\
@@ -106,7 +106,7 @@ pub const CASES: &str = "\
 pub const SMALL: &str = "{'version':1,'output':['x'],'tables':[{'name':'t','columns':[\
     {'name':'a','type':'bigint'}]}],'fragments':[{'id':0,'placement':'SOURCE','root':ROOT}]}";
 
-/// A root of that document, with `SCAN` for a scan, and what is told then.
+/// A root of that document, with `SCAN` for a scan, and what is reported then.
 pub const ROOTS: &str = "\
 SCAN | 8 /fragments/0/placement\n\
 {'id':1,'op':'filter','predicate':{'col':0},'input':SCAN} | 5 /fragments/0/root/predicate\n\
@@ -167,7 +167,7 @@ pub const GROUPED: &str = "{'version':1,'output':['k','s'],'tables':[{'name':'t'
     {'id':5,'op':'aggregate','step':'PARTIAL','keys':[1],'calls':[{'name':'sum','column':0}],\
     'input':{'id':6,'op':'scan','table':'t','columns':['a','b']}}}]}";
 
-/// A text of that document, what is put in its place, and the code and the path that are told, 0 where it is a plan.
+/// A text of that document, what is put in its place, and the code and the path that are reported, 0 where it is a plan.
 pub const SEVERAL: &str = "\
 'version':1, | 'version':1 , | 0\n\
 'placement':'SOURCE' | 'placement':'SINGLE' | 0\n\

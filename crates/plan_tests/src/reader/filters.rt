@@ -10,7 +10,7 @@ pub const ALONE: &str = "{'version':1,'output':['n'],'tables':[{'name':'t','colu
 /// What stands for `SCAN`.
 pub const SCAN: &str = "{'id':4,'op':'scan','table':'t','columns':['a','b','c','d']}";
 
-/// A text of that document, what is put in its place, and the code and the path that are told, 0 where it is a plan.
+/// A text of that document, what is put in its place, and the code and the path that are reported, 0 where it is a plan.
 pub const STEPS: &str = "\
 'wait':true | 'wait':false | 0\n\
 # What the filter names.\n\

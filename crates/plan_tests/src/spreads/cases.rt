@@ -66,7 +66,7 @@ pub const TWO: &str = "{'output':['x'],'tables':[{'name':'t','columns':[\
     {'op':'aggregate','step':'PARTIAL','keys':[1],'calls':[{'name':'sum','column':0}],\
     'input':{'op':'scan','table':'t','columns':['a','b']}}}]}";
 
-/// A text of that document, what is put in its place, and what is told then.
+/// A text of that document, what is put in its place, and what is reported then.
 pub const HALVES: &str = "\
 [1] | [1] | whole by:0 any\n\
 [1] | [] | /fragments/1/root\n\

@@ -56,7 +56,7 @@ pub const TWO: &str = "{'output':['x','y','z'],'tables':[{'name':'t','columns':[
     'calls':[{'name':'avg','column':1},{'name':'sum','column':0}],\
     'input':{'op':'scan','table':'t','columns':['a','d']}}}]}";
 
-/// A text of that document, what is put in its place, and what is told then. Between its halves
+/// A text of that document, what is put in its place, and what is reported then. Between its halves
 /// the rows have 5 columns, and the last of them is at place 4.
 pub const HALVES: &str = "\
 [5] | [4] | bigint decimal(12,3) bigint\n\

@@ -1,0 +1,11 @@
+pub mod CountLemmas
+pub mod WeighLemmas
+pub mod ReadCountLemmas
+pub mod SpotLemmas
+pub mod DocumentCountLemmas
+pub mod PlanLemmas
+pub mod PartLemmas
+pub mod TreeLemmas
+pub mod JoinLemmas
+pub mod PairLemmas
+pub mod FilterLemmas

@@ -1,11 +1,12 @@
--- How often an id is in a list, and that the scans of a run whose ids are there once are apart.
-use Rattle.std.proofs.Common.{◌≡◌, ◌⊎◌, inl, inr, ℕ, ◌+◌, ◌≤◌, List, [], ◌∷◌, ◌++◌, Contains, ap, arith}
+-- How often an id is in a list, and that scans and joins whose ids are there once are apart.
+use Rattle.std.proofs.Common.{◌≡◌, ◌⊎◌, inl, inr, ℕ, ◌+◌, ◌≤◌, List, [], ◌∷◌, ◌++◌, Contains, refl, ap, arith}
 use Rattle.std.specs.Prelude.{◌==◌}
 use Rattle.std.proofs.lemmas.Bool.{eq-eqb}
 use Rattle.std.proofs.lemmas.List.Elements.{Contains-append_cases, Contains-push_cases}
 use Rattle.plan_run_laws.specs.RunPlans.{RunPlan, scan, values, remote, filter, project, join, aggregate, aggregate_parts, sort, topn, topn_parts, limit, limit_parts, union}
 use Rattle.plan_link_laws.proofs.CountLemmas.{one_if}
-use Rattle.sieve_laws.specs.ComingDown.{HaveApart, ScansApart, scans_of}
+use Rattle.filter_plan_laws.specs.JoinIds.{AreApart, JoinsApart, joins_of}
+use Rattle.sieve_laws.specs.ComingDown.{ScansApart, scans_of}
 
 abbrev pub ids_in : ℕ → List ℕ → ℕ
 ids_in n [] = 0
@@ -30,35 +31,119 @@ counted n (x ∷ xs) there = by (λ later. counted n xs later) (Contains-append_
     by rest (inl here) = first (Contains-push_cases [] x n here)
     by rest (inr later) = let more = rest later in omega (arith, more)
 
--- each id is that of at most one scan
-abbrev pub AreOnce : RunPlan → Type 0
-AreOnce p = (n : ℕ) → ids_in n (scans_of p) ≤ 1
+-- the ids of its scans and its joins
+abbrev pub named_of : RunPlan → List ℕ
+named_of (scan id table columns types) = id ∷ []
+named_of (values id types rows) = []
+named_of (remote id output m input) = named_of input
+named_of (filter id predicate input) = named_of input
+named_of (project id columns input) = named_of input
+named_of (join id kind on left right) = id ∷ named_of left ++ named_of right
+named_of (aggregate id keys calls input) = named_of input
+named_of (aggregate_parts id source output m keys calls input) = named_of input
+named_of (sort id keys input) = named_of input
+named_of (topn id count keys input) = named_of input
+named_of (topn_parts id source output m count keys input) = named_of input
+named_of (limit id count input) = named_of input
+named_of (limit_parts id source output m count input) = named_of input
+named_of (union id left right) = named_of left ++ named_of right
 
-abbrev AreOnceIn : RunPlan → RunPlan → Type 0
-AreOnceIn left right = (n : ℕ) → ids_in n (scans_of left ++ scans_of right) ≤ 1
+scans_named : (n : ℕ) (p : RunPlan) → ids_in n (scans_of p) ≤ ids_in n (named_of p)
+scans_named n (scan id table columns types) = omega arith
+scans_named n (values id types rows) = omega arith
+scans_named n (remote id output m input) = scans_named n input
+scans_named n (filter id predicate input) = scans_named n input
+scans_named n (project id columns input) = scans_named n input
+scans_named n (join id kind on left right) =
+    omega (arith, scans_named n left, scans_named n right, ids_append n (scans_of left) (scans_of right), ids_append n (named_of left) (named_of right))
+scans_named n (aggregate id keys calls input) = scans_named n input
+scans_named n (aggregate_parts id source output m keys calls input) = scans_named n input
+scans_named n (sort id keys input) = scans_named n input
+scans_named n (topn id count keys input) = scans_named n input
+scans_named n (topn_parts id source output m count keys input) = scans_named n input
+scans_named n (limit id count input) = scans_named n input
+scans_named n (limit_parts id source output m count input) = scans_named n input
+scans_named n (union id left right) =
+    omega (arith, scans_named n left, scans_named n right, ids_append n (scans_of left) (scans_of right), ids_append n (named_of left) (named_of right))
 
-left_once : (left right : RunPlan) → AreOnceIn left right → AreOnce left
-left_once left right once n = omega (arith, once n, ids_append n (scans_of left) (scans_of right))
+joins_named : (n : ℕ) (p : RunPlan) → ids_in n (joins_of p) ≤ ids_in n (named_of p)
+joins_named n (scan id table columns types) = omega arith
+joins_named n (values id types rows) = omega arith
+joins_named n (remote id output m input) = joins_named n input
+joins_named n (filter id predicate input) = joins_named n input
+joins_named n (project id columns input) = joins_named n input
+joins_named n (join id kind on left right) =
+    omega (arith, joins_named n left, joins_named n right, ids_append n (joins_of left) (joins_of right), ids_append n (named_of left) (named_of right))
+joins_named n (aggregate id keys calls input) = joins_named n input
+joins_named n (aggregate_parts id source output m keys calls input) = joins_named n input
+joins_named n (sort id keys input) = joins_named n input
+joins_named n (topn id count keys input) = joins_named n input
+joins_named n (topn_parts id source output m count keys input) = joins_named n input
+joins_named n (limit id count input) = joins_named n input
+joins_named n (limit_parts id source output m count input) = joins_named n input
+joins_named n (union id left right) =
+    omega (arith, joins_named n left, joins_named n right, ids_append n (joins_of left) (joins_of right), ids_append n (named_of left) (named_of right))
 
-right_once : (left right : RunPlan) → AreOnceIn left right → AreOnce right
-right_once left right once n = omega (arith, once n, ids_append n (scans_of left) (scans_of right))
+-- ids of two sides that are there once are not in both
+sides_apart : (ids others : List ℕ) → ((n : ℕ) → ids_in n (ids ++ others) ≤ 1) → AreApart ids others
+sides_apart ids others once id here there = omega (arith, once id, ids_append id ids others, counted id ids here, counted id others there)
 
-sides_apart : (left right : RunPlan) → AreOnceIn left right → HaveApart left right
-sides_apart left right once id here there =
-    omega (arith, once id, ids_append id (scans_of left) (scans_of right), counted id (scans_of left) here, counted id (scans_of right) there)
+left_once : (ids others : List ℕ) → ((n : ℕ) → ids_in n (ids ++ others) ≤ 1) → (n : ℕ) → ids_in n ids ≤ 1
+left_once ids others once n = omega (arith, once n, ids_append n ids others)
 
-pub apart : (p : RunPlan) → AreOnce p → ScansApart p
-apart (scan id table columns types) once = tt
-apart (values id types rows) once = tt
-apart (remote id output m input) once = apart input once
-apart (filter id predicate input) once = apart input once
-apart (project id columns input) once = apart input once
-apart (join id kind on left right) once = (apart left (left_once left right once), apart right (right_once left right once), sides_apart left right once)
-apart (aggregate id keys calls input) once = apart input once
-apart (aggregate_parts id source output m keys calls input) once = apart input once
-apart (sort id keys input) once = apart input once
-apart (topn id count keys input) once = apart input once
-apart (topn_parts id source output m count keys input) once = apart input once
-apart (limit id count input) once = apart input once
-apart (limit_parts id source output m count input) once = apart input once
-apart (union id left right) once = (apart left (left_once left right once), apart right (right_once left right once), sides_apart left right once)
+right_once : (ids others : List ℕ) → ((n : ℕ) → ids_in n (ids ++ others) ≤ 1) → (n : ℕ) → ids_in n others ≤ 1
+right_once ids others once n = omega (arith, once n, ids_append n ids others)
+
+scans_once : (p : RunPlan) → ((n : ℕ) → ids_in n (scans_of p) ≤ 1) → ScansApart p
+scans_once (scan id table columns types) once = tt
+scans_once (values id types rows) once = tt
+scans_once (remote id output m input) once = scans_once input once
+scans_once (filter id predicate input) once = scans_once input once
+scans_once (project id columns input) once = scans_once input once
+scans_once (join id kind on left right) once =
+    (scans_once left (left_once (scans_of left) (scans_of right) once), scans_once right (right_once (scans_of left) (scans_of right) once), sides_apart (scans_of left) (scans_of right) once)
+scans_once (aggregate id keys calls input) once = scans_once input once
+scans_once (aggregate_parts id source output m keys calls input) once = scans_once input once
+scans_once (sort id keys input) once = scans_once input once
+scans_once (topn id count keys input) once = scans_once input once
+scans_once (topn_parts id source output m count keys input) once = scans_once input once
+scans_once (limit id count input) once = scans_once input once
+scans_once (limit_parts id source output m count input) once = scans_once input once
+scans_once (union id left right) once =
+    (scans_once left (left_once (scans_of left) (scans_of right) once), scans_once right (right_once (scans_of left) (scans_of right) once), sides_apart (scans_of left) (scans_of right) once)
+
+joins_once : (p : RunPlan) → ((n : ℕ) → ids_in n (joins_of p) ≤ 1) → JoinsApart p
+joins_once (scan id table columns types) once = tt
+joins_once (values id types rows) once = tt
+joins_once (remote id output m input) once = joins_once input once
+joins_once (filter id predicate input) once = joins_once input once
+joins_once (project id columns input) once = joins_once input once
+joins_once (join id kind on left right) once =
+    let below : (n : ℕ) → ids_in n (joins_of left ++ joins_of right) ≤ 1 = λ n. omega (arith, once n) in
+    let new : Contains (joins_of left ++ joins_of right) id → ⊥ = λ there.
+    let one = ap one_if (eq-eqb id id refl) in
+    omega (arith, once id, one, counted id (joins_of left ++ joins_of right) there) in (
+      joins_once left (left_once (joins_of left) (joins_of right) below),
+      joins_once right (right_once (joins_of left) (joins_of right) below),
+      new,
+      sides_apart (joins_of left) (joins_of right) below,
+    )
+joins_once (aggregate id keys calls input) once = joins_once input once
+joins_once (aggregate_parts id source output m keys calls input) once = joins_once input once
+joins_once (sort id keys input) once = joins_once input once
+joins_once (topn id count keys input) once = joins_once input once
+joins_once (topn_parts id source output m count keys input) once = joins_once input once
+joins_once (limit id count input) once = joins_once input once
+joins_once (limit_parts id source output m count input) once = joins_once input once
+joins_once (union id left right) once =
+    (joins_once left (left_once (joins_of left) (joins_of right) once), joins_once right (right_once (joins_of left) (joins_of right) once), sides_apart (joins_of left) (joins_of right) once)
+
+-- each id is that of one scan or join at most
+abbrev pub AreNamedOnce : RunPlan → Type 0
+AreNamedOnce p = (n : ℕ) → ids_in n (named_of p) ≤ 1
+
+pub scans_apart : (p : RunPlan) → AreNamedOnce p → ScansApart p
+scans_apart p once = scans_once p (λ n. omega (arith, once n, scans_named n p))
+
+pub joins_apart : (p : RunPlan) → AreNamedOnce p → JoinsApart p
+joins_apart p once = joins_once p (λ n. omega (arith, once n, joins_named n p))

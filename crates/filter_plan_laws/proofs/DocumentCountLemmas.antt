@@ -1,4 +1,4 @@
--- The scans of a document's plan that have an id are no more than the places of the document that give it.
+-- The scans and joins of a document's plan that have an id are no more than the places of the document that give it.
 use Rattle.std.proofs.Common.{◌≡◌, ℕ, ◌+◌, ◌<◌, ◌≤◌, ◌^◌, zero, suc, List, [], ◌∷◌, ◌++◌, map, Bool, true, false, Option, Some, None, refl, ap, ◌∙◌, subst, arith}
 use Rattle.std.specs.Prelude.{slice_get, ◌==◌, if◌then◌else◌, option_and_then}
 use Rattle.std.proofs.lemmas.Bool.{leb-false, lt-ltb}
@@ -29,27 +29,31 @@ use Rattle.plan_docs.specs.Words.{small}
 use Rattle.plan_link_laws.proofs.CountLemmas.{one_if}
 use Rattle.plan_link_laws.proofs.InputLemmas.{aggregate_input, join_left, join_right, limit_input, topn_input}
 use Rattle.plan_link_laws.proofs.PlaceLemmas.{PartAt, RootAt, Sound, here, number_is, part_there, root_at}
-use Rattle.filter_plan_laws.proofs.ReadCountLemmas.{scans_at, scans_in}
-use Rattle.filter_plan_laws.proofs.SpotLemmas.{ids_join, ids_of, under_one, under_two}
+use Rattle.filter_plan_laws.proofs.ReadCountLemmas.{ids_at, ids_among}
+use Rattle.filter_plan_laws.proofs.SpotLemmas.{ids_join, ids_of, under_one, under_three, under_two}
 
-aggregate_scans : (n : ℕ) (s : StepWord) (d : Data) (input : NodeForm) → scans_at n (aggregate_of s d input) ≡ scans_at n input
-aggregate_scans n word.Final d input = refl
-aggregate_scans n s d input = refl
+aggregate_ids : (n : ℕ) (s : StepWord) (d : Data) (input : NodeForm) → ids_at n (aggregate_of s d input) ≡ ids_at n input
+aggregate_ids n word.Final d input = refl
+aggregate_ids n s d input = refl
 
-top_n_scans : (n : ℕ) (s : StepWord) (d : Data) (input : NodeForm) → scans_at n (top_n_of s d input) ≡ scans_at n input
-top_n_scans n word.Final d input = refl
-top_n_scans n s d input = refl
+top_n_ids : (n : ℕ) (s : StepWord) (d : Data) (input : NodeForm) → ids_at n (top_n_of s d input) ≡ ids_at n input
+top_n_ids n word.Final d input = refl
+top_n_ids n s d input = refl
 
-limit_scans : (n : ℕ) (s : StepWord) (d : Data) (input : NodeForm) → scans_at n (limit_of s d input) ≡ scans_at n input
-limit_scans n word.Final d input = refl
-limit_scans n s d input = refl
+limit_ids : (n : ℕ) (s : StepWord) (d : Data) (input : NodeForm) → ids_at n (limit_of s d input) ≡ ids_at n input
+limit_ids n word.Final d input = refl
+limit_ids n s d input = refl
+
+join_id : (b : Bool) → slice_get (join_parts b) 0 ≡ Some (part key.Id kind.NodeId)
+join_id true = refl
+join_id false = refl
 
 small_id : (n : ℕ) → n < 2 ^ 32 → small n ≡ n
 small_id n low = ap (λ b. if b then n else 0) (lt-ltb n (2 ^ 32) low)
 
 module _ (n : ℕ) (document : Data) (all : List Spot) where
   module _ (m : ℕ) (d : Data) (path : List Step) (owner : Data) (level : ℕ) (sound : Sound document all d path owner kind.Node level)
-      (below : (e : Data) (inner : List Step) → Sound document all e inner d kind.Node (level + 1) → scans_at n (node_at m document e) ≤ ids_of n (spots e inner d kind.Node (level + 1))) where
+      (below : (e : Data) (inner : List Step) → Sound document all e inner d kind.Node (level + 1) → ids_at n (node_at m document e) ≤ ids_of n (spots e inner d kind.Node (level + 1))) where
     abbrev given : ℕ
     given = ids_of n (spots d path owner kind.Node level)
 
@@ -62,17 +66,17 @@ module _ (n : ℕ) (document : Data) (all : List Spot) where
     there : (parts : List Part) (j : ℕ) (k : Key) (inner : Kind) → parts_of_node (op_of d) d ≡ parts → slice_get parts j ≡ Some (part k inner) → under_key k inner
     there parts j k inner own at = part_there document all d path owner kind.Node level parts j k inner sound refl own at
 
-    input_is : (k : Key) (at : under_key k kind.Node) → scans_at n (input k) ≡ scans_at n (node_at m document at.value)
-    input_is k at = ap (λ (o : Option Data). scans_at n (inner_node (node_at m document) o)) at.is
+    input_is : (k : Key) (at : under_key k kind.Node) → ids_at n (input k) ≡ ids_at n (node_at m document at.value)
+    input_is k at = ap (λ (o : Option Data). ids_at n (inner_node (node_at m document) o)) at.is
 
     -- the nodes below are given below
-    one_input : (parts : List Part) (j : ℕ) (k : Key) → parts_of_node (op_of d) d ≡ parts → slice_get parts j ≡ Some (part k kind.Node) → scans_at n (input k) ≤ given
+    one_input : (parts : List Part) (j : ℕ) (k : Key) → parts_of_node (op_of d) d ≡ parts → slice_get parts j ≡ Some (part k kind.Node) → ids_at n (input k) ≤ given
     one_input parts j k own at =
         let e = there parts j k kind.Node own at in
         omega (arith, input_is k e, below e.value (path ++ step.Key k ∷ []) e.sound, under_one n d path owner kind.Node level parts own j k kind.Node e.value at e.is)
 
     two_inputs : (parts : List Part) (j : ℕ) → parts_of_node (op_of d) d ≡ parts → slice_get parts j ≡ Some (part key.Left kind.Node)
-        → slice_get parts (suc j) ≡ Some (part key.Right kind.Node) → scans_at n (input key.Left) + scans_at n (input key.Right) ≤ given
+        → slice_get parts (suc j) ≡ Some (part key.Right kind.Node) → ids_at n (input key.Left) + ids_at n (input key.Right) ≤ given
     two_inputs parts j own at next =
         let l = there parts j key.Left kind.Node own at in
         let r = there parts (suc j) key.Right kind.Node own next in
@@ -88,19 +92,39 @@ module _ (n : ℕ) (document : Data) (all : List Spot) where
     own_parts : (w : OpWord) → op_of d ≡ w → parts_of_node (op_of d) d ≡ parts_of_node w d
     own_parts w is = ap (λ (x : OpWord). parts_of_node x d) is
 
-    scan_given : op_of d ≡ op.Scan → one_if (id_of d == n) ≤ given
-    scan_given is =
-        let own = own_parts op.Scan is in
-        let id = there table.scan 0 key.Id kind.NodeId own refl in
+    id_given : (id : under_key key.Id kind.NodeId) → one_if (id_of d == n) ≤ ids_of n (spots id.value (path ++ step.Key key.Id ∷ []) d kind.NodeId level)
+    id_given id =
         let inner = path ++ step.Key key.Id ∷ [] in
         let low : number_of id.value < 2 ^ 32 = leb-false (2 ^ 32) (number_of id.value) (here document all id.value inner d kind.NodeId level id.sound).within in
         let number : id_of d ≡ number_of id.value = ap small (number_is key.Id d id.value id.is) ∙ small_id (number_of id.value) low in
         let same = ap (λ (i : ℕ). one_if (i == n)) number in
         let are = ap (ids_of n) (spots_are id.value inner d kind.NodeId level) in
-        let one = under_one n d path owner kind.Node level table.scan own 0 key.Id kind.NodeId id.value refl id.is in
-        omega (arith, same, are, one)
+        omega (arith, same, are)
 
-    by_word : (w : OpWord) → op_of d ≡ w → scans_at n (node_by (node_at m document) document d w) ≤ given
+    scan_given : op_of d ≡ op.Scan → one_if (id_of d == n) ≤ given
+    scan_given is =
+        let own = own_parts op.Scan is in
+        let id = there table.scan 0 key.Id kind.NodeId own refl in
+        omega (arith, id_given id, under_one n d path owner kind.Node level table.scan own 0 key.Id kind.NodeId id.value refl id.is)
+
+    join_given : (parts : List Part) → parts_of_node (op_of d) d ≡ parts → slice_get parts 0 ≡ Some (part key.Id kind.NodeId)
+        → slice_get parts 4 ≡ Some (part key.Left kind.Node) → slice_get parts 5 ≡ Some (part key.Right kind.Node)
+        → one_if (id_of d == n) + ids_at n (input key.Left) + ids_at n (input key.Right) ≤ given
+    join_given parts own first at next =
+        let id = there parts 0 key.Id kind.NodeId own first in
+        let l = there parts 4 key.Left kind.Node own at in
+        let r = there parts 5 key.Right kind.Node own next in
+        omega (
+          arith,
+          id_given id,
+          input_is key.Left l,
+          input_is key.Right r,
+          below l.value (path ++ step.Key key.Left ∷ []) l.sound,
+          below r.value (path ++ step.Key key.Right ∷ []) r.sound,
+          under_three n d path owner kind.Node level parts own 3 key.Id key.Left key.Right kind.NodeId kind.Node id.value l.value r.value first at next id.is l.is r.is,
+        )
+
+    by_word : (w : OpWord) → op_of d ≡ w → ids_at n (node_by (node_at m document) document d w) ≤ given
     by_word op.Scan is = scan_given is
     by_word op.Values is = omega arith
     by_word op.Remote is = omega arith
@@ -108,22 +132,22 @@ module _ (n : ℕ) (document : Data) (all : List Spot) where
     by_word op.Project is = one_input table.project 3 key.Input (own_parts op.Project is) refl
     by_word op.Join is =
         let filtered = has_entry key.Filters d in
-        two_inputs (join_parts filtered) 4 (own_parts op.Join is) (join_left filtered) (join_right filtered)
+        join_given (join_parts filtered) (own_parts op.Join is) (join_id filtered) (join_left filtered) (join_right filtered)
     by_word op.Aggregate is =
         let at = aggregate_input (step_of d) in
-        omega (arith, aggregate_scans n (step_of d) d (input key.Input), one_input (aggregate_parts (step_of d)) at.place key.Input (own_parts op.Aggregate is) at.is)
+        omega (arith, aggregate_ids n (step_of d) d (input key.Input), one_input (aggregate_parts (step_of d)) at.place key.Input (own_parts op.Aggregate is) at.is)
     by_word op.Sort is = one_input table.sort 3 key.Input (own_parts op.Sort is) refl
     by_word op.TopN is =
         let at = topn_input (step_of d) in
-        omega (arith, top_n_scans n (step_of d) d (input key.Input), one_input (topn_parts (step_of d)) at.place key.Input (own_parts op.TopN is) at.is)
+        omega (arith, top_n_ids n (step_of d) d (input key.Input), one_input (topn_parts (step_of d)) at.place key.Input (own_parts op.TopN is) at.is)
     by_word op.Limit is =
         let at = limit_input (step_of d) in
-        omega (arith, limit_scans n (step_of d) d (input key.Input), one_input (limit_parts (step_of d)) at.place key.Input (own_parts op.Limit is) at.is)
+        omega (arith, limit_ids n (step_of d) d (input key.Input), one_input (limit_parts (step_of d)) at.place key.Input (own_parts op.Limit is) at.is)
     by_word op.Union is = two_inputs table.union 2 (own_parts op.Union is) refl refl
     by_word op.Unknown is = omega arith
 
   node_given : (m : ℕ) (d : Data) (path : List Step) (owner : Data) (level : ℕ) → Sound document all d path owner kind.Node level
-      → scans_at n (node_at m document d) ≤ ids_of n (spots d path owner kind.Node level)
+      → ids_at n (node_at m document d) ≤ ids_of n (spots d path owner kind.Node level)
   unfolding node_at
   node_given zero d path owner level sound = omega arith
   node_given (suc m) d path owner level sound = by_word m d path owner level sound (λ e inner h. node_given m e inner d (level + 1) h) (op_of d) refl
@@ -131,10 +155,10 @@ module _ (n : ℕ) (document : Data) (all : List Spot) where
   abbrev root_path : ℕ → List Step
   root_path i = step.Key key.Fragments ∷ step.Index i ∷ step.Key key.Root ∷ []
 
-  root_given : (i : ℕ) (g : Data) (r : RootAt document all i g) → scans_at n (fragment_of document g).root ≤ ids_of n (spots r.root (root_path i) g kind.Node 1)
+  root_given : (i : ℕ) (g : Data) (r : RootAt document all i g) → ids_at n (fragment_of document g).root ≤ ids_of n (spots r.root (root_path i) g kind.Node 1)
   unfolding node_form
   root_given i g r =
-      let is = ap (λ (o : Option Data). scans_at n (inner_node (node_form document) o)) r.is in
+      let is = ap (λ (o : Option Data). ids_at n (inner_node (node_form document) o)) r.is in
       omega (arith, is, node_given 32 r.root (root_path i) g 1 r.sound)
 
   -- a fragment, by whether it is the first
@@ -142,7 +166,7 @@ module _ (n : ℕ) (document : Data) (all : List Spot) where
   fragment_kind b = if b then kind.FirstFragment else kind.Fragment
 
   fragment_given : (b : Bool) (i : ℕ) (g : Data) → RootAt document all i g
-      → scans_at n (fragment_of document g).root ≤ ids_of n (spots g (step.Key key.Fragments ∷ step.Index i ∷ []) document (fragment_kind b) (depth_of (fragment_kind b) 0))
+      → ids_at n (fragment_of document g).root ≤ ids_of n (spots g (step.Key key.Fragments ∷ step.Index i ∷ []) document (fragment_kind b) (depth_of (fragment_kind b) 0))
   fragment_given true i g r =
       let path = step.Key key.Fragments ∷ step.Index i ∷ [] in
       omega (arith, root_given i g r, under_one n g path document kind.FirstFragment 0 table.first_fragment refl 2 key.Root kind.Node r.root refl r.is)
@@ -151,7 +175,7 @@ module _ (n : ℕ) (document : Data) (all : List Spot) where
       omega (arith, root_given i g r, under_one n g path document kind.Fragment 0 table.fragment refl 3 key.Root kind.Node r.root refl r.is)
 
   items_given : (ds : Items) (i : ℕ) → ((j : ℕ) (g : Data) → slice_get (entries_of ds) j ≡ Some g → RootAt document all (i + j) g)
-      → scans_in n (map (fragment_of document) (entries_of ds)) ≤ ids_of n (item_spots ds (step.Key key.Fragments ∷ []) document kind.Fragments 0 i)
+      → ids_among n (map (fragment_of document) (entries_of ds)) ≤ ids_of n (item_spots ds (step.Key key.Fragments ∷ []) document kind.Fragments 0 i)
   items_given no_items i roots = omega arith
   items_given (item g ds) i roots =
       let at : i + 0 ≡ i = omega arith in
@@ -162,18 +186,18 @@ module _ (n : ℕ) (document : Data) (all : List Spot) where
       omega (arith, first, rest, both)
 
   pub document_given : Sound document all document [] document kind.Document 0
-      → scans_in n (map (fragment_of document) (entries_under key.Fragments document)) ≤ ids_of n (places_of document)
+      → ids_among n (map (fragment_of document) (entries_under key.Fragments document)) ≤ ids_of n (places_of document)
   document_given sound =
       let list : PartAt document all document [] key.Fragments kind.Fragments 0 = part_there document all document [] document kind.Document 0 table.document 3 key.Fragments kind.Fragments sound refl refl refl in
       let path = step.Key key.Fragments ∷ [] in
       let inner = ap (ids_of n) (spots_are list.value path document kind.Fragments 0) in
       let entries_are : entries_under key.Fragments document ≡ entries (as_array list.value) = ap (λ (o : Option Data). entries (option_and_then as_array o)) list.is in
       let found = by_entries (as_array list.value) list.value (λ j g is. root_at document all j g sound (ap (λ (es : List Data). slice_get es j) entries_are ∙ is)) in
-      let same = ap (λ (es : List Data). scans_in n (map (fragment_of document) es)) entries_are in
+      let same = ap (λ (es : List Data). ids_among n (map (fragment_of document) es)) entries_are in
       let whole = under_one n document [] document kind.Document 0 table.document refl 3 key.Fragments kind.Fragments list.value refl list.is in
       omega (arith, inner, found, same, whole)
     where
       by_entries : (o : Option Items) (e : Data) → ((j : ℕ) (g : Data) → slice_get (entries o) j ≡ Some g → RootAt document all j g)
-          → scans_in n (map (fragment_of document) (entries o)) ≤ ids_of n (inner_of o (spot e (step.Key key.Fragments ∷ []) document kind.Fragments 0))
+          → ids_among n (map (fragment_of document) (entries o)) ≤ ids_of n (inner_of o (spot e (step.Key key.Fragments ∷ []) document kind.Fragments 0))
       by_entries None e roots = omega arith
       by_entries (Some ds) e roots = items_given ds 0 (λ j g at. let none : j ≡ 0 + j = omega arith in subst (λ (k : ℕ). RootAt document all k g) none (roots j g at))

@@ -132,12 +132,12 @@ module _ (run : RunPlan) (reads : ℕ → TreeForm) where
       → All (λ (f : FragmentForm). NodeReaches reads f.root) fs → All (λ (f : FragmentForm). Comes f.root) fs
   fragments_reach fs ours low r = λ k f within. filters_reach_in (get_or fs k f).root (ours k f within) (low k f within) (r k f within)
 
-pub plan_joins : (plan : PlanForm) → IsConsistent plan → (tasks : ℕ) → HasJoins (plan_run tasks plan) plan
-plan_joins plan c tasks = joins_run tasks plan (plan_reads plan c) (plan_read_once plan c)
+pub plan_has_joins : (plan : PlanForm) → IsConsistent plan → (tasks : ℕ) → HasJoins (plan_run tasks plan) plan
+plan_has_joins plan c tasks = joins_run tasks plan (plan_reads plan c) (plan_read_once plan c)
 
 pub plan_filters : (plan : PlanForm) → IsConsistent plan → (tasks : ℕ) → FiltersReachIn (plan_run tasks plan) plan
 plan_filters plan c tasks =
     let j = judged_plan plan c in
-    fragments_reach (plan_run tasks plan) (trees_of plan.fragments) plan.fragments (plan_joins plan c tasks)
+    fragments_reach (plan_run tasks plan) (trees_of plan.fragments) plan.fragments (plan_has_joins plan c tasks)
     (plan_within plan j.types.has j.spreads.has j.types.is j.spreads.is (plan_meets plan c) (plan_reads plan c))
     (filters_reach plan c)

@@ -17,9 +17,10 @@ use Rattle.plan_spreads.specs.Runs.{plan_run}
 use Rattle.plan_link_laws.specs.Consistent.{IsConsistent}
 use Rattle.plan_link_laws.proofs.DocumentLemmas.{document_checked, fragments_of, passes_first, plan_read_once, plan_reads}
 use Rattle.sieve_laws.specs.ComingDown.{ScansApart}
-use Rattle.filter_plan_laws.proofs.CountLemmas.{apart}
+use Rattle.filter_plan_laws.specs.JoinIds.{JoinsApart}
+use Rattle.filter_plan_laws.proofs.CountLemmas.{AreNamedOnce, joins_apart, scans_apart}
 use Rattle.filter_plan_laws.proofs.DocumentCountLemmas.{document_given}
-use Rattle.filter_plan_laws.proofs.ReadCountLemmas.{run_held, scans_in}
+use Rattle.filter_plan_laws.proofs.ReadCountLemmas.{run_held, ids_among}
 use Rattle.filter_plan_laws.proofs.SpotLemmas.{given_once}
 
 unmapped : {A B : Type 0} (f : A → B) (o : Option A) → option_map f o ≡ None → o ≡ None
@@ -37,14 +38,20 @@ named d e =
     let later = second_option shapes (option_or limits names) malformed in
     unmapped (λ (s : Spot). (4, s)) (first_misnamed d [] all) (second_option limits names later)
 
-document_once : (n : ℕ) (d : Data) → refusal_of d ≡ None → scans_in n (map (fragment_of d) (entries_under key.Fragments d)) ≤ 1
+document_once : (n : ℕ) (d : Data) → refusal_of d ≡ None → ids_among n (map (fragment_of d) (entries_under key.Fragments d)) ≤ 1
 document_once n d e = omega (arith, document_given n d (places_of d) (document_checked d e), given_once n d [] (places_of d) (named d e))
 
-plan_once : (n : ℕ) (plan : PlanForm) → IsConsistent plan → scans_in n plan.fragments ≤ 1
+plan_once : (n : ℕ) (plan : PlanForm) → IsConsistent plan → ids_among n plan.fragments ≤ 1
 plan_once n plan c =
     let d = c.document in
-    let same = ap (λ (p : PlanForm). scans_in n p.fragments) c.means ∙ ap (scans_in n) (fragments_of d) in
+    let same = ap (λ (p : PlanForm). ids_among n p.fragments) c.means ∙ ap (ids_among n) (fragments_of d) in
     omega (arith, same, document_once n d (passes_first d c.passes))
 
-pub scans_apart : (plan : PlanForm) → IsConsistent plan → (tasks : ℕ) → ScansApart (plan_run tasks plan)
-scans_apart plan c tasks = apart (plan_run tasks plan) (λ n. omega (arith, run_held tasks n plan (plan_reads plan c) (plan_read_once plan c), plan_once n plan c))
+named_once : (plan : PlanForm) → IsConsistent plan → (tasks : ℕ) → AreNamedOnce (plan_run tasks plan)
+named_once plan c tasks n = omega (arith, run_held tasks n plan (plan_reads plan c) (plan_read_once plan c), plan_once n plan c)
+
+pub plan_scans : (plan : PlanForm) → IsConsistent plan → (tasks : ℕ) → ScansApart (plan_run tasks plan)
+plan_scans plan c tasks = scans_apart (plan_run tasks plan) (named_once plan c tasks)
+
+pub plan_joins : (plan : PlanForm) → IsConsistent plan → (tasks : ℕ) → JoinsApart (plan_run tasks plan)
+plan_joins plan c tasks = joins_apart (plan_run tasks plan) (named_once plan c tasks)

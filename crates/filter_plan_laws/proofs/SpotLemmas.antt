@@ -102,6 +102,14 @@ module _ (n : ℕ) where
       omega (arith, this, one_part f parts 0 q next, ids_join (f r) (flat_map f parts))
   two_parts f (r ∷ parts) (suc i) p q at next = omega (arith, two_parts f parts i p q at next, ids_join (f r) (flat_map f parts))
 
+  three_parts : (f : Part → List Spot) (parts : List Part) (i : ℕ) (p q r : Part) → slice_get parts 0 ≡ Some p → slice_get parts (suc i) ≡ Some q
+      → slice_get parts (suc (suc i)) ≡ Some r → ids_of (f p) + ids_of (f q) + ids_of (f r) ≤ ids_of (flat_map f parts)
+  three_parts f [] i p q r first at next = absurd cc
+  three_parts f (x ∷ parts) i p q r first at next =
+      let same : x ≡ p = cc first in
+      let this = ap (λ (y : Part). ids_of (f y)) same in
+      omega (arith, this, two_parts f parts i q r at next, ids_join (f x) (flat_map f parts))
+
   module _ (d : Data) (path : List Step) (owner : Data) (k : Kind) (level : ℕ) (parts : List Part) (parts_are : parts_of k d ≡ parts) where
     -- the places under a key, where something stands
     abbrev pub inner_ids : Key → Kind → Data → ℕ
@@ -131,5 +139,18 @@ module _ (n : ℕ) where
           under_part name inner e is,
           under_part next inner f and_is,
           two_parts (part_spots (spot d path owner k level)) parts i (part name inner) (part next inner) at then_at,
+          by_parts name e is,
+        )
+
+    pub under_three : (i : ℕ) (first name next : Key) (own inner : Kind) (g e f : Data) → slice_get parts 0 ≡ Some (part first own)
+        → slice_get parts (suc i) ≡ Some (part name inner) → slice_get parts (suc (suc i)) ≡ Some (part next inner) → under first d ≡ Some g → under name d ≡ Some e
+        → under next d ≡ Some f → inner_ids first own g + inner_ids name inner e + inner_ids next inner f ≤ ids_of (spots d path owner k level)
+    under_three i first name next own inner g e f first_at at then_at first_is is and_is =
+        omega (
+          arith,
+          under_part first own g first_is,
+          under_part name inner e is,
+          under_part next inner f and_is,
+          three_parts (part_spots (spot d path owner k level)) parts i (part first own) (part name inner) (part next inner) first_at at then_at,
           by_parts name e is,
         )

@@ -1,11 +1,10 @@
--- The scans of an id in the parts of a run, where each part stands as often as it is read.
+-- The scans and joins of an id in the parts of a run, where each part stands as often as it is read.
 use Rattle.std.proofs.Common.{◌≡◌, ℕ, ◌+◌, ◌-◌, ◌≤◌, zero, suc, List, [], ◌∷◌, length, Bool, true, false, refl, ap, arith}
 use Rattle.std.specs.Prelude.{◌==◌, slice_get, unwrap_or, if◌then◌else◌}
 use Rattle.std.proofs.lemmas.Bool.{eqb-false, eqb-true}
 use Rattle.plan_spreads.specs.Reading.{IsAmong}
 use Rattle.plan_spreads.specs.Runs.{Part, no_part, part_read}
-use Rattle.sieve_laws.specs.ComingDown.{scans_of}
-use Rattle.filter_plan_laws.proofs.CountLemmas.{ids_in}
+use Rattle.filter_plan_laws.proofs.CountLemmas.{ids_in, named_of}
 
 -- so many times a number
 abbrev pub times : ℕ → ℕ → ℕ
@@ -29,9 +28,9 @@ once_most (suc zero) c low = omega arith
 once_most (suc (suc n)) c low = absurd (omega (arith, low))
 
 module _ (n : ℕ) where
-  -- how many scans of a part have the id
+  -- how many scans and joins of a part have the id
   abbrev pub own : Part → ℕ
-  own p = ids_in n (scans_of p.root)
+  own p = ids_in n (named_of p.root)
 
   -- the parts from place i on
   abbrev pub weighed : (ℕ → ℕ) → ℕ → List Part → ℕ

@@ -1,1 +1,2 @@
+pub mod JoinIds
 pub mod RunJoins

@@ -1,18 +1,33 @@
 //! What follows from the definitions, of a plan as it runs with any number of tasks.
-ghost use Rattle.std.specs.Prelude.{ℕ};
+ghost use Rattle.std.specs.Prelude.{◌≡◌, ℕ, List, Contains, Some};
+ghost use Rattle.plan_docs.specs.declared.node.DynamicFilter.{DynamicFilter};
 ghost use Rattle.plan_docs.specs.Plans.{plan_view};
+ghost use Rattle.plan_run_laws.specs.RunPlans.{RunPlan};
+ghost use Rattle.dyn_filter.specs.declared.domain.Domain.{Domain};
+ghost use Rattle.lost_row_laws.specs.Arrivals.{arriving};
+ghost use Rattle.lost_row_laws.specs.Domains.{sieve_of};
+ghost use Rattle.lost_row_laws.specs.Sieves.{Sieve};
 ghost use Rattle.plan_link_laws.specs.Consistent.{IsConsistent};
 ghost use Rattle.plan_spreads.specs.Runs.{plan_run};
 ghost use Rattle.sieve_laws.specs.ComingDown.{ScansApart};
-ghost use Rattle.filter_plan_laws.specs.RunJoins.{FiltersReachIn, HasJoins};
+ghost use Rattle.sieve_laws.specs.KnownDomains.{JoinFilter, sieves_of};
+ghost use Rattle.filter_plan_laws.specs.JoinIds.{JoinsApart};
+ghost use Rattle.filter_plan_laws.specs.RunJoins.{FiltersReachIn, HasJoins, ReachesIn};
 
 use plan_docs::Plan;
+use sieve_laws::known_domains_arrive;
 
 /// The law that no two scans of a consistent plan have one id: its document gives an id once, and each fragment is read by
 /// one source.
 pub fn scans_are_apart(plan: &Plan)
     ensures { IsConsistent (plan_view plan.now) → (tasks : ℕ)
         → ScansApart (plan_run tasks (plan_view plan.now)) }
+{}
+
+/// The law that no two joins of it have one either, so that what each has of its own can be told by its id.
+pub fn joins_are_apart(plan: &Plan)
+    ensures { IsConsistent (plan_view plan.now) → (tasks : ℕ)
+        → JoinsApart (plan_run tasks (plan_view plan.now)) }
 {}
 
 /// The law that such a plan runs each join of each of its fragments, with its id and its kind, over a left side that means
@@ -28,3 +43,16 @@ pub fn filters_reach_in_runs(plan: &Plan)
     ensures { IsConsistent (plan_view plan.now) → (tasks : ℕ)
         → FiltersReachIn (plan_run tasks (plan_view plan.now)) (plan_view plan.now) }
 {}
+
+/// The law that the domain which is known of such a filter arrives at the scan that the filter names, where it names the
+/// column: what `sieve_laws` asks of a filter is shown above.
+pub fn named_scans_are_reached()
+    ensures { (run : RunPlan) (id : ℕ) (on : List (ℕ × ℕ)) (f : DynamicFilter) → ReachesIn run id on f
+        → (own : ℕ → List Sieve) (filters : List JoinFilter) → own id ≡ sieves_of on filters
+        → (known : JoinFilter) → Contains filters known → known.pair ≡ f.key
+        → (domain : Domain) → known.known ≡ Some domain → (sieves : List Sieve)
+        → Contains (arriving own sieves run f.scan)
+        (sieve_of (record { column = f.column; domain = domain })) }
+{
+    known_domains_arrive();
+}

@@ -44,8 +44,8 @@ pub fn filters_reach_in_runs(plan: &Plan)
         → FiltersReachIn (plan_run tasks (plan_view plan.now)) (plan_view plan.now) }
 {}
 
-/// The law that the domain which is known of such a filter arrives at the scan that the filter names, where it names the
-/// column: what `sieve_laws` asks of a filter is shown above.
+/// The law that the domain which is known of such a filter arrives, as `sieve_laws` has it, at the scan that the filter names
+/// and stands there over the column that it names.
 pub fn named_scans_are_reached()
     ensures { (run : RunPlan) (id : ℕ) (on : List (ℕ × ℕ)) (f : DynamicFilter) → ReachesIn run id on f
         → (own : ℕ → List Sieve) (filters : List JoinFilter) → own id ≡ sieves_of on filters

@@ -105,6 +105,8 @@ class Probes:
     """Probes at the call and the return of `result_of`, where the kernel lets this process set them."""
 
     def __init__(self, program):
+        if os.path.exists(f"{TRACING}/events/zelgumber"):
+            self.write("events/zelgumber/enable", "0")
         self.write("uprobe_events", "\n", os.O_TRUNC)
         at = f"{os.path.abspath(program)}:{self.place_of(program):#x}"
         for probe in (f"p:zelgumber/called {at}", f"r:zelgumber/returned {at}"):

@@ -1,21 +1,19 @@
 //! Drivers over a table of one column of whole numbers, from 0 up.
-ghost use Rattle.std.specs.Prelude.{◌≡◌, ◌^◌, ◌<◌, ◌≤◌, [], ◌∷◌, false, None, map, IfOk, IfSome, length};
-ghost use Rattle.sql_values.specs.declared.types.SqlType.TheVariants.{Bigint};
+ghost use Rattle.std.specs.Prelude.{◌≡◌, ◌^◌, ◌<◌, ◌≤◌, [], ◌∷◌, false, map, IfOk, length};
 ghost use Rattle.split_source.specs.Scans.{AreReadable};
 ghost use Rattle.split_source.specs.Splits.{split_count};
-ghost use Rattle.driver_loop.specs.Turns.{IsLeftBy};
-ghost use Rattle.driver_loop.specs.Ends.{rows_taken, target_made};
+ghost use Rattle.driver_loop.specs.Ends.{rows_taken};
 
-use crate::fixtures::Rung;
-use col_pages::Page;
-use driver_loop::{Driver, Pieces, ResultTarget, RunFault, Source, Stage, Target, Turn};
+use crate::parts::{both, driver_of, result, whole};
+use crate::runs::run;
+use crate::slow::Slow;
+use driver_loop::{Driver, Source, Stage};
 use futures::task::{Doorbell, Solo};
-use operator_core::{HeldPages, Operator};
+use operator_core::Operator;
 use row_ops::{FilterProject, LimitOp, are_typed};
-use run_ports::ReplayCourier;
 use split_source::{ClaimSeat, Claims, ScanSource, split_count};
 use sql_exprs::{CallName, Expr};
-use sql_values::{Column, Memory, SqlType, Table, Types, Value, ValueRef};
+use sql_values::{Memory, SqlType, Table, Types, Value};
 use std::alloc::Global;
 use std::sync::Wait;
 use std::test::Fail;
@@ -27,12 +25,6 @@ fn number(n: i64) -> Expr {
         kind: SqlType::Bigint,
         value: Value::Bigint(n),
     }
-}
-
-pub(crate) fn whole(alloc: Global) -> Result<Vec<SqlType>, Memory>
-    ensures { IfOk result (λ types. types.items ≡ Bigint ∷ []) }
-{
-    Ok(Vec::from_array(alloc, [SqlType::Bigint])?)
 }
 
 fn call(alloc: Global, name: CallName, left: Expr, right: Expr) -> Result<Expr, Memory> {
@@ -47,47 +39,54 @@ fn predicate(alloc: Global, at: i64) -> Result<Expr, Memory> {
     call(alloc, CallName::Less, quotient, number(3))
 }
 
-/// Keeps the numbers for which 12 divided by their difference to `at` is less than 3. Its node is 5.
-fn filter<'w>(alloc: Global, at: i64) -> Result<Option<Stage<'w>>, Memory>
-    ensures { IfOk result (λ o. IfSome o (λ s. ⟦<Stage<'w> as Operator>⟧.as_made s ≡ s)) }
-{
-    let types = whole(alloc)?;
-    let predicate = predicate(alloc, at)?;
-    let columns = Vec::from_array(alloc, [Expr::Column(0)])?;
-    made(alloc, types, Some(predicate), columns)
+/// Its only column.
+fn column(alloc: Global) -> Result<Vec<Expr>, Memory> {
+    Ok(Vec::from_array(alloc, [Expr::Column(0)])?)
 }
 
-fn made<'w>(
+/// Keeps the numbers for which 12 divided by their difference to `at` is less than 3. Its node is 5.
+fn filter(alloc: Global, at: i64) -> Result<FilterProject, Memory>
+    ensures { IfOk result (λ op. ⟦<FilterProject as Operator>⟧.as_made op ≡ op) }
+{
+    let types = whole(alloc)?;
+    let (predicate, columns) = both(predicate(alloc, at), column(alloc))?;
+    filter_of(alloc, types, Some(predicate), columns)
+}
+
+/// Expressions without a type count as want of memory.
+fn filter_of(
     alloc: Global,
     types: Vec<SqlType>,
     predicate: Option<Expr>,
     columns: Vec<Expr>,
-) -> Result<Option<Stage<'w>>, Memory>
-    ensures { IfOk result (λ o. IfSome o (λ s. ⟦<Stage<'w> as Operator>⟧.as_made s ≡ s)) }
+) -> Result<FilterProject, Memory>
+    ensures { IfOk result (λ op. ⟦<FilterProject as Operator>⟧.as_made op ≡ op) }
 {
-    if !are_typed(alloc, types.as_slice(), &predicate, columns.as_slice())? {
-        return Ok(None);
+    match are_typed(alloc, types.as_slice(), &predicate, columns.as_slice()) {
+        Ok(true) => Ok(FilterProject::new(alloc, 5, types, predicate, columns)),
+        Ok(false) | Err(Memory) => {
+            drop(types);
+            drop(predicate);
+            drop(columns);
+            Err(Memory)
+        }
     }
-    let op = FilterProject::new(alloc, 5, types, predicate, columns);
-    Ok(Some(Stage::Filter(op)))
-}
-
-fn limit<'w>(alloc: Global, count: u32) -> Result<Stage<'w>, Memory>
-    ensures { IfOk result (λ s. ⟦<Stage<'w> as Operator>⟧.as_made s ≡ s) }
-{
-    let types = whole(alloc)?;
-    Ok(Stage::Limit(LimitOp::new(alloc, count), Types::of(types)))
 }
 
 /// The numbers kept as `filter` says, and the first four of them.
-fn stages<'w>(alloc: Global, at: i64) -> Result<Option<Vec<Stage<'w>>>, Memory>
-    ensures { IfOk result (λ o. IfSome o (λ v. map ⟦<Stage<'w> as Operator>⟧.as_made v.items ≡ v.items)) }
+fn stages<'w>(alloc: Global, at: i64) -> Result<Vec<Stage<'w>>, Memory>
+    ensures { IfOk result (λ v. map ⟦<Stage<'w> as Operator>⟧.as_made v.items ≡ v.items) }
 {
-    let second = limit(alloc, 4)?;
-    let Some(first) = filter(alloc, at)? else {
-        return Ok(None);
-    };
-    Ok(Some(Vec::from_array(alloc, [first, second])?))
+    let types = whole(alloc)?;
+    let kept = filter(alloc, at)?;
+    Ok(Vec::from_array(alloc, [Stage::Filter(kept), first(alloc, types)])?)
+}
+
+/// The first four rows.
+fn first<'w>(alloc: Global, types: Vec<SqlType>) -> Stage<'w>
+    ensures { ⟦<Stage<'w> as Operator>⟧.as_made result ≡ result }
+{
+    Stage::Limit(LimitOp::new(alloc, 4), Types::of(types))
 }
 
 /// A scan of the table's column.
@@ -96,7 +95,7 @@ fn scan_of<'w>(
     table: &'w Table,
     sizes: (u32, u32),
     seat: ClaimSeat<'w>,
-) -> Result<Source<'w, ReplayCourier>, Memory>
+) -> Result<Source<'w, Slow>, Memory>
     requires size { 0 < sizes.0 }
     requires page { (0 < sizes.1) × (sizes.1 ≤ 8192) }
     requires few { length table.now.rows < 2 ^ 32 }
@@ -111,159 +110,47 @@ fn scan_of<'w>(
     Ok(Source::scan(ScanSource::new(alloc, table, columns, size, page, seat)))
 }
 
-/// Rows of whole numbers.
-pub(crate) fn result<'w>(alloc: Global) -> Result<Target<'w>, Memory>
-    ensures { IfOk result (λ t. target_made t ≡ t) }
-{
-    let types = whole(alloc)?;
-    Ok(Target::Result(ResultTarget::new(alloc, Types::of(types))))
-}
-
-/// A driver that scans the table alone.
-fn driver<'w>(
+/// A driver that scans the table alone, with the numbers kept as `filter` says and the first four of them.
+fn scanner<'w>(
     alloc: Global,
-    table: &'w Table,
-    sizes: (u32, u32),
-    seat: ClaimSeat<'w>,
-    stages: Vec<Stage<'w>>,
-) -> Result<Driver<'w, ReplayCourier>, Memory>
-    requires size { 0 < sizes.0 }
-    requires page { (0 < sizes.1) × (sizes.1 ≤ 8192) }
-    requires few { length table.now.rows < 2 ^ 32 }
-    requires seat { seat.claims.of.count ≡ split_count (length table.now.rows) sizes.0 }
-    requires fresh { seat.numbers ≡ [] }
-    requires columns { length table.now.columns ≡ 1 }
-    requires fits { AreReadable table.now.columns (0 ∷ []) table.now.rows }
-    requires stages { map ⟦<Stage<'w> as Operator>⟧.as_made stages.items ≡ stages.items }
-    ensures { IfOk result (λ d. (d.is_finished ≡ false) × (d.fault ≡ None)) }
+    at: i64,
+    source: Result<Source<'w, Slow>, Memory>,
+) -> Result<Driver<'w, Slow>, Memory>
+    requires { IfOk source (λ s. rows_taken s ≡ []) }
 {
-    let source = scan_of(alloc, table, sizes, seat)?;
-    let target = result(alloc)?;
-    Driver::new(alloc, 3, source, stages, target)
+    let target = result(alloc, whole(alloc));
+    driver_of(alloc, 3, source, stages(alloc, at), target)
 }
 
-/// What a turn answers.
-pub(crate) fn turn_once<R: Threads + Wait + Sync>(
-    rt: &R,
-    driver: &mut Driver<'_, ReplayCourier>,
-    quantum: u32,
-    solo: &Solo,
-    bells: &mut Rung,
-) -> Turn
-    requires { (driver.old.is_finished ≡ false) × (driver.old.fault ≡ None) }
-    ensures { IsLeftBy result driver.new }
-{
-    let mut cx = solo.begin();
-    let turn = driver.turn(rt, quantum, &mut cx, bells);
-    cx.cancel();
-    turn
-}
-
-/// How often a driver yields, and then the first turn that does not.
-fn turns<R: Threads + Wait + Sync>(
-    rt: &R,
-    alloc: Global,
-    driver: &mut Driver<'_, ReplayCourier>,
-    quantum: u32,
-    solo: &Solo,
-) -> Option<(u32, Turn)>
-    requires { (driver.old.is_finished ≡ false) × (driver.old.fault ≡ None) }
-    ensures { IfSome result (λ r. IsLeftBy r.1 driver.new) }
-{
-    let mut bells = Rung { alloc, last: None };
-    for yields in 0..1000u32 {
-        let turn = turn_once(rt, driver, quantum, solo, &mut bells);
-        match turn {
-            Turn::Yield => {}
-            other => return Some((yields, other)),
-        }
-    }
-    None
-}
-
-/// The numbers that a driver gave, and how often it yielded.
-pub(crate) fn run<R: Threads + Wait + Sync>(
-    rt: &R,
-    alloc: Global,
-    mut driver: Driver<'_, ReplayCourier>,
-    quantum: u32,
-    solo: &Solo,
-) -> Result<String, Memory>
-    requires { (driver.is_finished ≡ false) × (driver.fault ≡ None) }
-{
-    match turns(rt, alloc, &mut driver, quantum, solo) {
-        Some((yields, Turn::Finished)) => gave(alloc, driver.into_pieces(), yields),
-        Some((_, Turn::Failed(fault))) => failed(alloc, fault, driver.work()),
-        _ => said(alloc, "no end"),
-    }
-}
-
-/// What a finished driver gave, and how often it yielded.
-fn gave(alloc: Global, mut pieces: Pieces<'_>, yields: u32) -> Result<String, Memory> {
-    told(alloc, &mut pieces.rows, yields)
-}
-
-fn failed(alloc: Global, fault: RunFault, work: u64) -> Result<String, Memory> {
-    Ok(format!(in alloc; "{fault} after {work} rows")?)
-}
-
-fn said(alloc: Global, text: &str) -> Result<String, Memory> {
-    Ok(String::from_str(alloc, text)?)
-}
-
-fn write_page(text: &mut String, page: &Page) -> Result<(), Memory> {
-    for row in 0..page.len() {
-        if let ValueRef::Bigint(number) = page.cell(row, 0) {
-            write!(text, "{number} ")?;
-        }
-    }
-    Ok(())
-}
-
-pub(crate) fn write_pages(text: &mut String, rows: &mut HeldPages) -> Result<(), Memory> {
-    for _ in 0..1000 {
-        let Some(page) = rows.take_first() else {
-            return Ok(());
-        };
-        write_page(text, &page)?;
-    }
-    Ok(())
-}
-
-fn told(alloc: Global, rows: &mut HeldPages, yields: u32) -> Result<String, Memory> {
-    let mut text = String::new(alloc);
-    write_pages(&mut text, rows)?;
-    write!(text, "after {yields}")?;
-    Ok(text)
-}
-
-/// What a driver of one seat makes of the table's rows.
-fn driven<'w, R: Threads + Wait + Sync>(
+/// Writes what a driver makes of the table's rows.
+fn scanned<'w, R: Threads + Wait + Sync>(
     rt: &R,
     alloc: Global,
     at: i64,
     table: &'w Table,
+    claims: &'w mut Claims,
     sizes: (u32, u32),
-    seat: ClaimSeat<'w>,
     quantum: u32,
     solo: &Solo,
-) -> Result<String, Memory>
+    text: &mut String,
+) -> Result<(), Memory>
     requires size { 0 < sizes.0 }
     requires page { (0 < sizes.1) × (sizes.1 ≤ 8192) }
     requires few { length table.now.rows < 2 ^ 32 }
-    requires seat { seat.claims.of.count ≡ split_count (length table.now.rows) sizes.0 }
-    requires fresh { seat.numbers ≡ [] }
+    requires fresh { claims.old.is_handed_out ≡ false }
+    requires count { claims.old.id.of.count ≡ split_count (length table.now.rows) sizes.0 }
     requires columns { length table.now.columns ≡ 1 }
     requires fits { AreReadable table.now.columns (0 ∷ []) table.now.rows }
 {
-    let Some(stages) = stages(alloc, at)? else {
-        return said(alloc, "no type");
+    let mut seats = claims.seats()?;
+    let Some(seat) = seats.pop() else {
+        return Ok(text.push_str("no seat")?);
     };
-    let driver = driver(alloc, table, sizes, seat, stages)?;
-    run(rt, alloc, driver, quantum, solo)
+    let source = scan_of(alloc, table, sizes, seat);
+    run(rt, alloc, scanner(alloc, at, source)?, quantum, solo, text)
 }
 
-/// What a driver makes of the table's rows, with the numbers kept as `filter` says and the first four of them.
+/// The same of ten rows, in splits and pages of these sizes.
 fn filtered<R: Threads + Wait + Sync>(
     rt: &R,
     alloc: Global,
@@ -271,16 +158,40 @@ fn filtered<R: Threads + Wait + Sync>(
     sizes: (u32, u32),
     quantum: u32,
     solo: &Solo,
-) -> Result<String, Memory>
+    text: &mut String,
+) -> Result<(), Memory>
     requires sizes { (0 < sizes.0) × (0 < sizes.1) × (sizes.1 ≤ 8192) }
 {
     let table = number_table(alloc, 10)?;
     let mut claims = Claims::new(alloc, split_count(table.rows.len() as u32, sizes.0), 1)?;
-    let mut seats = claims.seats()?;
-    let Some(seat) = seats.pop() else {
-        return said(alloc, "no seat");
-    };
-    driven(rt, alloc, at, &table, sizes, seat, quantum, solo)
+    scanned(
+        rt,
+        alloc,
+        at,
+        &table,
+        &mut claims,
+        sizes,
+        quantum,
+        solo,
+        text,
+    )
+}
+
+/// Whether it is what was wanted.
+fn is_filtered<R: Threads + Wait + Sync>(
+    rt: &R,
+    alloc: Global,
+    at: i64,
+    sizes: (u32, u32),
+    quantum: u32,
+    solo: &Solo,
+    wanted: &str,
+) -> Result<bool, Memory>
+    requires sizes { (0 < sizes.0) × (0 < sizes.1) × (sizes.1 ≤ 8192) }
+{
+    let mut text = String::new(alloc);
+    filtered(rt, alloc, at, sizes, quantum, solo, &mut text)?;
+    Ok(text.as_str() == wanted)
 }
 
 /// Whether drivers over ten rows make what they should, however these are split and however often they yield.
@@ -289,9 +200,9 @@ fn give_what_their_stages_make<R: Threads + Wait + Sync>(
     alloc: Global,
     solo: &Solo,
 ) -> Result<bool, Memory> {
-    let whole = filtered(rt, alloc, -1, (10, 10), 100, solo)?.as_str() == "4 5 6 7 after 0";
-    let split = filtered(rt, alloc, -1, (4, 3), 100, solo)?.as_str() == "4 5 6 7 after 0";
-    let yielding = filtered(rt, alloc, -1, (10, 10), 1, solo)?.as_str() == "4 5 6 7 after 2";
+    let whole = is_filtered(rt, alloc, -1, (10, 10), 100, solo, "4 5 6 7 after 0")?;
+    let split = is_filtered(rt, alloc, -1, (4, 3), 100, solo, "4 5 6 7 after 0")?;
+    let yielding = is_filtered(rt, alloc, -1, (10, 10), 1, solo, "4 5 6 7 after 2")?;
     Ok(whole & split & yielding)
 }
 
@@ -301,12 +212,11 @@ fn fail_after_their_rows<R: Threads + Wait + Sync>(
     alloc: Global,
     solo: &Solo,
 ) -> Result<bool, Memory> {
-    let at_once = filtered(rt, alloc, 6, (10, 10), 100, solo)?;
-    let later = filtered(rt, alloc, 6, (4, 3), 5, solo)?;
-    Ok(
-        (at_once.as_str() == "node 5 failed: division by zero after 10 rows")
-            & (later.as_str() == "node 5 failed: division by zero after 14 rows"),
-    )
+    let at_once = "node 5 failed: division by zero after 10 rows";
+    let later = "node 5 failed: division by zero after 14 rows";
+    let fails_at_once = is_filtered(rt, alloc, 6, (10, 10), 100, solo, at_once)?;
+    let fails_later = is_filtered(rt, alloc, 6, (4, 3), 5, solo, later)?;
+    Ok(fails_at_once & fails_later)
 }
 
 #[test]

@@ -4,28 +4,30 @@ ghost use Rattle.sql_values.specs.ColumnRows.{fits_row};
 ghost use Rattle.sql_values.specs.declared.types.SqlType.TheVariants.{Bigint};
 ghost use Rattle.sql_values.specs.declared.relational.Call.TheVariants.{CountAll, Sum};
 ghost use Rattle.output_buffer.specs.Seats.{new_gather_put};
-ghost use Rattle.driver_loop.specs.Ends.{rows_taken, target_made};
+ghost use Rattle.driver_loop.specs.Ends.{rows_taken};
 
-use crate::net_turns::{give_turns, write_outcome};
+use crate::edge_drivers::{add, local, put_target};
+use crate::parts::{driver_of, result};
+use crate::runs::{give_rounds, stop_last};
 use crate::slow::Slow;
 use aggregation::{FinalAgg, PartialAgg};
-use driver_ends::{LocalSource, PutKind, PutTarget};
-use driver_loop::{Driver, ResultTarget, RowsSource, Source, Stage, Target};
+use driver_loop::{Driver, RowsSource, Source, Stage};
 use futures::task::{Doorbell, Solo};
 use operator_core::Operator;
-use output_buffer::{Gather, GatherPut, GatherTake};
+use output_buffer::{Gather, GatherPut};
 use row_ops::ValuesOp;
-use sql_values::{Call, Memory, Row, RowList, SqlType, Types, Value};
+use sql_values::{Call, Memory, Row, RowList, SqlType, Value};
 use std::alloc::Global;
 use std::sync::Wait;
 use std::test::Fail;
 use std::thread::Threads;
 
-/// The rows of two pieces, each a key and a number; the groups of all, each a key, the count and the sum, or the fault.
-const CASES: &str = "1:5 1:7 2:-3|2:10 3:1|1 2 12 2 2 7 3 1 1 
-1:9223372036854775807|1:-7 1:7 2:0|1 3 9223372036854775807 2 1 0 
-1:9223372036854775807 2:4|1:1|node 7 failed: a number is out of its type's range
-1:9223372036854775807 1:1|1:-1 2:4|1 3 9223372036854775807 2 1 4 ";
+/// The rows of two pieces, each a key and a number; then the driver that merges, stopped: the groups of all, each a key, the
+/// count and the sum, or the fault, and its work.
+const CASES: &str = "1:5 1:7 2:-3|2:10 3:1|take 1 2 12 2 2 7 3 1 1 w7;
+1:9223372036854775807|1:-7 1:7 2:0|take 1 3 9223372036854775807 2 1 0 w5;
+1:9223372036854775807 2:4|1:1|take node 7 failed: a number is out of its type's range w3;
+1:9223372036854775807 1:1|1:-1 2:4|take 1 3 9223372036854775807 2 1 4 w5;";
 
 fn pairs(alloc: Global) -> Result<Vec<SqlType>, Memory>
     ensures { IfOk result (λ types. types.items ≡ Bigint ∷ Bigint ∷ []) }
@@ -49,18 +51,22 @@ fn row(alloc: Global, key: i64, number: i64) -> Result<Row, Memory>
     Ok(Row::of(values))
 }
 
-/// Puts the row of a word behind the others.
+/// The key and the number of a word.
+fn pair_of(word: &str) -> (i64, i64) {
+    let (key, number) = word.split_once(':').unwrap_or((word, ""));
+    (
+        key.parse::<i64>().unwrap_or(0),
+        number.parse::<i64>().unwrap_or(0),
+    )
+}
+
+/// Puts a row of a key and a number behind the others.
 #[tactic(auto, using(test_fixtures::proofs::RowLemmas::row_more))]
-fn push(alloc: Global, rows: &mut RowList, word: &str) -> Result<(), Memory>
+fn push(alloc: Global, rows: &mut RowList, key: i64, number: i64) -> Result<(), Memory>
     requires { All (λ row. IsTrue (fits_row (Bigint ∷ Bigint ∷ []) row)) rows.old }
     ensures { IsOk result → All (λ row. IsTrue (fits_row (Bigint ∷ Bigint ∷ []) row)) rows.new }
 {
-    let (key, number) = word.split_once(':').unwrap_or((word, ""));
-    let row = row(
-        alloc,
-        key.parse::<i64>().unwrap_or(0),
-        number.parse::<i64>().unwrap_or(0),
-    )?;
+    let row = row(alloc, key, number)?;
     rows.push(row)?;
     Ok(())
 }
@@ -70,7 +76,8 @@ fn rows(alloc: Global, words: &str) -> Result<RowList, Memory>
 {
     let mut rows = RowList::new(alloc);
     for word in words.split(' ') {
-        push(alloc, &mut rows, word)?;
+        let (key, number) = pair_of(word);
+        push(alloc, &mut rows, key, number)?;
     }
     Ok(rows)
 }
@@ -117,93 +124,71 @@ fn second_half<'w>(alloc: Global) -> Result<Vec<Stage<'w>>, Memory>
     Ok(Vec::from_array(alloc, [Stage::Final(op)])?)
 }
 
-fn put_target<'w>(alloc: Global, seat: GatherPut<'w>) -> Result<Target<'w>, Memory>
-    requires { seat ≡ new_gather_put seat.edge seat.number }
-    ensures { IfOk result (λ t. target_made t ≡ t) }
-{
-    let seats = Vec::from_array(alloc, [seat])?;
-    Ok(Target::Put(PutTarget::new(alloc, PutKind::One, seats)?))
-}
-
-/// Rows of a key, a count and a sum.
-fn result<'w>(alloc: Global) -> Result<Target<'w>, Memory>
-    ensures { IfOk result (λ t. target_made t ≡ t) }
-{
-    let types = Vec::from_array(alloc, [SqlType::Bigint, SqlType::Bigint, SqlType::Bigint])?;
-    Ok(Target::Result(ResultTarget::new(alloc, Types::of(types))))
-}
-
 /// Gives the partial rows of the groups of some rows to an edge.
-fn giver<'w>(alloc: Global, words: &str, target: Target<'w>) -> Result<Driver<'w, Slow>, Memory>
-    requires { target_made target ≡ target }
+fn giver<'w>(alloc: Global, words: &str, seat: GatherPut<'w>) -> Result<Driver<'w, Slow>, Memory>
+    requires { seat ≡ new_gather_put seat.edge seat.number }
 {
-    let source = source(alloc, words)?;
-    let stages = first_half(alloc)?;
-    Driver::new(alloc, 1, source, stages, target)
+    driver_of(
+        alloc,
+        1,
+        source(alloc, words),
+        first_half(alloc),
+        put_target(alloc, seat),
+    )
 }
 
-fn local(seat: GatherTake<'_>) -> Source<'_, Slow>
-    requires { seat.took ≡ [] }
-    ensures { rows_taken result ≡ [] }
+/// Adds such a driver for each seat, of the rows of a piece.
+fn add_givers<'w>(
+    alloc: Global,
+    case: &str,
+    seats: Vec<GatherPut<'w>>,
+    drivers: &mut Vec<Driver<'w, Slow>>,
+) -> Result<(), Memory>
+    requires { All (λ seat. seat ≡ new_gather_put seat.edge seat.number) seats.items }
 {
-    Source::local(LocalSource::new(seat))
+    let mut pieces = case.split('|');
+    for seat in seats {
+        let words = pieces.next().unwrap_or("");
+        add(drivers, giver(alloc, words, seat))?;
+    }
+    Ok(())
+}
+
+/// The types of a key, a count and a sum.
+fn sums(alloc: Global) -> Result<Vec<SqlType>, Memory> {
+    Ok(Vec::from_array(alloc, [SqlType::Bigint, SqlType::Bigint, SqlType::Bigint])?)
 }
 
 /// Merges the partial rows of an edge.
 fn merger<'w>(alloc: Global, source: Source<'w, Slow>) -> Result<Driver<'w, Slow>, Memory>
     requires { rows_taken source ≡ [] }
 {
-    let stages = second_half(alloc)?;
-    let target = result(alloc)?;
-    Driver::new(alloc, 2, source, stages, target)
-}
-
-/// A driver for each seat, of the rows of a piece.
-fn givers<'w>(
-    alloc: Global,
-    case: &str,
-    seats: Vec<GatherPut<'w>>,
-) -> Result<Vec<Driver<'w, Slow>>, Memory>
-    requires { All (λ seat. seat ≡ new_gather_put seat.edge seat.number) seats.items }
-{
-    let mut pieces = case.split('|');
-    let mut drivers = Vec::new(alloc);
-    for seat in seats {
-        let target = put_target(alloc, seat)?;
-        drivers.push(giver(alloc, pieces.next().unwrap_or(""), target)?)?;
-    }
-    Ok(drivers)
-}
-
-/// The drivers of both halves, that of the second behind the others.
-fn drivers_of<'e>(
-    alloc: Global,
-    case: &str,
-    edge: &'e mut Gather,
-) -> Result<Vec<Driver<'e, Slow>>, Memory>
-    requires { edge.old.is_handed_out ≡ false }
-{
-    let (puts, take) = edge.seats()?;
-    let mut drivers = givers(alloc, case, puts)?;
-    drivers.push(merger(alloc, local(take))?)?;
-    Ok(drivers)
+    driver_of(
+        alloc,
+        2,
+        Ok(source),
+        second_half(alloc),
+        result(alloc, sums(alloc)),
+    )
 }
 
 /// What the last driver says once each had three turns.
-fn said<R: Threads + Wait + Sync>(
+fn say<'e, R: Threads + Wait + Sync>(
     rt: &R,
     alloc: Global,
-    mut drivers: Vec<Driver<'_, Slow>>,
+    case: &str,
+    edge: &'e mut Gather,
+    drivers: &mut Vec<Driver<'e, Slow>>,
     solo: &Solo,
-) -> Result<String, Memory> {
-    for _ in 0..3 {
-        give_turns(rt, alloc, &mut drivers, solo);
-    }
-    let mut text = String::new(alloc);
-    if let Some(driver) = drivers.pop() {
-        write_outcome(&mut text, driver)?;
-    }
-    Ok(text)
+    text: &mut String,
+) -> Result<(), Memory>
+    requires { edge.old.is_handed_out ≡ false }
+{
+    let (puts, take) = edge.seats()?;
+    add_givers(alloc, case, puts, drivers)?;
+    add(drivers, merger(alloc, local(take)))?;
+    give_rounds(rt, alloc, drivers, 3, solo);
+    stop_last(text, drivers)
 }
 
 fn halves_say<R: Threads + Wait + Sync>(
@@ -211,10 +196,11 @@ fn halves_say<R: Threads + Wait + Sync>(
     alloc: Global,
     case: &str,
     solo: &Solo,
-) -> Result<String, Memory> {
+    text: &mut String,
+) -> Result<(), Memory> {
     let mut edge = Gather::new(alloc, 2, 8, 0, 1)?;
-    let drivers = drivers_of(alloc, case, &mut edge)?;
-    said(rt, alloc, drivers, solo)
+    let mut drivers = Vec::new(alloc);
+    say(rt, alloc, case, &mut edge, &mut drivers, solo, text)
 }
 
 /// Whether the groups of a case are as it says.
@@ -228,8 +214,9 @@ fn case_holds<R: Threads + Wait + Sync>(
     let (Some(_), Some(_), Some(wanted)) = (parts.next(), parts.next(), parts.next()) else {
         return Ok(false);
     };
-    let said = halves_say(rt, alloc, case, solo)?;
-    Ok(said.as_str() == wanted)
+    let mut text = String::new(alloc);
+    halves_say(rt, alloc, case, solo, &mut text)?;
+    Ok(text.as_str() == wanted)
 }
 
 #[test]

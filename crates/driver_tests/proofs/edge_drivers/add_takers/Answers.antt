@@ -3,7 +3,7 @@ use Rattle.std.specs.Prelude.{All}
 use Rattle.std.specs.Vec.Iter.{into_iter_items}
 use Rattle.std.proofs.lemmas.List.Elements.{All-tail}
 use Rattle.output_buffer.specs.Seats.{SpreadTakeState}
-use Rattle.driver_tests.proofs.edges.take_drivers.Goals as goal
+use Rattle.driver_tests.proofs.edge_drivers.add_takers.Goals as goal
 
 pub loop-seat-preserved : goal.loop-seat-preserved
 loop-seat-preserved c =

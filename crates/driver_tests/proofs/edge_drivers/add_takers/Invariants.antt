@@ -1,7 +1,7 @@
 use Rattle.std.proofs.Common.{◌≡◌, []}
 use Rattle.std.specs.Prelude.{All}
 use Rattle.std.specs.Vec.Iter.{into_iter_items}
-use Rattle.driver_tests.proofs.edges.take_drivers.Given as goal
+use Rattle.driver_tests.proofs.edge_drivers.add_takers.Given as goal
 
 -- none of the seats that are left has taken anything
 abbrev pub invariant-loop-seat : goal.invariant-loop-seat

@@ -1,7 +1,0 @@
-use Rattle.std.proofs.Common.{sym, subst}
-use Rattle.std.specs.Prelude.{All}
-use Rattle.driver_tests.proofs.EdgeLemmas.{IsNewPut, all_new}
-use Rattle.driver_tests.proofs.fetches.drivers_of.Goals as goal
-
-pub putters-requires : goal.putters-requires
-putters-requires c = subst (All IsNewPut) (sym c.in_ok-puts.ensures.puts) (all_new c.args.first.now.edge c.args.first.now.putters)

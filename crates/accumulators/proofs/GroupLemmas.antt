@@ -1,4 +1,4 @@
--- A group with the rows of a part, what its partial row tells, and that it is one.
+-- A group with the rows of a part, what follows from its partial row, and that it is one.
 use Rattle.std.proofs.Common.{◌≡◌, ℕ, ◌+◌, ◌^◌, ◌<◌, ◌≤◌, zero, suc, List, [], ◌∷◌, ◌++◌, length, get_or, drop, take, map, refl, ap, sym, subst, ◌∙◌, arith, drop_at, ◌⊎◌, inl, inr}
 use Rattle.std.specs.Prelude.{All, Bool, IsTrue, flat_map, replicate, sum_by, Err, nat_abs, nat_le, int_le, pos, ◌&&◌, true, if◌then◌else◌}
 use Rattle.std.specs.List.{list_all}
@@ -27,7 +27,7 @@ use Rattle.accumulators.proofs.ColumnLemmas.{calls-merged, columns-merged, colum
 use Rattle.accumulators.proofs.CellLemmas.{behind_first, first_cell}
 use Rattle.accumulators.proofs.KeptLemmas.{columns-can_merge, columns-kept, row-can_add, row-kept}
 
--- how many rows a group's partial row tells
+-- how many rows a group has by its partial row
 pub rows-told : (calls : List Call) (rows : ℕ) (columns : List Value) → rows ≤ 2 ^ 63 → rows_in (with_rows calls rows columns) ≡ rows
 rows-told calls rows columns few = rows_at (cases_lt most_group_rows rows)
   where
@@ -119,7 +119,7 @@ group-partial rows ks few all = partial_at (cases_lt most_group_rows rows)
         (ap (λ b. if b then are_all_columns rows (calls_of ks) (kinds_of ks) (all_columns ks) else are_null (calls_of ks) (all_columns ks)) (le-leb rows most_group_rows le)
         ∙ columns-whole rows ks (all le))
 
--- what a call's columns tell
+-- what a call's columns say
 outcome-front : (types : List SqlType) (rows : ℕ) (kind : SqlType) (call : Call) (p more : List Value) → length p ≡ call_width call → kind ≡ kind_in types call
     → call_from types rows (p ++ more) call ≡ outcome_from kind rows p call
 outcome-front types rows kind CountAll p more h e = refl

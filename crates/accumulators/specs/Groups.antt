@@ -48,7 +48,7 @@ pub record IsGroup (rows : ℕ) (kept : List Kept) : Type 0 where
   pub few_calls : length kept ≤ 2 ^ 20
   pub all_kept : rows ≤ most_group_rows → All (IsKept rows) kept
 
--- the fault tells this failure, or memory was wanting
+-- the fault names this failure, or memory was wanting
 abbrev pub RowFailsBy : Result (List Value) Fail → EvalFault → Type 0
 RowFailsBy outcome (fault.Fail kind) = outcome ≡ Err kind
 RowFailsBy outcome fault.Memory = Unit {0}

@@ -23,7 +23,7 @@ use std::marker::Model;
 const MOST_CALLS: usize = 1_048_576;
 
 /// The state of one group.
-#[derive(Debug, Drop)]
+#[derive(Drop)]
 pub struct Accumulator {
     alloc: Global,
     rows: u64,

@@ -21,12 +21,12 @@ use std::collections::VecDeque;
 use std::marker::Model;
 
 /// What a group keeps of one call.
-#[derive(Debug, Drop)]
+#[derive(Drop)]
 pub struct CallState {
     held: Held,
 }
 
-#[derive(Debug, Drop)]
+#[derive(Drop)]
 enum Held {
     CountAll,
     Count {

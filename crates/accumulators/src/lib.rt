@@ -1,5 +1,5 @@
 //! The state of one group of an aggregation. An `Accumulator` takes the group's rows one by one, or partial
-//! rows of other pieces of the group, and tells the group's partial row and the results of the calls.
+//! rows of other pieces of the group, and gives the group's partial row and the results of the calls.
 //!
 //! To contracts a group is its calls, the types of what they add, and the partial row (`specs/Groups.antt`).
 //! A row is taken as its own partial row is, and the laws of `relation_laws` on partial rows say what came of all

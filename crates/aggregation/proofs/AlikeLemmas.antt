@@ -1,4 +1,4 @@
--- Rows that tell the same groups.
+-- Rows that give the same groups.
 use Rattle.std.proofs.Common.{◌≡◌, ℕ, zero, suc, List, [], ◌∷◌, ◌++◌, Bool, true, false, length, map, take, drop, refl, ap, sym, ◌∙◌, append-nil}
 use Rattle.std.specs.Prelude.{filter, if◌then◌else◌, not}
 use Rattle.std.proofs.lemmas.List.{drop_at, map-append, take_at}
@@ -121,7 +121,7 @@ pub front_at : (A B : List (List Value)) (width : ℕ) → distinct same_row (ma
 front_at A B zero e = refl
 front_at A B (suc width) e = e
 
--- of rows that tell alike all is told alike
+-- rows that tell alike have the same final rows
 pub finals-alike : (types : List SqlType) (width : ℕ) (calls : List Call) {A B : List (List Value)} → TellAlike width calls A B → finals_of types width calls A ≡ finals_of types width calls B
 finals-alike types width calls {A} {B} s =
     λ i. map (λ key. grouped_row key (results_from types calls (s.merged key i))) (front_at A B width s.keys i)

@@ -89,7 +89,7 @@ rows-pass f rows i whole lt pass e =
     let next : suc i ≡ i + 1 = omega arith in
     e ∙ ap (list_all f) (drop-cons rows i [] lt) ∙ ap (λ b. b && list_all f (drop (suc i) rows)) pass ∙ ap (λ n. list_all f (drop n rows)) next
 
--- a group of no row tells which rows are of the layout
+-- a group of no row says which rows are of the layout
 pub layout-told : (s : FinalState) (node width : ℕ) (part : Group) (taken : List SqlType) (groups : GroupsState) (row : List Value) → record { node = node; groups = groups; taken = taken } ≡ s
     → IsFinal width part taken groups → is_layout_row (layout_in s) row ≡ is_partial part.calls part.kinds (drop width row)
 layout-told s node width part taken groups row view is =

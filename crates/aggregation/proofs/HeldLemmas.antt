@@ -1,4 +1,4 @@
--- Groups that are held: one more row of a group, one more group, and what they tell.
+-- Groups that are held: one more row of a group, one more group, and what follows of them.
 use Rattle.std.proofs.Common.{◌≡◌, ℕ, ◌<◌, zero, suc, List, [], ◌∷◌, ◌++◌, Bool, true, false, length, map, take, get_or, set, refl, ap, sym, ◌∙◌, arith}
 use Rattle.std.specs.Prelude.{All, filter, if◌then◌else◌, not}
 use Rattle.std.proofs.lemmas.Bool.{true≢false}
@@ -127,7 +127,7 @@ module _ (width : ℕ) (calls : List Call) (keys partials : List (List Value)) (
       ap (map (λ key. make key (all_merged calls (behind_key width (held_rows keys partials) key)))) (keys-held width keys partials h.level h.wide h.apart h.begun)
       ∙ each-from make width calls [] keys partials (nothing-behind width keys) h.level h.wide h.apart h.told
 
-  -- of the groups that are held is said what their partial rows tell
+  -- of the groups that are held is said what follows from their partial rows
   pub finals-held : (types : List SqlType) → finals_of types width calls (held_rows keys partials) ≡ group_verdicts types calls keys partials
   finals-held types = each-held (λ key partial. grouped_row key (results_from types calls partial))
 

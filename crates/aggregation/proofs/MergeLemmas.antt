@@ -12,7 +12,7 @@ module _ (calls : List Call) where
   swaps : (p q r : List Value) → merged calls p (merged calls q r) ≡ merged calls q (merged calls p r)
   swaps p q r = sym (merged_assoc calls p q r) ∙ ap (λ x. merged calls x r) (merged_comm calls p q) ∙ merged_assoc calls q p r
 
-  -- the partial row of no row is told already
+  -- the partial row of no row adds nothing
   pub merged-none : (partials : List (List Value)) → merged calls (partial_of calls []) (all_merged calls partials) ≡ all_merged calls partials
   merged-none [] = sym (partial_of-append calls [] [])
   merged-none (p ∷ partials) = swaps (partial_of calls []) p (all_merged calls partials) ∙ ap (merged calls p) (merged-none partials)

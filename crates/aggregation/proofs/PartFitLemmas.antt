@@ -1,4 +1,4 @@
--- Partial rows fit the types of their layout, and the results that they tell fit the types of the calls.
+-- Partial rows fit the types of their layout, and the results that come of them fit the types of the calls.
 use Rattle.std.proofs.Common.{◌≡◌, ℕ, ◌+◌, List, [], ◌∷◌, ◌++◌, Bool, true, false, length, map, take, drop, refl, sym, subst, ◌∙◌, append_assoc}
 use Rattle.std.specs.Prelude.{All, IfOk, IsTrue, filter, flat_map, if◌then◌else◌, nat_le, pos, replicate, sum_by, ◌&&◌}
 use Rattle.std.specs.Ordering.{is_le}

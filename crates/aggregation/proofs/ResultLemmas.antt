@@ -102,7 +102,7 @@ module _ (columns : List ℕ) (calls : List Call) (types : List SqlType) (keys :
   one-fails place (fault.Fail kind) lt h = (place, omega (arith, lt, long), verdict-there place (fails kind) (inside place lt) ∙ h)
   one-fails place fault.Memory lt h = tt
 
-  -- what the partial rows tell is said of the groups
+  -- what follows from the partial rows is said of the groups
   pub told-of : verdicts_with state [] ≡ verdicts_of state
   told-of =
       ap (finals_of state.types (length state.columns) state.calls) (append-nil (held_in state))

@@ -1,4 +1,4 @@
--- Partial rows behind their keys, and when some tell the same groups as others.
+-- Partial rows behind their keys, and when some give the same groups as others.
 use Rattle.std.specs.Prelude.{◌≡◌, ℕ, List, [], ◌∷◌, ◌++◌, drop, length, map, take, All, false}
 use Rattle.sql_values.specs.declared.value.Value.{Value}
 use Rattle.sql_values.specs.declared.relational.Call.{Call}
@@ -24,7 +24,7 @@ held_row columns row = cut columns row ++ drop (length columns) row
 abbrev pub merged_rows : ℕ → List Call → List (List Value) → List (List Value)
 merged_rows width calls rows = map (λ key. key ++ all_merged calls (behind_key width rows key)) (front_keys width rows)
 
--- rows that begin with the same keys, and tell the same partial row of each
+-- rows that begin with the same keys, and give the same partial row of each
 pub record TellAlike (width : ℕ) (calls : List Call) (rows others : List (List Value)) : Type 0 where
   pub keys : distinct same_row (map (take width) rows) ≡ distinct same_row (map (take width) others)
   pub merged : (key : List Value) → all_merged calls (behind_key width rows key) ≡ all_merged calls (behind_key width others key)

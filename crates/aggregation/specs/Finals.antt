@@ -16,7 +16,7 @@ pub record FinalState : Type 0 where
 abbrev pub layout_in : FinalState → Layout
 layout_in s = record { width = length s.groups.table.columns; types = s.groups.table.types; calls = s.groups.table.calls }
 
--- the keys are the first columns, and a group of no row tells what is a partial row
+-- the keys are the first columns, and a group of no row says what is a partial row
 pub record IsFinal (width : ℕ) (part : Group) (taken : List SqlType) (groups : GroupsState) : Type 0 where
   pub few : width ≤ 2 ^ 31
   pub front : groups.table.columns ≡ range_with_len 0 width

@@ -102,7 +102,7 @@ no_groups columns calls types given page = record {
   is_told = false;
 }
 
--- there is a column to give, and the output begins only where they were told that no row comes any more
+-- there is a column to give, and the output begins only where they were told to finish
 pub record AreGiven (types : List SqlType) (begun is_told : Bool) : Type 0 where
   pub some : 0 < length types
   pub late : begun ≡ true → is_told ≡ true

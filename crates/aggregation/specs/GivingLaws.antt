@@ -55,7 +55,7 @@ said (Err kind) key rest own none calm = calm own kind (refl, Contains-append_le
 none-in : (v : Verdict) → Contains [] v → ⊥
 none-in v c = absurd (omega (arith, c.1))
 
--- it is done where it was told, has no row and no group fails
+-- it is done where it was told to finish, has no row and no group fails
 done-begun : (told : Bool) (left : List (List Value)) → ((told && not (has_row left)) ≡ true)
     ↔ ((told ≡ true) × ((told && has_row left) ≡ false) × ((node : ℕ) (kind : Fail) → ⊥ → ⊥))
 done-begun true [] = ((λ e. (refl, refl, λ node kind f. f)), (λ h. refl))

@@ -59,7 +59,7 @@ IsPut old new (keeps row) = new ≡ record old { rows = old.rows ++ row ∷ [] }
 IsPut old new drops = ⊥
 IsPut old new (fails kind) = ⊥
 
--- the fault tells why this group fails, or memory was wanting
+-- the fault says why this group fails, or memory was wanting
 abbrev pub GroupFailsBy : Verdict → EvalFault → Type 0
 GroupFailsBy verdict (fault.Fail kind) = verdict ≡ fails kind
 GroupFailsBy verdict fault.Memory = Unit {0}

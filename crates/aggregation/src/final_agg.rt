@@ -28,8 +28,8 @@ use std::sync::Wait;
 use std::thread::Threads;
 
 /// Takes rows of keys and partial rows, and gives a row for each group, its key and the results of the calls
-/// over all rows of the group, once it was told that no page comes any more.
-#[derive(Debug, Drop)]
+/// over all rows of the group, once `finish` was called.
+#[derive(Drop)]
 pub struct FinalAgg {
     node: u32,
     groups: GroupRows,

@@ -15,7 +15,7 @@ use std::alloc::Global;
 use std::marker::Model;
 
 /// The groups of rows and, once their output has begun, the rows that are left to give.
-#[derive(Debug, Drop)]
+#[derive(Drop)]
 pub struct GroupRows {
     table: GroupTable,
     left: LeftRows,

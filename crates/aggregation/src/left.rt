@@ -9,7 +9,7 @@ use std::alloc::Global;
 use std::marker::Model;
 
 /// Rows that are still to be given, in pages.
-#[derive(Debug, Drop)]
+#[derive(Drop)]
 pub struct LeftRows {
     alloc: Global,
     rows: ColumnRows,

@@ -2,7 +2,7 @@
 //!
 //! A group is kept as its key and its partial row, and each row that comes is merged in. What the operators
 //! may give is stated over these partial rows (`specs/Alike.antt`, `specs/Held.antt`): with rows still to
-//! come it is what they tell together, and that is what grouping all rows gives.
+//! come it is what they give together, and that is what grouping all rows gives.
 //!
 //! - `single`: `SingleAgg` takes rows and gives the results of their groups
 //! - `partial`, `final_agg`: the two halves. `PartialAgg` takes rows and gives the keys and partial rows of their

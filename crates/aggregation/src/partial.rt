@@ -18,9 +18,9 @@ use std::alloc::Global;
 use std::sync::Wait;
 use std::thread::Threads;
 
-/// Gives a row for each group of the rows that came, its key and its partial row, once it was told that no
-/// page comes any more.
-#[derive(Debug, Drop)]
+/// Gives a row for each group of the rows that came, its key and its partial row, once `finish`
+/// was called.
+#[derive(Drop)]
 pub struct PartialAgg {
     groups: GroupRows,
 }

@@ -19,9 +19,9 @@ use std::alloc::Global;
 use std::sync::Wait;
 use std::thread::Threads;
 
-/// Gives a row for each group of the rows that came, its key and the results of the calls, once it was
-/// told that no page comes any more.
-#[derive(Debug, Drop)]
+/// Gives a row for each group of the rows that came, its key and the results of the calls, once
+/// `finish` was called.
+#[derive(Drop)]
 pub struct SingleAgg {
     node: u32,
     groups: GroupRows,

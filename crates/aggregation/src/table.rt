@@ -18,7 +18,7 @@ use std::alloc::Global;
 use std::marker::Model;
 
 /// The groups of the rows that came: a key and an accumulator each.
-#[derive(Debug, Drop)]
+#[derive(Drop)]
 pub struct GroupTable {
     alloc: Global,
     columns: Vec<u32>,
@@ -264,7 +264,7 @@ impl GroupTable {
         Ok(())
     }
 
-    /// The law that what is said of the groups is what their partial rows tell.
+    /// The law that what is said of the groups follows from their partial rows.
     pub fn groups_are_told(&self)
         ensures { verdicts_with self.now [] ≡ verdicts_of self.now }
     {

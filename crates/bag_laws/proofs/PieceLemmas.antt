@@ -27,7 +27,7 @@ use Rattle.bag_laws.proofs.GroupLemmas.{same-grouped, same-grouped_by_bucket, sa
 use Rattle.bag_laws.proofs.MergeLemmas.{all_merged-same}
 
 module _ (calls : List Call) where
-  -- the partial rows tell of these rows, whatever others stand behind them
+  -- the partial rows speak of these rows, whatever others stand behind them
   record Tells (partials rows : List (List Value)) : Type 0 where
     tells : (more others : List (List Value)) → all_merged calls more ≡ partial_of calls others → all_merged calls (partials ++ more) ≡ partial_of calls (rows ++ others)
 
@@ -142,7 +142,7 @@ module _ (types : List SqlType) (calls : List Call) (n : ℕ) (pieces : ℕ → 
       ∙ distinct-gather same_row same_row_decides n (λ k. map (cut C) (pieces k))
       ∙ ap (distinct same_row) (sym (gather-map n (cut C) pieces))
 
-  -- the groups that the partial rows of pieces tell are those of all rows
+  -- the groups that the partial rows of pieces give are those of all rows
   pub finals_of-pieces : (columns : List ℕ) → finals_of types (length columns) calls (of_pieces columns) ≡ groups_of types columns calls (gather n pieces)
   finals_of-pieces columns =
       let w = length columns in

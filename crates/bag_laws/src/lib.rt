@@ -6,7 +6,7 @@
 //! - `specs/Gather.antt`: the lists of all tasks, one behind the other
 //! - `specs/Buckets.antt`: the items of a bucket, and tasks that have only rows of their own
 //! - `specs/Grouping.antt`, `specs/Pieces.antt`: groups by any key; the partial rows of pieces, and what
-//!   they tell together
+//!   they give together
 //! - `specs/Firsts.antt`: the first rows of some order, and of a sorted one
 //! - `laws`: what follows from these definitions
 #![tactic(auto)]

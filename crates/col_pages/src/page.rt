@@ -1,5 +1,6 @@
 ghost use Rattle.std.specs.Prelude.{◌≡◌, ◌-◌, ◌<◌, ◌≤◌, ◌↔◌, [], length, take, drop, map, slice_get, slice_index_or, Some, IsSome, IsTrue, IfOk, IfSome, All};
 ghost use Rattle.columns.specs.Present.{gather};
+ghost use Rattle.sql_values.specs.Buckets.{GoOnBy};
 ghost use Rattle.sql_values.specs.Cells.{cell, cut, lent_value};
 ghost use Rattle.sql_values.specs.ColumnRows.{rows_of, kinds_of, common_length, AreFilled, fits_row};
 ghost use Rattle.col_pages.specs.Pages.{most_rows, blocks_of};
@@ -12,7 +13,7 @@ use std::marker::Model;
 pub const MOST_ROWS: u32 = 8192;
 
 /// At most `MOST_ROWS` rows of some types, in columns.
-#[derive(Debug, Drop)]
+#[derive(Drop)]
 pub struct Page {
     held: ColumnRows,
 }
@@ -120,6 +121,14 @@ impl Page {
         ensures { lent_value result ≡ cell (slice_index_or self.now.rows row []) column }
     {
         self.held.cell(row as usize, column)
+    }
+
+    /// Goes on in each bucket hash by the value that the row at its place has in a column: NULL past the last column.
+    pub fn hash_column(&self, column: u32, hashes: &mut [u64])
+        requires { length hashes.old ≡ length self.now.rows }
+        ensures { GoOnBy (λ k. cell (slice_index_or self.now.rows k []) column) hashes.old hashes.new }
+    {
+        self.held.hash_column(column, hashes);
     }
 
     /// A copy of a column, or none where no column of that type stands there.

@@ -11,7 +11,7 @@ use std::marker::Model;
 use std::mem;
 
 /// Makes pages of at most `room` rows, row by row or cell by cell.
-#[derive(Debug, Drop)]
+#[derive(Drop)]
 pub struct PageBuilder {
     alloc: Global,
     held: ColumnRows,

@@ -7,7 +7,7 @@ use std::collections::VecDeque;
 use std::marker::Model;
 
 /// A list of pages, taken from its front.
-#[derive(Debug, Drop)]
+#[derive(Drop)]
 pub struct PageList {
     pages: VecDeque<Page>,
 }

@@ -1,5 +1,5 @@
 -- The column of a scan from which a column of a tree's rows comes, where nothing stands between the two that could fail on
--- a row or change the column. What the scan leaves out can so be told by that column.
+-- a row or change the column. So what the scan leaves out can be said by that column.
 use Rattle.std.specs.Prelude.{ℕ, List, length, slice_get, nat_lt, if◌then◌else◌, Option, Some, None}
 use Rattle.std.specs.Option.{option_and_then}
 use Rattle.sql_values.specs.declared.types.SqlType.{SqlType}

@@ -2,7 +2,7 @@
 //!
 //! A `Nullable` keeps numbers or flags, a `Texts` keeps texts as one buffer with their ends; both
 //! mark beside it which values are missing. Contracts see either as the list of its values, and
-//! every call equals its word on lists: `take`, `drop`, `map`, `++`. No call takes memory for a
+//! every call equals its function on lists: `take`, `drop`, `map`, `++`. No call takes memory for a
 //! single value, and a call that wants memory and gets none leaves what it was given as it was.
 //!
 //! - `nullable`: `Nullable`

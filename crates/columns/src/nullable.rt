@@ -6,7 +6,7 @@ use std::alloc::{AllocError, Global};
 use std::marker::Model;
 
 /// Values of one type, any of which may be missing.
-#[derive(Debug, Drop)]
+#[derive(Drop)]
 pub struct Nullable<T> {
     items: Vec<T>,
     nulls: Vec<bool>,

@@ -6,7 +6,7 @@ use std::alloc::{AllocError, Global};
 use std::marker::Model;
 
 /// Texts, any of which may be missing.
-#[derive(Debug, Drop)]
+#[derive(Drop)]
 pub struct Texts {
     bytes: Vec<u8>,
     ends: Vec<usize>,

@@ -1,4 +1,4 @@
--- The command as it is built, and words by what they begin with.
+-- The command as it is built, and arguments by what they begin with.
 use Rattle.std.proofs.Common.{◌≡◌, ◌∙◌, ◌||◌, ◌==◌, arith, ℕ, Bool, cond, true, false, not, refl, sym, ap, ap₂, subst, ◌+◌, suc, length, take, List, [], ◌∷◌, map, Option, Some, None, codes, true≢false, eqb-true, IsUtf8}
 use lib.Seq.{take-length}
 use Rattle.std.specs.List.{find, list_any, position_or_len}
@@ -33,7 +33,7 @@ shape names = record (new_shape (codes "trinorun")) {
   rules = rules names;
 }
 
--- ---- words by what they begin with
+-- ---- arguments by what they begin with
 
 pub text_is : (a b : Text) → same_text a b ≡ true → a ≡ b
 text_is a b e = (bytes_eq-Decides a b).0 e

@@ -1,4 +1,4 @@
--- What `clap` makes of words: its walk over them gives what the items of the arguments give.
+-- What `clap` makes of arguments: its walk over them gives what the items of the arguments give.
 use Rattle.std.proofs.Common.{◌≡◌, ◌∙◌, ◌&&◌, ◌==◌, ℕ, Bool, cond, true, false, refl, sym, ap, ap₂, subst, List, [], ◌∷◌, map, Option, Some, None, option_and_then, true≢false, IsUtf8}
 use Rattle.std.specs.List.{find, fold, list_any}
 use Rattle.std.specs.Option.{option_map_or}
@@ -93,7 +93,7 @@ module _ (names : List Text) where
   by_bool f x true t e = t
   by_bool f x false t e = e
 
-  -- a word behind `--`
+  -- an argument behind `--`
   ended_turn : (rows : List Row) (pending : Option (Text × List Text)) (waiting : Waiting) (word : Text)
       → turn_fault (shape names) [] (at rows pending waiting true) word ≡ fault_at rows pending
   ended_turn rows None waiting word = refl
@@ -113,7 +113,7 @@ module _ (names : List Text) where
       })
       (at (rows_at rows (Some p)) (Some (tables_id, word ∷ [])) positional true) (bytes_eq p.0 tables_id) refl refl
 
-  -- all words behind `--` belong to no option
+  -- all arguments behind `--` belong to no option
   ended_words : (words : List Text) (rows : List Row) (pending : Option (Text × List Text)) (waiting : Waiting)
       → outcome (at rows pending waiting true) words ≡ told (now rows pending) (Some (map named words))
   ended_words [] rows pending waiting = outcome_end (at rows pending waiting true) ∙ sym (told_none (now rows pending))
@@ -123,7 +123,7 @@ module _ (names : List Text) where
       ∙ ap (λ o. cond (none (fault_at rows pending)) o None) (ended_words rest (rows_at rows pending) (Some (tables_id, word ∷ [])) positional)
       ∙ sym (told_when (none (fault_at rows pending)) (rows_at rows pending) (Some (map named (word ∷ rest))))
 
-  -- ---- a word before `--`
+  -- ---- an argument before `--`
 
   -- no option waits for its value
   abbrev IsAtRest : Waiting → Type 0
@@ -200,7 +200,7 @@ module _ (names : List Text) where
       ∙ ap₂ (λ (k : Kinds) (w : Walk). cond (none k) (outcome w rest) None) (end_turn rows pending waiting) (end_walk rows pending waiting)
       ∙ ended_words rest rows pending waiting
 
-  -- ---- a word `-x`
+  -- ---- an argument `-x`
   short_turn : (rows : List Row) (pending : Option (Text × List Text)) (waiting : Waiting) (y : ℕ) (ys : Text) (c : ℕ) → (y == 45) ≡ false
       → slice_get (chars (y ∷ ys)) 0 ≡ Some c → none (turn_fault (shape names) [] (at rows pending waiting false) (45 ∷ y ∷ ys)) ≡ false
   unfolding flags_fault
@@ -217,7 +217,7 @@ module _ (names : List Text) where
   short_item : (y : ℕ) (ys : Text) (rest : List Text) → (y == 45) ≡ false → items_from None ((45 ∷ y ∷ ys) ∷ rest) ≡ None
   short_item y ys rest single = rw single refl
 
-  -- ---- a word `--name` or `--name=value`
+  -- ---- an argument `--name` or `--name=value`
   abbrev met_long : List Row → Option (Text × List Text) → Waiting → Text → Option Rule → Option Text → Held × Step
   met_long rows pending waiting word found value =
       let met = long_met (rules names) found value (held rows pending) in after_flag (rules names) waiting word met.0 met.1
@@ -288,7 +288,7 @@ module _ (names : List Text) where
   settled_first [] after = refl
   settled_first (k ∷ ks) after = refl
 
-  -- an option that the command has, with its value in the same word
+  -- an option that the command has, with its value in the same argument
   valued_outcome : (rows : List Row) (pending : Option (Text × List Text)) (waiting : Waiting) (word : Text) (rest : List Text) (name value : Text)
       → IsAtRest waiting → list_any (λ other. same_text other name) names ≡ true → Reads rest
       → long_outcome rows pending waiting word rest (Some (option_built name)) (Some value) ≡ told (now rows pending) (before (valued name value) (items_from None rest))
@@ -299,7 +299,7 @@ module _ (names : List Text) where
       ∙ ap (λ o. cond (none (fault_at rows pending)) o None) (told_valued used name value (items_from None rest) known)
       ∙ sym (told_when (none (fault_at rows pending)) used (before (valued name value) (items_from None rest)))
 
-  -- an option that the command has, with its value in the next word
+  -- an option that the command has, with its value in the next argument
   open_outcome : (rows : List Row) (pending : Option (Text × List Text)) (waiting : Waiting) (word : Text) (rest : List Text) (name : Text)
       → IsAtRest waiting → list_any (λ other. same_text other name) names ≡ true → Waits rest
       → long_outcome rows pending waiting word rest (Some (option_built name)) None ≡ told (now rows pending) (items_from (Some name) rest)
@@ -330,7 +330,7 @@ module _ (names : List Text) where
       by_known false true unknown signed = sym (told_unknown (now rows pending) (name x xs) (value x xs) (items_from None rest) unknown)
       by_known false false unknown signed = sym (told_open (now rows pending) (text x xs) rest (ap (λ t. list_any (λ other. same_text other t) names) (sym (no_sign (text x xs) signed)) ∙ unknown))
 
-  -- ---- a word behind an option that waits for its value
+  -- ---- an argument behind an option that waits for its value
   module _ (apart : list_any (λ other. same_text other tables_id) names ≡ false) where
     -- no option has the name under which tables are found
     not_tables : (owed : Text) (b : Bool) → list_any (λ other. same_text other owed) names ≡ true → same_text tables_id owed ≡ b → b ≡ false
@@ -437,6 +437,6 @@ module _ (names : List Text) where
         let behind = all_read rest utf8.1 in
         (reads_of word rest (class_of word) utf8.0 behind.0 behind.1, waits_of word rest (class_of word) utf8.0 behind.0)
 
-    -- the walk over words gives what their items give
+    -- the walk over arguments gives what their items give
     pub outcome_is : (words : List Text) → AllTexts words → outcome (walk_from nothing_held) words ≡ told (Some []) (items_of words)
     outcome_is words utf8 = (all_read words utf8).0 [] None idle tt

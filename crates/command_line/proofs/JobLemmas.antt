@@ -124,7 +124,7 @@ known_or : (known table has : Bool) → (known ≡ true → table ≡ false) →
 known_or false table has apart = refl
 known_or true table has apart = ap (λ t. not (t || has)) (apart refl)
 
--- a word that belongs to no option leaves them
+-- an argument that belongs to no option leaves them
 fresh_joined : (word : Text) (rows : List Row) (items : List Item) → fresh (joined word rows) items ≡ fresh rows items
 fresh_joined word rows [] = refl
 fresh_joined word rows (named other ∷ items) = fresh_joined word rows items

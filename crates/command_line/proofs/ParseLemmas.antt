@@ -1,4 +1,4 @@
--- What a parse of words gives, and when it fails.
+-- What a parse of arguments gives, and when it fails.
 use Rattle.std.proofs.Common.{◌≡◌, ◌∙◌, ◌&&◌, ◌||◌, Bool, cond, true, false, refl, sym, ap, ap₂, List, [], ◌∷◌, map, Some, None}
 use Rattle.std.specs.List.{fold}
 use Rattle.clap.specs.Words.{Row, matches_of}
@@ -56,7 +56,7 @@ level_none (k ∷ ks) settling defaults checks d c = refl
 pub ended : List Text → Held
 ended words = (fold (walked (rules option_names) []) (walk_from nothing_held) words).held
 
--- what a parse of words finds, or None where it fails, is what their items give
+-- what a parse of arguments finds, or None where it fails, is what their items give
 parse_is : (words : List Text) → AllTexts words
     → cond (none (fault_of words_app words)) (Some (matches_of words_app words)) None ≡ told option_names (Some []) (items_of words)
 unfolding ended

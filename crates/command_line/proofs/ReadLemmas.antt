@@ -1,4 +1,4 @@
--- What is found in words asks for what they ask for.
+-- What is found in arguments asks for what they ask for.
 use Rattle.std.proofs.Common.{◌≡◌, ◌∙◌, inl, inr, Bool, cond, true, false, refl, sym, ap, subst, List, [], Option, Some, None, option_and_then, unwrap_or}
 use Rattle.clap.specs.Words.{App, Row, first_of, found_of, kind_of, matches_of, rows_of}
 use Rattle.clap.specs.Kinds.{HasKind, IsAmong}

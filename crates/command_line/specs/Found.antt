@@ -13,7 +13,7 @@ tables_id = codes "NAME=FILE"
 abbrev pub option_rule : List ℕ → Rule
 option_rule name = record (new_rule name) { long = Some name }
 
--- any number of words that belong to no option
+-- any number of arguments that belong to no option
 abbrev pub tables_rule : Rule
 tables_rule = record (new_rule tables_id) { action = Some Append }
 
@@ -38,7 +38,7 @@ given_in found = λ name. first_value (found_of found) name
 abbrev pub tables_in : ArgMatches → List (List ℕ)
 tables_in found = unwrap_or (option_map raw_values (matched_of (found_of found) tables_id)) []
 
--- each word is a text
+-- each argument is a text
 abbrev pub AllTexts : List (List ℕ) → Type 0
 AllTexts [] = Unit {0}
 AllTexts (word ∷ words) = IsUtf8 word × AllTexts words

@@ -1,4 +1,4 @@
--- What stands on a command line: options with their values, and other words.
+-- What stands on a command line: options with their values, and other arguments.
 use Rattle.std.specs.Prelude.{ℕ, List, [], ◌∷◌, length, map, Bool, false, not, ◌&&◌, ◌==◌, nat_eq, nat_lt, slice_index, Option, Some, None, drop, option_map, if◌then◌else◌}
 use Rattle.std.specs.List.{after_first, before_first, list_any}
 use Rattle.std.specs.Cmp.Lexicographic.{pointwise}
@@ -19,11 +19,11 @@ is_option [] = false
 is_option (byte ∷ []) = false
 is_option (byte ∷ next ∷ rest) = byte == dash
 
--- the word that ends the options, `--`
+-- the argument that ends the options, `--`
 abbrev pub end_of_options : List ℕ
 end_of_options = dash ∷ dash ∷ []
 
--- a word that begins with `--`
+-- an argument that begins with `--`
 abbrev pub begins_with_dashes : List ℕ → Bool
 begins_with_dashes [] = false
 begins_with_dashes (byte ∷ []) = false
@@ -36,14 +36,14 @@ is_equals_sign byte = byte == 61
 abbrev pub has_equals_sign : List ℕ → Bool
 has_equals_sign word = list_any is_equals_sign word
 
--- the two parts of a word round its first `=`
+-- the two parts of an argument round its first `=`
 abbrev pub first_part : List ℕ → List ℕ
 first_part word = before_first is_equals_sign word
 
 abbrev pub second_part : List ℕ → List ℕ
 second_part word = after_first is_equals_sign word
 
--- an option, by its name, with what is written for it, or a word that is none
+-- an option, by its name, with what is written for it, or an argument that is none
 pub data Item : Type 0 where
   valued : List ℕ → List ℕ → Item
   named : List ℕ → Item
@@ -51,9 +51,9 @@ pub data Item : Type 0 where
 abbrev pub before : Item → Option (List Item) → Option (List Item)
 before item = option_map (λ items. item ∷ items)
 
--- the items of words, behind an option that still has no value if there is one; None where nothing is written for an
--- option, or a word begins with one `-`. An option is `--name=value`, or `--name` and the word behind it, which is then
--- no option itself. Behind a word `--` there are no options.
+-- the items of arguments, behind an option that still has no value if there is one; None where nothing is written for
+-- an option, or an argument begins with one `-`. An option is `--name=value`, or `--name` and the argument behind it,
+-- which is then no option itself. Behind an argument `--` there are no options.
 abbrev pub items_from : Option (List ℕ) → List (List ℕ) → Option (List Item)
 items_from None [] = Some []
 items_from (Some name) [] = None

@@ -1,4 +1,4 @@
--- The command line: which words are one, and what it asks for.
+-- The command line: which arguments are one, and what it asks for.
 use Rattle.std.specs.Prelude.{◌≡◌, ℕ, List, length, map, Bool, true, not, ◌&&◌, ◌≤◌, ◌<◌, ◌^◌, nat_lt, [], ◌∷◌, Option, Some, None, false, option_map, option_and_then, unwrap_or, slice_get, if◌then◌else◌, codes}
 use Rattle.std.specs.List.{list_all, list_any, position_from}
 use Rattle.command_line.specs.Items.{Item, begins_with_dash, first_part, items_of, named_in, same_text, second_part}
@@ -53,18 +53,18 @@ pub record HasBounds (job : Job) : Type 0 where
   pub drivers_are_bounded : job.drivers ≤ 16
   pub replay_is_bounded : job.replay < 2 ^ 64
 
--- a word that may name a file: not empty, and no option
+-- an argument that may name a file: not empty, and no option
 abbrev pub is_file_name : List ℕ → Bool
 is_file_name word = nat_lt 0 (length word) && not (begins_with_dash word)
 
 abbrev pub named_file : List ℕ → NamedFile
 named_file word = record { name = first_part word; file = second_part word }
 
--- a word `NAME=FILE`
+-- an argument `NAME=FILE`
 abbrev pub is_named_file : List ℕ → Bool
 is_named_file word = is_file_name word && nat_lt 0 (length (first_part word)) && nat_lt 0 (length (second_part word))
 
--- a word gives a file to a table of this name
+-- an argument gives a file to a table of this name
 abbrev pub names : List ℕ → List ℕ → Bool
 names name word = same_text (first_part word) name
 
@@ -158,14 +158,14 @@ no_job = record {
   counts = false;
 }
 
--- the file of a table that borrows its words
+-- the file of a table that borrows its arguments
 abbrev pub told_file : job.NamedFile.NamedFile → NamedFile
 told_file told = record { name = told.name.now; file = told.file.now }
 
 abbrev pub asked_source : job.Source.Source → Source
 asked_source told = record { plan = told.plan.now; files = map told_file told.files.items; demo = told.demo }
 
--- what a job that borrows its words asks for
+-- what a job that borrows its arguments asks for
 abbrev pub asked : job.Job.Job → Job
 asked told = record {
   plan = told.source.plan.now;
@@ -181,7 +181,7 @@ asked told = record {
   counts = told.counts;
 }
 
--- words were not read: they are no command line, or memory was wanting
+-- arguments were not read: they are no command line, or memory was wanting
 abbrev pub Refuses : {A : Type 0} → Option A → WordsFault → Type 0
 Refuses found fault.Bad = found ≡ None
 Refuses found fault.Memory = Unit {0}
@@ -198,6 +198,6 @@ file_at files place = unwrap_or (option_map (λ named. named.file) (slice_get fi
 abbrev pub file_of : List ℕ → List NamedFile → Option (ℕ × List ℕ)
 file_of name files = option_map (λ place. (place, file_at files place)) (position_from (is_named name) 0 files)
 
--- a file that borrows its word
+-- a file that borrows its argument
 abbrev pub asked_file : job.TableFile.TableFile → ℕ × List ℕ
 asked_file found = (found.place, found.file.now)

@@ -9,10 +9,10 @@ use clap::error::ErrorKind;
 use clap::{Arg, ArgAction, ArgMatches, Command, Error};
 use std::alloc::{AllocError, Global};
 
-/// The words that belong to no option.
+/// The arguments that belong to no option.
 pub const TABLES: &str = "NAME=FILE";
 
-/// Why words give no job: they are no command line, or memory was wanting.
+/// Why arguments give no job: they are no command line, or memory was wanting.
 #[derive(Clone, Copy)]
 pub enum WordsFault {
     Bad,
@@ -27,7 +27,7 @@ fn option<'a>(alloc: Global, name: &'a str) -> Arg<'a>
     Arg::new(alloc, name).long(name)
 }
 
-/// Any number of words that belong to no option.
+/// Any number of arguments that belong to no option.
 fn tables<'a>(alloc: Global) -> Arg<'a>
     ensures rule { rule_of result ≡ tables_rule }
     ensures local { result.global ≡ false }
@@ -49,12 +49,12 @@ fn command<'a>(alloc: Global, names: &[&'a str]) -> Result<Command<'a>, AllocErr
     Ok(command)
 }
 
-/// The law that a word is a text.
+/// The law that an argument is a text.
 fn word_is_text(word: &str)
     ensures { IsUtf8 word.now }
 {}
 
-/// The law that words are texts.
+/// The law that arguments are texts.
 fn words_are_texts(words: &[&str])
     ensures { AllTexts (map (λ word. word.now) words.now) }
 {

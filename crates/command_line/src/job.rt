@@ -5,7 +5,7 @@ ghost use Rattle.command_line.specs.Words.{asked, asked_file, file_at, file_of, 
 
 use std::alloc::Global;
 
-/// The file that a word gives to the table of a name.
+/// The file that an argument gives to the table of a name.
 #[derive(Clone, Copy)]
 pub struct NamedFile<'a> {
     pub name: &'a str,

@@ -1,4 +1,4 @@
-//! Which words are a command line, and what it asks for.
+//! Which arguments are a command line, and what it asks for.
 ghost use Rattle.std.specs.Prelude.{◌≡◌, drop, IfOk, IfSome, map, MatchResult, None, option_map, Some};
 ghost use Rattle.std.specs.List.{list_all, list_any};
 ghost use Rattle.command_line.specs.Found.{given_in, tables_in};
@@ -12,7 +12,7 @@ use clap::ArgMatches;
 use sql_values::{Memory, Text};
 use std::alloc::{AllocError, Global};
 
-/// The words, lent one by one, as they are read.
+/// The arguments, lent one by one, as they are read.
 pub fn lend_words<'a>(alloc: Global, words: &'a [Text]) -> Result<Vec<&'a str>, Memory>
     ensures { IfOk result (λ lent. map (λ word. word.now) lent.items ≡ words.entry.now) }
 {
@@ -78,7 +78,7 @@ fn source_in<'a>(alloc: Global, found: &ArgMatches<'a>) -> Result<Source<'a>, Wo
     }
 }
 
-/// What is run, where these words belong to no option.
+/// What is run, where these arguments belong to no option.
 fn source_with<'a>(
     alloc: Global,
     found: &ArgMatches<'a>,
@@ -174,7 +174,7 @@ fn document(name: &str) -> NamedFile<'_>
     NamedFile { name, file: name }
 }
 
-/// Whether a word may name a file: it is not empty and no option.
+/// Whether an argument may name a file: it is not empty and no option.
 fn is_file_name(word: &str) -> bool
     ensures { result ≡ is_file_name word.now }
 {
@@ -204,7 +204,7 @@ fn all_name_files(words: &[&str]) -> bool
     true
 }
 
-/// Whether a word gives a file to a table of the name.
+/// Whether an argument gives a file to a table of the name.
 fn gives(words: &[&str], name: &str) -> bool
     ensures { result ≡ list_any (names name.now) (map (λ word. word.now) words.now) }
 {
@@ -227,7 +227,7 @@ fn names_differ(words: &[&str]) -> bool
     true
 }
 
-/// The part of a word before its first `=`.
+/// The part of an argument before its first `=`.
 fn first_part(word: &str) -> &str
     ensures { result.now ≡ first_part word.now }
 {
@@ -237,7 +237,7 @@ fn first_part(word: &str) -> &str
     }
 }
 
-/// The part of a word behind its first `=`.
+/// The part of an argument behind its first `=`.
 fn second_part(word: &str) -> &str
     ensures { result.now ≡ second_part word.now }
 {

@@ -18,7 +18,7 @@ impl fmt::Display for OutOfRange {
 impl Error for OutOfRange {}
 
 /// The number `unscaled` / 10^`s`, of the type decimal(p,s).
-#[derive(Clone, Copy, Debug)]
+#[derive(Clone, Copy)]
 pub struct Decimal {
     pub unscaled: i128,
     pub p: u8,

@@ -10,7 +10,7 @@ use sql_values::{Memory, Text};
 use std::alloc::Global;
 
 /// A plan, and its tables in CSV.
-#[derive(Debug, Drop)]
+#[derive(Drop)]
 pub struct Demo {
     pub plan: Text,
     pub orders: Text,

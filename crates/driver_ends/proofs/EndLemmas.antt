@@ -1,4 +1,4 @@
--- What targets and sources tell a driver: their Bools, their looks, and the rows that a source handed on.
+-- What a driver knows of its target and its source: their Bools, their looks, and the rows that a source handed on.
 use Rattle.std.proofs.Common.{◌≡◌, ℕ, zero, suc, ◌+◌, ◌<◌, List, [], ◌∷◌, Bool, true, false, Option, Some, None, Result, Ok, Err, cond, length, get_or, take, map, refl, sym, ap, ◌∙◌, ◌≤◌, arith, append-nil, subst, ◌⊎◌, inl, inr}
 use Rattle.std.specs.Prelude.{All, IfOk, IfNone, IfSome, IsOk, IsSome, MatchOption, OnOk, not, ◌&&◌, ◌||◌, find, is_none, nat_eq, nat_lt, sum_by}
 use Rattle.std.specs.Bool.{Decides}
@@ -71,7 +71,7 @@ finished_where t ends may d =
     let last = (and_decides t.is_told (is_none t.waiting) (λ e. e, λ e. e) (none_decides t.waiting)).0 may in
     (λ e. record { told = last.0; none = last.1; through = d.0 e }, λ f. d.1 f.through)
 
--- ---- what a target tells
+-- ---- what is known of a target
 
 -- a target is as it was made where its outlets are
 made_with : (old new : TargetState) → new.kind ≡ old.kind → map outlet_as_made new.outlets ≡ map outlet_as_made old.outlets → put_as_made new ≡ put_as_made old
@@ -87,7 +87,7 @@ pub seats_made : (old new : TargetState) → new.kind ≡ old.kind → map (λ (
 seats_made old new kind seats =
     made_with old new kind (same_by (λ (s : GatherPutState). new_outlet (new_gather_put s.edge s.number)) (λ (l : OutletState). l.seat) new.outlets old.outlets seats)
 
--- what a sum over the seats tells is the same where the seats are
+-- what a sum over the seats says is the same where the seats are
 sum_of_seats : (f : GatherPutState → ℕ) (old new : List OutletState) → map (λ (l : OutletState). l.seat) new ≡ map (λ (l : OutletState). l.seat) old →
     sum_by (λ (l : OutletState). f l.seat) new ≡ sum_by (λ (l : OutletState). f l.seat) old
 sum_of_seats f old new seats =
@@ -146,7 +146,7 @@ waited_later old mid new shown on more waited = record {
 
 -- ---- a target that is through
 
--- one with no rows to spread is finished where it was told, and takes a page where it was not
+-- one with no rows to spread is finished where it was told to finish, and takes a page where it was not
 pub through_finished : (t : TargetState) → AreThrough t → t.waiting ≡ None → t.is_told ≡ true → put_finished t ≡ true
 through_finished t through none told =
     let may : may_end t ≡ true = (λ i. told i && is_none (none i)) in

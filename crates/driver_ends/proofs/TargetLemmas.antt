@@ -32,7 +32,7 @@ map_twice : {X Y Z : Type 0} (g : Y → Z) (f : X → Y) (xs : List X) → map g
 map_twice g f [] = refl
 map_twice g f (x ∷ xs) = ap (λ rest. g (f x) ∷ rest) (map_twice g f xs)
 
--- what is told by a function of it is the same too
+-- what a function says of it is the same too
 pub same_by : {X Y Z : Type 0} (g : Y → Z) (f : X → Y) (xs ys : List X) → map f xs ≡ map f ys → map (λ x. g (f x)) xs ≡ map (λ x. g (f x)) ys
 same_by g f xs ys same = sym (map_twice g f xs) ∙ ap (map g) same ∙ map_twice g f ys
 

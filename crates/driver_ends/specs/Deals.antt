@@ -9,7 +9,7 @@ use Rattle.output_buffer.specs.Edges.{end_count, ends_in}
 use Rattle.output_buffer.specs.Seats.{EdgeId, MaySpread, SpreadPutState, rows_of_pieces}
 use Rattle.driver_ends.specs.Outlets.{HasRows, IsInOrder, page_back, rows_of_held}
 
--- the putter's seat, the page that the edge did not take yet, and whether it was told that no page comes any more
+-- the putter's seat, the page that the edge did not take yet, and whether it was told to finish
 pub record DealState : Type 0 where
   pub seat : SpreadPutState
   pub held : Option TypedPage
@@ -32,7 +32,7 @@ pub record DealWants (deal : DealState) : Type 0 where
   pub going : deal.is_told ≡ false
   pub clear : deal.held ≡ None
 
--- a seat may put the piece, which is not without rows and no End before it was told, and no page is held
+-- a seat may put the piece, which is not without rows and no End before it was told to finish, and no page is held
 pub record MayDeal (deal : DealState) (piece : Piece) : Type 0 where
   pub may : MaySpread deal.seat piece
   pub full : HasRows piece

@@ -1,4 +1,4 @@
--- What targets and sources over edges tell the driver between them.
+-- What the driver between a source and a target over edges knows of them.
 use Rattle.std.specs.Prelude.{◌≡◌, ℕ, List, Bool, true, false, not, ◌&&◌, ◌||◌, Option, Some, None, find, is_none, map, nat_le, nat_lt}
 use Rattle.std.specs.List.{list_all}
 use Rattle.sql_values.specs.declared.value.Value.{Value}

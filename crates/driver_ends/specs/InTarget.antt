@@ -9,8 +9,8 @@ use Rattle.driver_ends.specs.declared.put_target.PutTarget.TheInside.{Inside}
 abbrev pub target_view : Inside → TargetState
 target_view t = record { kind = t.kind; outlets = t.outlets.items; waiting = t.waiting; is_told = t.is_told }
 
--- it has the outlets of its kind, rows wait only where they may, and it puts no End before it was told to, nor
--- while rows wait
+-- it has the outlets of its kind, rows wait only where they may, and it puts no End before it was told to finish,
+-- nor while rows wait
 pub record IsPutTarget (t : Inside) : Type 0 where
   pub fits : FitsKind t.kind (length t.outlets.items)
   pub waits : may_wait t.kind (length t.outlets.items) ≡ false → t.waiting ≡ None

@@ -12,7 +12,7 @@ use Rattle.driver_ends.specs.declared.put_target.PutKind.{PutKind}
 use Rattle.driver_ends.specs.declared.put_target.PutKind.TheVariants.{One, Each, Hash}
 use Rattle.driver_ends.specs.Outlets.{IsClear, IsStuck, IsThrough, OutletInOrder, OutletState, outlet_dues, rows_of_held, rows_sent}
 
--- how it spreads its rows, its outlets, the rows that wait to be spread, and whether it was told that no page comes any more
+-- how it spreads its rows, its outlets, the rows that wait to be spread, and whether it was told to finish
 pub record TargetState : Type 0 where
   pub kind : PutKind
   pub outlets : List OutletState
@@ -69,7 +69,7 @@ pub record Wants (t : TargetState) : Type 0 where
 abbrev pub AreThrough : TargetState → Type 0
 AreThrough t = All (IsThrough (may_end t)) t.outlets
 
--- it was told that no page comes any more, no rows wait, it holds no page, and put every End
+-- it was told to finish, no rows wait, it holds no page, and put every End
 pub record IsFinished (t : TargetState) : Type 0 where
   pub told : t.is_told ≡ true
   pub none : t.waiting ≡ None

@@ -7,7 +7,7 @@
 //!
 //! - What each edge of a target was given is what it has of the rows that came, in their order: all of them, or those
 //!   of its bucket; of rows that are spread by buckets the last may still wait for more (`HasSent`). No End goes before
-//!   the last page of its edge, none before the target was told, and no page without rows goes to an edge
+//!   the last page of its edge, none before the target was told to finish, and no page without rows goes to an edge
 //!   (`KeepsTarget`, `KeepsDeal`)
 //! - Where `advance` names a bell, it is that of an edge at which this call found no room, or no piece, and the count is
 //!   the one that the look at the edge was handed, so it was read before. Nothing is lost then: the edge's page, or its

@@ -95,8 +95,8 @@ impl<'w> PutTarget<'w> {
         })
     }
 
-    /// It has the outlets of its kind, and rows wait only where they may. No End is put before it was told to finish, none while rows wait, none before a
-    /// page that is held for its edge, and no page without rows.
+    /// It has the outlets of its kind, and rows wait only where they may. No End is put before it was told to finish,
+    /// none while rows wait, none before a page that is held for its edge, and no page without rows.
     pub fn keeps(&self)
         ensures { KeepsTarget self.now }
     {

@@ -25,8 +25,12 @@ use Rattle.driver_turns.specs.declared.turns.Turned.{Turned}
 use Rattle.driver_loop.specs.declared.stage.Stage.{Stage}
 use Rattle.driver_loop.specs.contracts.stage.StageOperator.TheImpl.{ghosts}
 use Rattle.driver_loop.specs.Faults.{run_fault}
-use Rattle.driver_loop.specs.Ends.{rows_taken, has_ended, is_told, source_misses, was_given}
+use Rattle.driver_loop.specs.declared.notes.NoteLists.{NoteLists}
+use Rattle.driver_loop.specs.declared.target.Target.{Target}
+use Rattle.driver_loop.specs.Ends.{rows_taken, has_ended, is_told, source_misses, target_made_or_lost, was_given}
 use Rattle.driver_loop.specs.Drivers.{DriverState, IsWhole, IsDriver, IsOver, HasFailed, HasWorked, CanGoOn, WorkedFrom}
+use Rattle.driver_loop.specs.Turns.{HaveRoomFor, filters_of}
+use Rattle.driver_loop.proofs.TargetLemmas.{filters_stay}
 
 pub whole : (fault : Option RunFault) → fault ≡ None → IsWhole fault
 whole fault e = subst IsWhole (sym e) tt
@@ -66,7 +70,7 @@ not_none fault fails none node kind some = absurd (let clash : None ≡ Some (Ex
 pub going_on : (is_finished : Bool) (over : Type 0) → is_finished ≡ false → is_finished ≡ true → over
 going_on is_finished over going ended = absurd (let clash : false ≡ true = sym going ∙ ended in cc)
 
--- a fault that is told as one of an expression is that
+-- a fault that is reported as one of an expression is that
 pub expr_fault : (fault : OpFault) (told : RunFault) (node : ℕ) (kind : Fail) → told ≡ run_fault fault → Some told ≡ Some (ExprFailed node kind)
     → ◌≡◌ {A = Result Turned OpFault} (Err fault) (Err (Expr node kind))
 expr_fault (Expr at why) told node kind is same =
@@ -145,9 +149,12 @@ driver_turned d e units kept whole went told work over failed = after (whole_or_
     after (inl w) = turned_to d e units kept whole over failed (went w kept.rows (kept.given whole)) (told w (kept.goes.told whole)) work
     after (inr lost) = turned_in_vain d e units kept whole over failed lost
 
--- there is room for as many stages
-pub room_stays : (old new : List Stage) (room : ℕ) → AllLater ghosts old new → length old < room → length new < room
-room_stays old new room later h = omega (arith, h, each-length (λ s t. IsLater ghosts s t) old new later)
+-- there is room for as many stages, and filters of the target
+pub room_stays : (old new : List Stage) (t u : Target) (lists : NoteLists) → AllLater ghosts old new → target_made_or_lost u ≡ target_made_or_lost t
+    → HaveRoomFor (length old) (length (filters_of t)) lists → HaveRoomFor (length new) (length (filters_of u)) lists
+room_stays old new t u lists later made h =
+    let stages : length old ≡ length new = each-length (λ s t. IsLater ghosts s t) old new later in
+    subst (λ n. HaveRoomFor n (length (filters_of u)) lists) stages (subst (λ m. HaveRoomFor (length old) m lists) (sym (filters_stay t u made)) h)
 
 -- a fault of a turn that is no want of memory
 pub not_memory : (A : Type 0) (fault : OpFault) → IsWhole (Some (run_fault fault)) → NotMemory {A = A} (Err fault)

@@ -1,3 +1,6 @@
+pub mod BuildFilterLemmas
+pub mod BuildLemmas
+pub mod NoteLemmas
 pub mod TargetLemmas
 pub mod RowsLemmas
 pub mod DriverLemmas

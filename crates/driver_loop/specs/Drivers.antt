@@ -1,5 +1,5 @@
 -- A driver as it is seen, and what it keeps over its turns.
-use Rattle.std.specs.Prelude.{◌≡◌, ◌+◌, ◌<◌, ◌≤◌, ℕ, List, Bool, true, false, Option, Some, None, map, min}
+use Rattle.std.specs.Prelude.{◌≡◌, ◌+◌, ◌<◌, ◌≤◌, ℕ, List, All, Bool, true, false, Option, Some, None, map, min}
 use Rattle.sql_values.specs.declared.fail.Fail.{Fail}
 use Rattle.count_laws.specs.Counts.{most_count}
 use Rattle.operator_core.specs.Rows.{Row, Coming}
@@ -16,6 +16,7 @@ use Rattle.driver_loop.specs.declared.stage.Stage.{Stage}
 use Rattle.driver_loop.specs.declared.target.Target.{Target}
 use Rattle.driver_loop.specs.declared.target.Target.TheVariants.{Result, Build, Put, Deal}
 use Rattle.driver_loop.specs.contracts.stage.StageOperator.TheImpl.{ghosts}
+use Rattle.driver_loop.specs.BuildFilters.{IsFilterOf, IsPublishedPart}
 use Rattle.driver_loop.specs.Sources.{Source}
 use Rattle.driver_loop.specs.Ends.{rows_taken, has_ended, is_told, source_dues, source_misses, target_dues, target_finished, was_given}
 
@@ -73,7 +74,8 @@ pub record IsOver (d : DriverState) : Type 0 where
   pub over : IsOverTo d rows
 
 -- A build has its rows: once they were published its note knows them, and before that nothing, unless its cell held
--- another source. Edges have all rows, and their Ends.
+-- another source. So it is of the domains of its filters, which are those of its rows, and are published before these.
+-- Edges have all rows, and their Ends.
 abbrev pub IsBuiltAs : Bool → Target → Type 0
 IsBuiltAs is_finished (Result result) = Unit {0}
 IsBuiltAs is_finished (Build build) =
@@ -81,6 +83,8 @@ IsBuiltAs is_finished (Build build) =
     × (build.is_published ≡ is_finished)
     × ((x : IndexedRows) → build.note.known ≡ Some x → build.note.refused ≡ 0 → (is_finished ≡ true) × (x ≡ build.source))
     × (is_finished ≡ true → build.note.known ≡ Some build.source)
+    × All (IsFilterOf build.source.rows build.is_told) build.filters
+    × (is_finished ≡ true → All IsPublishedPart build.filters)
 IsBuiltAs is_finished (Put put) = (target_finished (Put put) ≡ is_finished) × (is_finished ≡ true → IsFinished put)
 IsBuiltAs is_finished (Deal deal) = (target_finished (Deal deal) ≡ is_finished) × (is_finished ≡ true → IsDealt deal)
 

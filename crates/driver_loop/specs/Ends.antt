@@ -40,7 +40,7 @@ source_made (Local local) = Local (local_as_made local)
 source_made (Remote remote) = Remote (remote_as_made remote)
 source_made (Fetch fetch) = Fetch (fetch_as_made fetch)
 
--- what it tells of its looks: a scan, and rows of its own, never wait
+-- what is known of its looks: a scan, and rows of its own, never wait
 abbrev pub source_looks : Source → Looks
 source_looks (Scan scan) = no_looks
 source_looks (Rows rows) = no_looks
@@ -133,7 +133,7 @@ target_wants (Build build) = not build.is_told
 target_wants (Put put) = put_wants put
 target_wants (Deal deal) = deal_wants deal
 
--- it was told that no page comes any more
+-- it was told to finish
 abbrev pub is_told : Target → Bool
 is_told (Result result) = result.is_told
 is_told (Build build) = build.is_told
@@ -161,7 +161,7 @@ target_made_or_lost (Build build) = Build (build_made_or_lost build)
 target_made_or_lost (Put put) = Put (put_as_made put)
 target_made_or_lost (Deal deal) = Deal (deal_as_made deal)
 
--- what it tells of its looks: a result never waits
+-- what is known of its looks: a result never waits
 abbrev pub target_looks : Target → Looks
 target_looks (Result result) = no_looks
 target_looks (Build build) = build_looks build

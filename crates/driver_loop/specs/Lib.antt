@@ -2,6 +2,8 @@ pub mod RowsSources
 pub mod Sources
 pub mod InSource
 pub mod InRowsSource
+pub mod BuildFilters
+pub mod InBuildFilter
 pub mod Builds
 pub mod InBuild
 pub mod Ends

@@ -8,6 +8,7 @@ use Rattle.aggregation.specs.declared.single.SingleAgg.{SingleAgg as SingleState
 use Rattle.aggregation.specs.declared.partial.PartialAgg.{PartialAgg as PartialState}
 use Rattle.aggregation.specs.Finals.{FinalState}
 use Rattle.hash_join.specs.Probing.{ProbeState}
+use Rattle.dyn_filter.specs.Filters.{FilterState as DynamicState}
 use Rattle.row_ops.specs.contracts.filter_project.FilterProjectOperator.TheImpl.{ghosts as filter}
 use Rattle.row_ops.specs.contracts.limit.LimitOpOperator.TheImpl.{ghosts as limit}
 use Rattle.topn_sort.specs.contracts.sort.SortOpOperator.TheImpl.{ghosts as sort}
@@ -16,11 +17,13 @@ use Rattle.aggregation.specs.contracts.single.SingleAggOperator.TheImpl.{ghosts 
 use Rattle.aggregation.specs.contracts.partial.PartialAggOperator.TheImpl.{ghosts as partial}
 use Rattle.aggregation.specs.contracts.final_agg.FinalAggOperator.TheImpl.{ghosts as final}
 use Rattle.hash_join.specs.contracts.probe.ProbeOpOperator.TheImpl.{ghosts as probe}
+use Rattle.dyn_filter.specs.contracts.filter.FilterOpOperator.TheImpl.{ghosts as dynamic}
 use Rattle.driver_loop.specs.declared.stage.Stage.{Stage}
-use Rattle.driver_loop.specs.declared.stage.Stage.TheVariants.{Filter, Limit, Sort, TopN, Single, Partial, Final, Probe}
+use Rattle.driver_loop.specs.declared.stage.Stage.TheVariants.{Filter, Limit, Sort, TopN, Single, Partial, Final, Probe, Dynamic}
 use Rattle.driver_loop.specs.OperatorLaws.{LearnsAs}
 
--- what is read of a stage's operator; it is also told which stage has a state in the operator's place
+-- what is read of a stage's operator; who reads is also given the function that puts a state into the stage in the
+-- operator's place
 abbrev pub of_operator {ℓ} : {R : Type ℓ} → ((S : Type 0) → Ghosts S → (S → Stage) → S → R) → Stage → R
 of_operator read (Filter op) = read FilterState filter Filter op
 of_operator read (Limit op types) = read LimitState limit (λ s. Limit s types) op
@@ -30,6 +33,7 @@ of_operator read (Single op) = read SingleState single Single op
 of_operator read (Partial op) = read PartialState partial Partial op
 of_operator read (Final op) = read FinalState final Final op
 of_operator read (Probe op types) = read ProbeState probe (λ s. Probe s types) op
+of_operator read (Dynamic op types) = read DynamicState dynamic (λ s. Dynamic s types) op
 
 -- a stage as its operator
 abbrev pub stage_ghosts : Ghosts Stage

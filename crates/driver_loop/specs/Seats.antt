@@ -7,7 +7,7 @@ use Rattle.driver_ends.specs.Targets.{HasSent, HavePutAll, HavePutFirst, IsFinis
 use Rattle.driver_loop.specs.declared.target.Target.{Target}
 use Rattle.driver_loop.specs.declared.target.Target.TheVariants.{Result, Build, Put, Deal}
 use Rattle.driver_loop.specs.Sources.{Source, Scan, Rows, Local, Remote, Fetch}
-use Rattle.driver_loop.specs.Builds.{KnowsOwnSource}
+use Rattle.driver_loop.specs.Builds.{KnowsOwnDomains, KnowsOwnSource}
 use Rattle.driver_loop.specs.Ends.{target_finished}
 
 -- the seat by which it takes from an edge that is its own
@@ -54,14 +54,15 @@ PutAll (Build build) puts deal = Unit {0}
 PutAll (Put put) puts deal = (rows : List Row) → HasSent put rows → HavePutAll put.kind rows puts
 PutAll (Deal own) puts deal = IfSome deal (HasDealtAll (rows_dealt own))
 
--- what a target knows of its cell, and of the edges that it is through with
+-- what a target knows of its cell and those of its filters, and of the edges that it is through with
 abbrev pub KnowsEnds : Target → Type 0
 KnowsEnds (Result result) = Unit {0}
-KnowsEnds (Build build) = KnowsOwnSource build
+KnowsEnds (Build build) = KnowsOwnSource build × KnowsOwnDomains build
 KnowsEnds (Put put) = target_finished (Put put) ≡ true → IsFinished put
 KnowsEnds (Deal deal) = target_finished (Deal deal) ≡ true → IsDealt deal
 
--- what a target over edges keeps wherever it stands: no End before it was told, nor before a page that it holds
+-- what a target over edges keeps wherever it stands: no End before it was told to finish, nor before a page
+-- that it holds
 abbrev pub KeepsEnds : Target → Type 0
 KeepsEnds (Result result) = Unit {0}
 KeepsEnds (Build build) = Unit {0}

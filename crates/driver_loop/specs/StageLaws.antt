@@ -8,6 +8,7 @@ use Rattle.aggregation.specs.contracts.single.SingleAggOperator.TheImpl.{ghosts 
 use Rattle.aggregation.specs.contracts.partial.PartialAggOperator.TheImpl.{ghosts as partial}
 use Rattle.aggregation.specs.contracts.final_agg.FinalAggOperator.TheImpl.{ghosts as final}
 use Rattle.hash_join.specs.contracts.probe.ProbeOpOperator.TheImpl.{ghosts as probe}
+use Rattle.dyn_filter.specs.contracts.filter.FilterOpOperator.TheImpl.{ghosts as dynamic}
 use Rattle.row_ops.specs.contracts.filter_project.FilterProjectOperator.TheImpl.Laws as filter_laws
 use Rattle.row_ops.specs.contracts.limit.LimitOpOperator.TheImpl.Laws as limit_laws
 use Rattle.topn_sort.specs.contracts.sort.SortOpOperator.TheImpl.Laws as sort_laws
@@ -16,8 +17,9 @@ use Rattle.aggregation.specs.contracts.single.SingleAggOperator.TheImpl.Laws as 
 use Rattle.aggregation.specs.contracts.partial.PartialAggOperator.TheImpl.Laws as partial_laws
 use Rattle.aggregation.specs.contracts.final_agg.FinalAggOperator.TheImpl.Laws as final_laws
 use Rattle.hash_join.specs.contracts.probe.ProbeOpOperator.TheImpl.Laws as probe_laws
+use Rattle.dyn_filter.specs.contracts.filter.FilterOpOperator.TheImpl.Laws as dynamic_laws
 use Rattle.driver_loop.specs.declared.stage.Stage.{Stage}
-use Rattle.driver_loop.specs.declared.stage.Stage.TheVariants.{Filter, Limit, Sort, TopN, Single, Partial, Final, Probe}
+use Rattle.driver_loop.specs.declared.stage.Stage.TheVariants.{Filter, Limit, Sort, TopN, Single, Partial, Final, Probe, Dynamic}
 use Rattle.driver_loop.specs.Operators.{stage_ghosts}
 use Rattle.driver_loop.specs.OperatorLaws.{LawsNow, LearnLaws, laws_now, learn_laws, now}
 
@@ -30,6 +32,7 @@ laws_of (Single op) = laws_now single single_laws.lawful op
 laws_of (Partial op) = laws_now partial partial_laws.lawful op
 laws_of (Final op) = laws_now final final_laws.lawful op
 laws_of (Probe op types) = laws_now probe probe_laws.lawful op
+laws_of (Dynamic op types) = laws_now dynamic dynamic_laws.lawful op
 
 -- and of what it may learn
 abbrev pub LearnsOf : Stage → Type 0
@@ -45,3 +48,4 @@ learns_of (Single op) = learn_laws stage_ghosts single single_laws.lawful Single
 learns_of (Partial op) = learn_laws stage_ghosts partial partial_laws.lawful Partial (λ s. refl) (λ s. refl) op
 learns_of (Final op) = learn_laws stage_ghosts final final_laws.lawful Final (λ s. refl) (λ s. refl) op
 learns_of (Probe op types) = learn_laws stage_ghosts probe probe_laws.lawful (λ s. Probe s types) (λ s. refl) (λ s. refl) op
+learns_of (Dynamic op types) = learn_laws stage_ghosts dynamic dynamic_laws.lawful (λ s. Dynamic s types) (λ s. refl) (λ s. refl) op

@@ -1,18 +1,22 @@
 -- What a turn of a driver answers, and what a driver hands back.
-use Rattle.std.specs.Prelude.{◌≡◌, ℕ, List, [], ◌∷◌, ◌++◌, true, false, Some, None, flat_map}
+use Rattle.std.specs.Prelude.{◌≡◌, ◌+◌, ◌<◌, ◌≤◌, ℕ, List, [], ◌∷◌, ◌++◌, true, false, Some, None, flat_map, map}
+use Rattle.std.specs.Vec.{vec_capacity}
 use Rattle.blocked.specs.declared.blocked_on.BlockedOn.{BlockedOn}
 use Rattle.driver_turns.specs.Turns.{IsBlocked}
 use Rattle.driver_loop.specs.declared.turn.Turn.{Turn}
 use Rattle.driver_loop.specs.declared.turn.Turn.TheVariants.{Yield, Blocked, Finished, Failed}
+use Rattle.driver_loop.specs.declared.notes.NoteLists.{NoteLists}
 use Rattle.driver_loop.specs.declared.pieces.CellNote.{CellNote}
+use Rattle.driver_loop.specs.declared.pieces.FilterCellNote.{FilterCellNote}
 use Rattle.driver_loop.specs.declared.pieces.Pieces.{Pieces}
 use Rattle.driver_loop.specs.declared.stage.Stage.{Stage}
-use Rattle.driver_loop.specs.declared.stage.Stage.TheVariants.{Filter, Limit, Sort, TopN, Single, Partial, Final, Probe}
+use Rattle.driver_loop.specs.declared.stage.Stage.TheVariants.{Filter, Limit, Sort, TopN, Single, Partial, Final, Probe, Dynamic}
 use Rattle.driver_loop.specs.declared.target.Target.{Target}
 use Rattle.driver_loop.specs.declared.target.Target.TheVariants.{Result, Build, Put, Deal}
 use Rattle.driver_loop.specs.contracts.stage.StageOperator.TheImpl.{ghosts}
 use Rattle.driver_loop.specs.Ends.{claim_of, is_told, rows_handed, source_looks, target_looks}
 use Rattle.driver_loop.specs.Seats.{PutFirst, deal_of, gather_take_of, puts_of, spread_take_of}
+use Rattle.driver_loop.specs.BuildFilters.{BuildFilterState}
 use Rattle.driver_loop.specs.Drivers.{DriverState}
 
 -- a driver that goes on, is finished, or keeps its fault, as the turn answered
@@ -22,7 +26,7 @@ IsLeftBy (Blocked on) d = (d.is_finished ≡ false) × (d.fault ≡ None)
 IsLeftBy Finished d = (d.is_finished ≡ true) × (d.fault ≡ None)
 IsLeftBy (Failed fault) d = (d.is_finished ≡ false) × (d.fault ≡ Some fault)
 
--- a stage waits or the source does, and the target was not told that no page comes any more; or the target waits
+-- a stage waits or the source does, and the target was not told to finish; or the target waits
 abbrev pub IsWaiting : DriverState → DriverState → (ℕ → ℕ → Type 0) → BlockedOn → Type 0
 IsWaiting d e shown on =
     IsBlocked ghosts d.stages e.stages (is_told e.target) (source_looks d.source) (source_looks e.source) (target_looks d.target) (target_looks e.target) shown on
@@ -34,7 +38,7 @@ IfBlocked (Blocked on) P = P on
 IfBlocked Finished P = Unit {0}
 IfBlocked (Failed fault) P = Unit {0}
 
--- the note of a stage that looks into a cell
+-- the note of a stage that looks into the cell of a join
 abbrev pub note_of_stage : Stage → List CellNote
 note_of_stage (Filter op) = []
 note_of_stage (Limit op types) = []
@@ -44,6 +48,7 @@ note_of_stage (Single op) = []
 note_of_stage (Partial op) = []
 note_of_stage (Final op) = []
 note_of_stage (Probe op types) = record { bell = op.bell; note = op.note } ∷ []
+note_of_stage (Dynamic op types) = []
 
 -- the note of a target that builds
 abbrev pub note_of_target : Target → List CellNote
@@ -55,6 +60,64 @@ note_of_target (Deal deal) = []
 -- the notes of its stages in their order, and then that of its target
 abbrev pub notes_of : DriverState → List CellNote
 notes_of d = flat_map note_of_stage d.stages ++ note_of_target d.target
+
+-- the note of a stage that drops rows by a dynamic filter, and how many rows it gave
+abbrev pub filter_note_of_stage : Stage → List FilterCellNote
+filter_note_of_stage (Filter op) = []
+filter_note_of_stage (Limit op types) = []
+filter_note_of_stage (Sort op) = []
+filter_note_of_stage (TopN op) = []
+filter_note_of_stage (Single op) = []
+filter_note_of_stage (Partial op) = []
+filter_note_of_stage (Final op) = []
+filter_note_of_stage (Probe op types) = []
+filter_note_of_stage (Dynamic op types) = record { bell = op.bell; note = op.note } ∷ []
+
+abbrev pub passed_of_stage : Stage → List ℕ
+passed_of_stage (Filter op) = []
+passed_of_stage (Limit op types) = []
+passed_of_stage (Sort op) = []
+passed_of_stage (TopN op) = []
+passed_of_stage (Single op) = []
+passed_of_stage (Partial op) = []
+passed_of_stage (Final op) = []
+passed_of_stage (Probe op types) = []
+passed_of_stage (Dynamic op types) = op.passed ∷ []
+
+-- the filters of a target that builds, and the note of each
+abbrev pub filters_of : Target → List BuildFilterState
+filters_of (Result result) = []
+filters_of (Build build) = build.filters
+filters_of (Put put) = []
+filters_of (Deal deal) = []
+
+abbrev pub note_of_build_filter : BuildFilterState → FilterCellNote
+note_of_build_filter f = record { bell = f.bell; note = f.note }
+
+-- the notes of dynamic filters: those of its stages in their order, and then those of its target
+abbrev pub filter_notes_of : DriverState → List FilterCellNote
+filter_notes_of d = flat_map filter_note_of_stage d.stages ++ map note_of_build_filter (filters_of d.target)
+
+-- how many rows each of its dynamic filters gave, in their order
+abbrev pub passed_of : DriverState → List ℕ
+passed_of d = flat_map passed_of_stage d.stages
+
+-- no note and no count was put yet
+pub record AreEmpty (lists : NoteLists) : Type 0 where
+  pub lookups : lists.lookups.items ≡ []
+  pub filters : lists.filters.items ≡ []
+  pub passed : lists.passed.items ≡ []
+
+-- there is room for what so many stages have, and for so many filters of a target and one more note of it
+pub record HaveRoomFor (stages own : ℕ) (lists : NoteLists) : Type 0 where
+  pub lookups : stages < vec_capacity lists.lookups
+  pub filters : stages + own ≤ vec_capacity lists.filters
+  pub passed : stages ≤ vec_capacity lists.passed
+
+pub record HaveSameRoom (old new : NoteLists) : Type 0 where
+  pub lookups : vec_capacity new.lookups ≡ vec_capacity old.lookups
+  pub filters : vec_capacity new.filters ≡ vec_capacity old.filters
+  pub passed : vec_capacity new.passed ≡ vec_capacity old.passed
 
 -- its number, the seats of its source and of its target, and the rows of its target
 pub record ArePiecesOf (d : DriverState) (p : Pieces) : Type 0 where

@@ -1,6 +1,5 @@
 //! A driver: one source, stages in order, one target.
 ghost use Rattle.std.specs.Prelude.{◌≡◌, ◌+◌, ◌<◌, ◌≤◌, ℕ, [], true, false, IfOk, Some, None, length, map, min};
-ghost use Rattle.std.specs.Vec.{vec_capacity};
 ghost use Rattle.sql_values.specs.declared.fail.Fail.{Fail as Kind};
 ghost use Rattle.count_laws.specs.Counts.{most_count};
 ghost use Rattle.col_pages.specs.Pages.{most_rows};
@@ -11,10 +10,10 @@ ghost use Rattle.driver_loop.specs.Ends.{is_build, is_told, rows_taken, has_ende
 ghost use Rattle.driver_turns.specs.Turns.{RangDues};
 ghost use Rattle.driver_loop.specs.Drivers.{IsDriver, IsOver, HasFailed, HasWorked, CanGoOn, IsBuilt, IsBuiltAs, IsWhole, driver_dues};
 ghost use Rattle.driver_loop.specs.Seats.{KeepsEnds, PutAll};
-ghost use Rattle.driver_loop.specs.Turns.{IsLeftBy, IsWaiting, IfBlocked, ArePiecesOf, notes_of};
+ghost use Rattle.driver_loop.specs.Turns.{IsLeftBy, IsWaiting, IfBlocked, ArePiecesOf, filter_notes_of, notes_of, passed_of};
 
-use crate::notes::put_notes;
-use crate::pieces::{CellNote, Pieces};
+use crate::notes::{NoteLists, put_notes, room_for_notes};
+use crate::pieces::Pieces;
 use crate::run_fault::RunFault;
 use crate::source::{Source, SourceSeats};
 use crate::stage::Stage;
@@ -43,7 +42,7 @@ pub struct Driver<'w, C: Courier> {
     work: u64,
     is_finished: bool,
     fault: Option<RunFault>,
-    lookups: Vec<CellNote>,
+    lists: NoteLists,
     alloc: Global,
 }
 
@@ -65,7 +64,7 @@ impl<'w, C: Courier> Model for Driver<'w, C> {
 }
 
 impl<'w, C: Courier> Driver<'w, C> {
-    /// A driver of parts as they were made. Takes the memory for the list of notes of its `Pieces`.
+    /// A driver of parts as they were made. Takes the memory for the lists of notes and counts of its `Pieces`.
     pub fn new(
         alloc: Global,
         number: u32,
@@ -87,8 +86,8 @@ impl<'w, C: Courier> Driver<'w, C> {
         }) }
     {
         laws::laws::<Stage<'w>>(PhantomData);
-        match room_for_notes(alloc, &stages) {
-            Ok(lookups) => Ok(Driver {
+        match room_for_notes(alloc, &stages, target.filters()) {
+            Ok(lists) => Ok(Driver {
                 number,
                 source,
                 stages,
@@ -96,7 +95,7 @@ impl<'w, C: Courier> Driver<'w, C> {
                 work: 0,
                 is_finished: false,
                 fault: None,
-                lookups,
+                lists,
                 alloc,
             }),
             // Each is let go by a call: to drop three such values in place takes long to prove.
@@ -163,8 +162,8 @@ impl<'w, C: Courier> Driver<'w, C> {
 
     /// Moves rows until its target is finished, `quantum` units were counted, or nothing
     /// moves and a stage, the source or the target waits. The future of one who waits has then registered with the context.
-    /// Where the last stage is finished, the target is told, and ends: a build is published, and the bell of its
-    /// cell is rung.
+    /// Where the last stage is finished, the target is told to finish, and ends: a build is published, and the bell
+    /// of its cell is rung.
     pub fn turn<R: Threads + Wait + Sync, B: Bells>(
         &mut self,
         rt: &R,
@@ -225,6 +224,8 @@ impl<'w, C: Courier> Driver<'w, C> {
         requires { self.is_finished ≡ true }
         ensures pieces { ArePiecesOf self.entry result }
         ensures lookups { IsWhole self.entry.fault → result.lookups.items ≡ notes_of self.entry }
+        ensures filters { IsWhole self.entry.fault → result.filters.items ≡ filter_notes_of self.entry }
+        ensures passed { IsWhole self.entry.fault → result.passed.items ≡ passed_of self.entry }
         ensures built { IsBuilt self.entry }
         ensures all { PutAll self.entry.target result.puts.items result.deal }
         ensures over { IsOver self.entry }
@@ -238,6 +239,8 @@ impl<'w, C: Courier> Driver<'w, C> {
     pub fn stop(self) -> Pieces<'w>
         ensures pieces { ArePiecesOf self.entry result }
         ensures lookups { IsWhole self.entry.fault → result.lookups.items ≡ notes_of self.entry }
+        ensures filters { IsWhole self.entry.fault → result.filters.items ≡ filter_notes_of self.entry }
+        ensures passed { IsWhole self.entry.fault → result.passed.items ≡ passed_of self.entry }
         ensures built { IsWhole self.entry.fault → IsBuilt self.entry }
         ensures kept { IsDriver self.entry }
     {
@@ -248,6 +251,8 @@ impl<'w, C: Courier> Driver<'w, C> {
     fn take_apart(self) -> Pieces<'w>
         ensures pieces { ArePiecesOf self.entry result }
         ensures lookups { IsWhole self.entry.fault → result.lookups.items ≡ notes_of self.entry }
+        ensures filters { IsWhole self.entry.fault → result.filters.items ≡ filter_notes_of self.entry }
+        ensures passed { IsWhole self.entry.fault → result.passed.items ≡ passed_of self.entry }
         ensures all { IsBuiltAs true self.entry.target
             → PutAll self.entry.target result.puts.items result.deal }
     {
@@ -256,12 +261,17 @@ impl<'w, C: Courier> Driver<'w, C> {
             source,
             stages,
             target,
-            mut lookups,
+            mut lists,
             alloc,
             ..
         } = self;
-        put_notes(&mut lookups, stages);
-        let TargetParts { rows, puts, deal } = target.into_parts(alloc, &mut lookups);
+        put_notes(&mut lists, stages);
+        let TargetParts { rows, puts, deal } = target.into_parts(alloc, &mut lists);
+        let NoteLists {
+            lookups,
+            filters,
+            passed,
+        } = lists;
         let SourceSeats {
             claim,
             gather_take,
@@ -276,16 +286,10 @@ impl<'w, C: Courier> Driver<'w, C> {
             deal,
             rows,
             lookups,
+            filters,
+            passed,
         }
     }
-}
-
-/// An empty list with room for a note of each stage and one of the target.
-fn room_for_notes(alloc: Global, stages: &[Stage<'_>]) -> Result<Vec<CellNote>, Memory>
-    ensures { IfOk result (λ notes. (notes.items ≡ []) × (length stages.now < vec_capacity notes)) }
-{
-    let notes = Vec::with_capacity(alloc, stages.len() + 1)?;
-    Ok(notes)
 }
 
 /// The work after a turn, also after one that failed.

@@ -17,23 +17,24 @@
 //!   whatever the notes of its stages come to know
 //! - `IsBuilt`: where its target builds the right side of a join, that was published where the driver is
 //!   finished, and only there: the target's note knows the rows that it was given, and nothing before, unless its cell
-//!   held another source. Where it puts to edges, these have every row and their Ends where the driver is finished, and
-//!   only there
+//!   held another source; so it is of the domains of its filters. Where it puts to edges, these have every row and their
+//!   Ends where the driver is finished, and only there
 //!
 //! A turn yields only once it counted its quantum of units, and counts fewer than that and the most rows of a
 //! page. It is blocked only where a stage, the source or the target looked in this turn, in vain (`IsWaiting`); the
 //! future that it hands out has registered with the turn's context. Each bell is rung as much more often, of the
-//! bells that the turn was given, as more was taken and put. After want of memory nothing is said but that it failed so.
+//! bells that the turn was given, as more was taken and put. After want of memory nothing is said but
+//! that memory was wanting.
 //!
-//! The turn in which the last stage is finished also tells the target. A build is frozen and published in its
-//! cell, and the cell's bell is rung; where the cell has another source, it waits there. Edges get an End behind their
-//! pages, as each has room.
+//! The turn in which the last stage is finished also closes the target. A build is frozen and published in its
+//! cell, behind the domains of its filters in theirs, and the bell of each cell is rung; where a cell has another source or
+//! domain, it waits there. Edges get an End behind their pages, as each has room.
 //!
 //! A driver hands back the seats of its source and target: what a seat put is what it has of the first of the rows that
 //! the target was given, and of a finished driver all of them (`specs/Seats.antt`). It hands back the notes of all cells
 //! that it looked into or published in. What notes of one cell know is the same (`SetNote::agree` of `set_once`), so that
-//! what one driver published is what others probed. The list of these notes has its memory from the start, so that a driver
-//! can always be taken apart.
+//! what one driver published is what others probed. Beside them it hands back how many rows passed each of its dynamic
+//! filters. These lists have their memory from the start, so that a driver can always be taken apart.
 //!
 //! - `source`: `Source`, where pages come from. A scan of claimed splits, rows of the plan (`rows_source`), or an edge, at
 //!   once or through a fetch. It is seen without its courier (`specs/Sources.antt`)
@@ -43,13 +44,16 @@
 //! - `target`: `Target`, where pages go to. The rows of a result (`ResultTarget`) are kept as the pages in which
 //!   they came; others go to edges
 //! - `build`: `BuildTarget`, which keeps them as the source of a join (`specs/Builds.antt`)
+//! - `build_filter`: `BuildFilter`, which keeps the domain of a column of them for a dynamic filter of the join
+//!   (`specs/BuildFilters.antt`)
 //! - `step`: a turn of these parts
 //! - `driver`: `Driver`. `turn`: what a turn answers. `pieces`: what a driver hands back. `notes`: how the
-//!   notes of its stages come into one list
+//!   notes and counts of its stages come into lists
 //! - `run_fault`: `RunFault`, why a run gave up
 #![tactic(auto)]
 
 mod build;
+mod build_filter;
 mod driver;
 mod notes;
 mod pieces;
@@ -62,8 +66,9 @@ mod target;
 mod turn;
 
 pub use build::BuildTarget;
+pub use build_filter::BuildFilter;
 pub use driver::Driver;
-pub use pieces::{CellNote, Pieces};
+pub use pieces::{CellNote, FilterCellNote, Pieces};
 pub use rows_source::RowsSource;
 pub use run_fault::RunFault;
 pub use source::Source;

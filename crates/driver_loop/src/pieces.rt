@@ -1,3 +1,4 @@
+use dyn_filter::FilterNote;
 use hash_join::LookupNote;
 use operator_core::HeldPages;
 use output_buffer::{GatherPut, GatherTake, SpreadPut, SpreadTake};
@@ -21,6 +22,10 @@ pub struct Pieces<'w> {
     pub rows: HeldPages,
     /// The notes of its stages in their order, and then that of its target.
     pub lookups: Vec<CellNote>,
+    /// The notes of dynamic filters: those of its stages in their order, and then those of its target.
+    pub filters: Vec<FilterCellNote>,
+    /// How many rows each of its dynamic filters gave, in their order.
+    pub passed: Vec<u64>,
 }
 
 /// What was learned of a cell, and the number of the cell's bell.
@@ -28,4 +33,11 @@ pub struct Pieces<'w> {
 pub struct CellNote {
     pub bell: u32,
     pub note: LookupNote,
+}
+
+/// What was learned of a dynamic filter's cell, and the number of the cell's bell.
+#[derive(Drop)]
+pub struct FilterCellNote {
+    pub bell: u32,
+    pub note: FilterNote,
 }

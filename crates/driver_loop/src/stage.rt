@@ -7,6 +7,7 @@ ghost use Rattle.aggregation.specs.Layouts.{is_layout_row};
 use aggregation::{FinalAgg, PartialAgg, SingleAgg};
 use blocked::{Bells, BlockedOn};
 use col_pages::Page;
+use dyn_filter::FilterOp;
 use hash_join::ProbeOp;
 use operator_core::{OpFault, Operator};
 use plan_trees::are_same;
@@ -29,6 +30,8 @@ pub enum Stage<'w> {
     Partial(PartialAgg),
     Final(FinalAgg),
     Probe(ProbeOp<'w>, Types),
+    /// Drops rows without a partner in a join above.
+    Dynamic(FilterOp<'w>, Types),
 }
 
 impl<'w> Operator for Stage<'w> {
@@ -80,6 +83,7 @@ impl<'w> Operator for Stage<'w> {
             Stage::Partial(op) => op.needs_input(),
             Stage::Final(op) => op.needs_input(),
             Stage::Probe(op, _) => op.needs_input(),
+            Stage::Dynamic(op, _) => op.needs_input(),
         }
     }
 
@@ -93,6 +97,7 @@ impl<'w> Operator for Stage<'w> {
             Stage::Partial(op) => op.add_input(page),
             Stage::Final(op) => op.add_input(page),
             Stage::Probe(op, _) => op.add_input(page),
+            Stage::Dynamic(op, _) => op.add_input(page),
         }
     }
 
@@ -106,6 +111,7 @@ impl<'w> Operator for Stage<'w> {
             Stage::Partial(op) => op.get_output(),
             Stage::Final(op) => op.get_output(),
             Stage::Probe(op, _) => op.get_output(),
+            Stage::Dynamic(op, _) => op.get_output(),
         }
     }
 
@@ -119,6 +125,7 @@ impl<'w> Operator for Stage<'w> {
             Stage::Partial(op) => op.finish(),
             Stage::Final(op) => op.finish(),
             Stage::Probe(op, _) => op.finish(),
+            Stage::Dynamic(op, _) => op.finish(),
         }
     }
 
@@ -132,6 +139,7 @@ impl<'w> Operator for Stage<'w> {
             Stage::Partial(op) => op.is_finished(),
             Stage::Final(op) => op.is_finished(),
             Stage::Probe(op, _) => op.is_finished(),
+            Stage::Dynamic(op, _) => op.is_finished(),
         }
     }
 
@@ -149,6 +157,7 @@ impl<'w> Operator for Stage<'w> {
             Stage::Partial(op) => op.blocked(rt, bells),
             Stage::Final(op) => op.blocked(rt, bells),
             Stage::Probe(op, _) => op.blocked(rt, bells),
+            Stage::Dynamic(op, _) => op.blocked(rt, bells),
         }
     }
 
@@ -193,6 +202,7 @@ impl<'w> TypedOperator for Stage<'w> {
             Stage::Partial(op) => are_same(page.types(), op.types()),
             Stage::Final(op) => is_of_layout(op, page),
             Stage::Probe(_, types) => are_same(page.types(), types.as_slice()),
+            Stage::Dynamic(_, types) => are_same(page.types(), types.as_slice()),
         }
     }
 }

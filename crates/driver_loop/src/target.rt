@@ -1,14 +1,14 @@
 //! Where the pages of a driver go to, one variant each.
-ghost use Rattle.std.specs.Prelude.{◌≡◌, [], true, false, None, ◌<◌, ◌++◌, length, OnOk};
+ghost use Rattle.std.specs.Prelude.{◌≡◌, ◌+◌, ◌≤◌, [], true, false, None, ◌<◌, ◌++◌, ◌∷◌, length, map, OnOk};
 ghost use Rattle.std.specs.Vec.{vec_capacity};
 ghost use Rattle.driver_loop.specs.Drivers.{IsBuiltAs};
 ghost use Rattle.driver_loop.specs.Ends.{is_build, rows_handed};
 ghost use Rattle.driver_loop.specs.Seats.{KeepsEnds, KnowsEnds, PutAll, PutFirst, deal_of, puts_of};
-ghost use Rattle.driver_loop.specs.Turns.{note_of_target};
+ghost use Rattle.driver_loop.specs.Turns.{filters_of, note_of_build_filter, note_of_target};
 
 use crate::build::BuildTarget;
-use crate::notes::put_note;
-use crate::pieces::CellNote;
+use crate::build_filter::BuildFilter;
+use crate::notes::{NoteLists, put_filter_notes, put_within};
 use blocked::{Bells, BlockedOn};
 use col_pages::Page;
 use driver_ends::{DealTarget, PutTarget};
@@ -192,21 +192,34 @@ impl<'w> Target<'w> {
         }
     }
 
-    /// Hands over the rows of a result and the seats of edges, and puts the note of a build behind others, where there
+    /// The filters of a build.
+    pub(crate) fn filters(&self) -> &[BuildFilter<'w>]
+        ensures { result.now ≡ filters_of self.now }
+    {
+        match self {
+            Target::Build(build) => build.filters(),
+            Target::Result(_) | Target::Put(_) | Target::Deal(_) => &[],
+        }
+    }
+
+    /// Hands over the rows of a result and the seats of edges, and puts the notes of a build behind others, where there
     /// is room.
-    pub(crate) fn into_parts(self, alloc: Global, notes: &mut Vec<CellNote>) -> TargetParts<'w>
+    pub(crate) fn into_parts(self, alloc: Global, lists: &mut NoteLists) -> TargetParts<'w>
         ensures rows { result.rows ≡ rows_handed self.entry }
         ensures puts { result.puts.items ≡ puts_of self.entry }
         ensures deal { result.deal ≡ deal_of self.entry }
         ensures first { PutFirst self.entry result.puts.items result.deal }
         ensures all { IsBuiltAs true self.entry → PutAll self.entry result.puts.items result.deal }
-        ensures notes { length notes.old.items < vec_capacity notes.old
-            → notes.new.items ≡ notes.old.items ++ note_of_target self.entry }
+        ensures lookups { length lists.old.lookups.items < vec_capacity lists.old.lookups
+            → lists.new.lookups.items ≡ lists.old.lookups.items ++ note_of_target self.entry }
+        ensures filters { length lists.old.filters.items + length (filters_of self.entry) ≤ vec_capacity lists.old.filters
+            → lists.new.filters.items ≡ lists.old.filters.items ++ map note_of_build_filter (filters_of self.entry) }
+        ensures passed { lists.new.passed.items ≡ lists.old.passed.items }
     {
         match self {
             Target::Result(result) => TargetParts::of_rows(alloc, result.rows),
             Target::Build(build) => {
-                put_note(notes, build.into_note());
+                put_build_notes(lists, build);
                 TargetParts::of_rows(alloc, HeldPages::new(alloc))
             }
             Target::Put(put) => TargetParts {
@@ -221,4 +234,17 @@ impl<'w> Target<'w> {
             },
         }
     }
+}
+
+/// Puts the notes of a build behind others, where there is room.
+fn put_build_notes(lists: &mut NoteLists, build: BuildTarget<'_>)
+    ensures lookups { length lists.old.lookups.items < vec_capacity lists.old.lookups
+        → lists.new.lookups.items ≡ lists.old.lookups.items ++ record { bell = build.entry.bell; note = build.entry.note } ∷ [] }
+    ensures filters { length lists.old.filters.items + length build.entry.filters ≤ vec_capacity lists.old.filters
+        → lists.new.filters.items ≡ lists.old.filters.items ++ map note_of_build_filter build.entry.filters }
+    ensures passed { lists.new.passed.items ≡ lists.old.passed.items }
+{
+    let (note, filters) = build.into_notes();
+    put_within(&mut lists.lookups, note);
+    put_filter_notes(&mut lists.filters, filters);
 }

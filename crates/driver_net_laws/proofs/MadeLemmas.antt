@@ -1,16 +1,16 @@
 -- Stages that were made for the nodes of a pipeline operate as these, with what their notes know.
-use Rattle.std.proofs.Common.{◌≡◌, inl, ℕ, List, [], ◌∷◌, ◌++◌, Option, Some, length, map, refl, ap, sym, subst, ◌∙◌, append-nil, append_assoc}
-use Rattle.std.specs.Prelude.{All, Contains}
+use Rattle.std.proofs.Common.{◌≡◌, inl, ℕ, List, [], ◌∷◌, ◌++◌, Bool, Option, Some, length, map, refl, ap, sym, subst, ◌∙◌, append-nil, append_assoc}
+use Rattle.std.specs.Prelude.{All}
 use Rattle.std.specs.List.{zip}
 use Rattle.std.proofs.lemmas.List.{length-map}
-use Rattle.std.proofs.lemmas.List.Elements.{All-contains_itself, All-head}
+use Rattle.std.proofs.lemmas.List.Elements.{All-head}
 use Rattle.bag_laws.proofs.TopLemmas.{All-back, All-front}
 use Rattle.sql_values.specs.declared.types.SqlType.{SqlType}
 use Rattle.sql_values.specs.declared.relational.JoinKind.{JoinKind}
 use Rattle.col_pages.specs.Fits.{AllFit}
 use Rattle.operator_core.specs.Calls.{IsLawful}
 use Rattle.operator_core.specs.Rows.{Row}
-use Rattle.operator_core.specs.Stages.{last_finished}
+use Rattle.operator_core.specs.Stages.{Linked, ToldInTurn, last_finished}
 use Rattle.join_index.specs.Keys.{IndexedRows}
 use Rattle.hash_join.specs.Probing.{ProbeState}
 use Rattle.hash_join.specs.contracts.probe.ProbeOpOperator.TheImpl.{ghosts as probe_ghosts}
@@ -26,11 +26,9 @@ use Rattle.pipe_laws.specs.Operators.{EndsIn, LooksUp, NoOperator, Operate, Prob
 use Rattle.pipe_laws.proofs.LookupLemmas.{probe_probes}
 use Rattle.pipe_laws.proofs.OperatorLemmas.{came_before, done_is, one_more, stood_at}
 use Rattle.pipe_laws.proofs.ProbeLemmas.{looks_up_rows}
-use Rattle.driver_loop.specs.Drivers.{DriverState, IsDriver, IsWhole}
-use Rattle.driver_loop.specs.Ends.{has_ended, rows_taken}
 use Rattle.driver_loop.specs.contracts.stage.StageOperator.TheImpl.{ghosts}
 use Rattle.driver_loop.specs.declared.stage.Stage.{Stage}
-use Rattle.driver_loop.specs.declared.stage.Stage.TheVariants.{Filter, Final, Limit, Partial, Probe, Single, Sort, TopN}
+use Rattle.driver_loop.specs.declared.stage.Stage.TheVariants.{Dynamic, Filter, Final, Limit, Partial, Probe, Single, Sort, TopN}
 use Rattle.pipe_laws.specs.Lanes.{HasNotes, IsHalved, IsLane, Noted}
 use Rattle.driver_net_laws.specs.Cells.{Names, cell_of}
 use Rattle.driver_net_laws.specs.Made.{AreMadeFor, Behind, KnowSources, note_known, notes_known}
@@ -50,12 +48,13 @@ probe_raw (TopN s) op types same = absurd cc
 probe_raw (Single s) op types same = absurd cc
 probe_raw (Partial s) op types same = absurd cc
 probe_raw (Final s) op types same = absurd cc
+probe_raw (Dynamic d ts) op types same = absurd cc
 probe_raw (Probe raw ts) op types same =
     let own : ts ≡ types = cc in
     let made : probe_ghosts.as_made raw ≡ op = cc in
     record { raw = raw; is = ap (λ (t : List SqlType). Probe raw t) own; made = made }
 
--- a stage that looks into no cell has no note
+-- a stage that looks into no cell of a join has no note of one
 no_note : (s : Stage) → cell_of (ghosts.as_made s) ≡ [] → note_known s ≡ []
 no_note (Filter f) apart = refl
 no_note (Limit l ts) apart = refl
@@ -65,6 +64,7 @@ no_note (Single s) apart = refl
 no_note (Partial s) apart = refl
 no_note (Final s) apart = refl
 no_note (Probe raw ts) apart = absurd cc
+no_note (Dynamic d ts) apart = refl
 
 -- the notes of the last stage come first
 notes-snoc : (before : List Stage) (last : Stage) → notes_known (before ++ last ∷ []) ≡ note_known last ++ notes_known before
@@ -203,55 +203,54 @@ module _ (names : Names) (laws : IsLawful ghosts) where
   operates (limit_parts id source output tasks count input) bells all given e IsOne know each = alone (types_of (tree_of_run input)) (at_node id (stage.limit count)) all given e
   operates (union id left right) bells all given e IsOne know each = (e, no_stage (types_of (tree_of_run left)) all given e)
 
-  pub lane : (run : RunPlan) (bells : List ℕ) (given : List SqlType) (d : DriverState) → (driver : IsDriver d) → IsWhole d.fault → AreMadeFor names run bells d.stages given
-      → KnowSources run bells (Contains d.stages) → AllFit (types_of_source run) (rows_taken d.source)
-      → IsLane ghosts run (notes_known d.stages) d.stages (rows_taken d.source) driver.rows (has_ended d.source) (last_finished ghosts (has_ended d.source) d.stages)
-  lane run bells given d driver whole made know fit =
-      let o = operates run bells d.stages given made (Contains d.stages) know (All-contains_itself d.stages) in
-      record { given = given; operate = o.0; noted = o.1; turns = driver.goes.turns whole; linked = driver.goes.links whole; fit = fit; done_is = refl }
+  -- stages of a driver as they stand: they took some rows and gave others, and each was told to finish in turn
+  module _ (run : RunPlan) (bells : List ℕ) (given : List SqlType) (stages : List Stage) (took gave : List Row) (ended : Bool) (linked : Linked ghosts stages took gave)
+      (turns : ToldInTurn ghosts ended stages) (IsOne : Stage → Type 0) (know : KnowSources run bells IsOne) (each : All IsOne stages) (fit : AllFit (types_of_source run) took) where
+    all_operate : AreMadeFor names run bells stages given → Operates run stages given
+    all_operate made = operates run bells stages given made IsOne know each
 
-  pub halved : (run : RunPlan) (half : NodeStage) (bells : List ℕ) (given : List SqlType) (d : DriverState) → (driver : IsDriver d) → IsWhole d.fault
-      → Behind (AreMadeFor names run bells) half d.stages given → KnowSources run bells (Contains d.stages) → AllFit (types_of_source run) (rows_taken d.source)
-      → IsHalved ghosts run (notes_known d.stages) half d.stages (rows_taken d.source) driver.rows (has_ended d.source) (last_finished ghosts (has_ended d.source) d.stages)
-  halved run half bells given d driver whole e know fit =
-      let b = came_before ghosts laws d.stages e.before e.last (has_ended d.source) (rows_taken d.source) driver.rows e.are (driver.goes.turns whole) (driver.goes.links whole) in
-      let o = operates run bells e.before e.between e.input (Contains d.stages) know (front (Contains d.stages) d.stages e.before e.last e.are (All-contains_itself d.stages)) in
-      let same : notes_known e.before ≡ notes_known d.stages = sym (notes_behind d.stages e.before e.last e.are e.is.apart) in
-      record {
-        before = e.before;
-        last = e.last;
-        are = e.are;
-        came = b.came;
-        told = last_finished ghosts (has_ended d.source) e.before;
-        lane = record {
-          given = e.between;
-          operate = subst (λ (ns : Noted). Operate ghosts run ns e.before e.between) same o.0;
-          noted = subst (HasNotes run) same o.1;
-          turns = b.told;
-          linked = b.linked;
-          fit = fit;
-          done_is = refl;
-        };
-        given = given;
-        means = e.is.means;
-        steps = b.steps;
-        turn = b.turn;
-        done_is = sym (done_is ghosts laws d.stages e.before e.last (has_ended d.source) e.are);
-      }
+    pub lane : AreMadeFor names run bells stages given → IsLane ghosts run (notes_known stages) stages took gave ended (last_finished ghosts ended stages)
+    lane made =
+        let o = all_operate made in
+        record { given = given; operate = o.0; noted = o.1; turns = turns; linked = linked; fit = fit; done_is = refl }
 
-  -- what such a driver gave has the types that its stages were made to give
-  pub lane_gives : (run : RunPlan) (bells : List ℕ) (given : List SqlType) (d : DriverState) → (driver : IsDriver d) → IsWhole d.fault → AreMadeFor names run bells d.stages given
-      → KnowSources run bells (Contains d.stages) → AllFit (types_of_source run) (rows_taken d.source) → AllFit given driver.rows
-  lane_gives run bells given d driver whole made know fit =
-      let o = operates run bells d.stages given made (Contains d.stages) know (All-contains_itself d.stages) in
-      (stood_at ghosts laws run (notes_known d.stages) d.stages given o.0 (has_ended d.source) (rows_taken d.source) driver.rows (driver.goes.turns whole) (driver.goes.links whole) fit).1
+    -- what they gave has the types that they were made to give
+    pub lane_gives : AreMadeFor names run bells stages given → AllFit given gave
+    lane_gives made = (stood_at ghosts laws run (notes_known stages) stages given (all_operate made).0 ended took gave turns linked fit).1
 
-  pub half_gives : (run : RunPlan) (half : NodeStage) (bells : List ℕ) (given : List SqlType) (d : DriverState) → (driver : IsDriver d) → IsWhole d.fault
-      → Behind (AreMadeFor names run bells) half d.stages given → KnowSources run bells (Contains d.stages) → AllFit (types_of_source run) (rows_taken d.source) → AllFit given driver.rows
-  half_gives run half bells given d driver whole e know fit =
-      let ended = has_ended d.source in
-      let took = rows_taken d.source in
-      let b = came_before ghosts laws d.stages e.before e.last ended took driver.rows e.are (driver.goes.turns whole) (driver.goes.links whole) in
-      let o = operates run bells e.before e.between e.input (Contains d.stages) know (front (Contains d.stages) d.stages e.before e.last e.are (All-contains_itself d.stages)) in
-      let stood = stood_at ghosts laws run (notes_known e.before) e.before e.between o.0 ended took b.came b.told b.linked fit in
-      (one_more ghosts laws [] half e.last (ghosts.as_made e.last) e.between given e.is.means (inl refl) took b.came driver.rows ended (last_finished ghosts ended e.before) b.turn b.steps stood.1).1
+    module _ (half : NodeStage) (e : Behind (AreMadeFor names run bells) half stages given) where
+      before_operates : Operates run e.before e.between
+      before_operates = operates run bells e.before e.between e.input IsOne know (front IsOne stages e.before e.last e.are each)
+
+      pub halved : IsHalved ghosts run (notes_known stages) half stages took gave ended (last_finished ghosts ended stages)
+      halved =
+          let b = came_before ghosts laws stages e.before e.last ended took gave e.are turns linked in
+          let o = before_operates in
+          let same : notes_known e.before ≡ notes_known stages = sym (notes_behind stages e.before e.last e.are e.is.apart) in
+          record {
+            before = e.before;
+            last = e.last;
+            are = e.are;
+            came = b.came;
+            told = last_finished ghosts ended e.before;
+            lane = record {
+              given = e.between;
+              operate = subst (λ (ns : Noted). Operate ghosts run ns e.before e.between) same o.0;
+              noted = subst (HasNotes run) same o.1;
+              turns = b.told;
+              linked = b.linked;
+              fit = fit;
+              done_is = refl;
+            };
+            given = given;
+            means = e.is.means;
+            steps = b.steps;
+            turn = b.turn;
+            done_is = sym (done_is ghosts laws stages e.before e.last ended e.are);
+          }
+
+      pub half_gives : AllFit given gave
+      half_gives =
+          let b = came_before ghosts laws stages e.before e.last ended took gave e.are turns linked in
+          let stood = stood_at ghosts laws run (notes_known e.before) e.before e.between before_operates.0 ended took b.came b.told b.linked fit in
+          (one_more ghosts laws [] half e.last (ghosts.as_made e.last) e.between given e.is.means (inl refl) took b.came gave ended (last_finished ghosts ended e.before) b.turn b.steps stood.1).1

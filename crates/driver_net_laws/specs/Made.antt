@@ -5,7 +5,7 @@ use Rattle.operator_core.specs.Rows.{Row}
 use Rattle.join_index.specs.Keys.{IndexedRows}
 use Rattle.hash_join.specs.Probing.{ProbeState}
 use Rattle.driver_loop.specs.declared.stage.Stage.{Stage}
-use Rattle.driver_loop.specs.declared.stage.Stage.TheVariants.{Filter, Final, Limit, Partial, Probe, Single, Sort, TopN}
+use Rattle.driver_loop.specs.declared.stage.Stage.TheVariants.{Dynamic, Filter, Final, Limit, Partial, Probe, Single, Sort, TopN}
 use Rattle.driver_loop.specs.contracts.stage.StageOperator.TheImpl.{ghosts}
 use Rattle.plan_trees.specs.TreeTypes.{types_of}
 use Rattle.plan_run_laws.specs.Nets as stage
@@ -48,7 +48,7 @@ AreMadeFor names (limit_parts id source output tasks count input) bells all give
     Behind (NoOperator (types_of (tree_of_run input))) (at_node id (stage.limit count)) all given
 AreMadeFor names (union id left right) bells all given = NoOperator (types_of (tree_of_run left)) all given
 
--- what the note of a stage knows, if it has one
+-- what the note of a stage knows of a join's right side, if it has one
 abbrev pub note_known : Stage → Noted
 note_known (Filter op) = []
 note_known (Limit op types) = []
@@ -58,6 +58,7 @@ note_known (Single op) = []
 note_known (Partial op) = []
 note_known (Final op) = []
 note_known (Probe op types) = rows_known op.note.known ∷ []
+note_known (Dynamic op types) = []
 
 -- what the notes of a driver's stages know, from the last one down
 abbrev pub notes_known : List Stage → Noted

@@ -1,5 +1,5 @@
 -- The drivers of a layout: each has the parts of its pipe in its task.
-use Rattle.std.specs.Prelude.{◌≡◌, ℕ, ◌<◌, List, [], ◌∷◌, length, map, option_map, slice_get, Some, unwrap_or}
+use Rattle.std.specs.Prelude.{◌≡◌, ℕ, ◌-◌, ◌<◌, List, [], ◌∷◌, drop, length, map, option_map, slice_get, take, Some, unwrap_or}
 use Rattle.std.specs.List.{range_with_len}
 use Rattle.sql_values.specs.declared.types.SqlType.{SqlType}
 use Rattle.sql_values.specs.declared.value.Value.{Value}
@@ -116,6 +116,13 @@ AreStagesFor net task halved (step ∷ steps) between (s ∷ stages) =
     IsStageFor net task halved step between (types_after net.types halved step between) (ghosts.as_made s)
     × AreStagesFor net task halved steps (types_after net.types halved step between) stages
 
+-- of the stages of a driver those in front of the ones for the steps of its pipe, and these
+abbrev pub front_stages : List StepForm → List Stage → List Stage
+front_stages steps stages = take (length stages - length steps) stages
+
+abbrev pub step_stages : List StepForm → List Stage → List Stage
+step_stages steps stages = drop (length stages - length steps) stages
+
 -- the target builds what is found by these columns, in the cell of this bell
 pub record IsBuildFor (names : Names) (bell : ℕ) (keys : List ℕ) (types : List SqlType) (target : Target) : Type 0 where
   pub build : BuildState
@@ -157,8 +164,8 @@ right_columns on = map (λ (pair : Pair). pair.right) on
 -- the target of a driver of the pipe at a place, in a task
 abbrev pub IsTargetFor : NetForm → ℕ → ℕ → TargetForm → Target → Type 0
 IsTargetFor net at task result target = IsResultTarget target
-IsTargetFor net at task (cell on) target =
-    IsBuildFor net.links.names (net.links.cells at task) (right_columns on) (net.types at).given target
+IsTargetFor net at task (cell build) target =
+    IsBuildFor net.links.names (net.links.cells at task) (right_columns build.on) (net.types at).given target
 IsTargetFor net at task (side pipe) target = IsPutFor plan.single (net.links.gathers pipe task ∷ []) target
 IsTargetFor net at task (readers output pipe) target = IsPutFor (output_view output) (edges_to net pipe) target
 IsTargetFor net at task (takers pipe) target = IsDealFor (net.links.spreads pipe task) target

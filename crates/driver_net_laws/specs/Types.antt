@@ -44,7 +44,7 @@ abbrev pub AreGiven : List PipeForm → (ℕ → PipeTypes) → ℕ → Type 0
 AreGiven layout types at = (from : ℕ) (pipe : PipeForm) → slice_get layout from ≡ Some pipe → gives_to at pipe.target ≡ true
     → (types from).given ≡ (types at).taken
 
--- and those of the rows that came to their last steps are told to it
+-- and the rows that came to the last steps of those that give to it are of its `halved` types
 abbrev pub AreHalved : List PipeForm → (ℕ → PipeTypes) → ℕ → Type 0
 AreHalved layout types at = (from : ℕ) (pipe : PipeForm) → slice_get layout from ≡ Some pipe → gives_to at pipe.target ≡ true
     → (types from).before ≡ (types at).halved

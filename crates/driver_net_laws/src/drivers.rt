@@ -1,11 +1,11 @@
-//! A driver whose stages were made for the nodes of a plan is a lane of its pipe.
-ghost use Rattle.std.specs.Prelude.{ℕ, List, All, Contains};
+//! The stages of a driver that were made for the nodes of a plan, as they stand, are a lane of its pipe.
+ghost use Rattle.std.specs.Prelude.{ℕ, List, Bool, Contains};
 ghost use Rattle.sql_values.specs.declared.types.SqlType.{SqlType as Typed};
 ghost use Rattle.col_pages.specs.Fits.{AllFit};
-ghost use Rattle.operator_core.specs.Stages.{last_finished};
+ghost use Rattle.operator_core.specs.Rows.{Row};
+ghost use Rattle.operator_core.specs.Stages.{Linked, ToldInTurn, last_finished};
 ghost use Rattle.driver_loop.specs.contracts.stage.StageOperator.TheImpl.{ghosts};
-ghost use Rattle.driver_loop.specs.Drivers.{DriverState, IsDriver, IsWhole};
-ghost use Rattle.driver_loop.specs.Ends.{has_ended, rows_taken};
+ghost use Rattle.driver_loop.specs.declared.stage.Stage.{Stage as StageState};
 ghost use Rattle.plan_run_laws.specs.RunPlans.{RunPlan};
 ghost use Rattle.pipe_laws.specs.Pipelines.{NodeStage};
 ghost use Rattle.pipe_laws.specs.Operators.{types_of_source};
@@ -16,15 +16,15 @@ ghost use Rattle.driver_net_laws.specs.Made.{AreMadeFor, Behind, KnowSources, no
 use driver_loop::Stage;
 use std::marker::PhantomData;
 
-/// The law that a driver whose stages were made for a node's pipeline is a lane of it, wherever it stands, but after want
-/// of memory: where what its probes know are sources for their joins, and the rows that it took have their types.
+/// The law that stages of a driver which were made for a node's pipeline are a lane of it, wherever they stand: where what
+/// its probes know are sources for their joins, and the rows that came to them have their types.
 pub fn drivers_are_lanes<'w>(_of: PhantomData<Stage<'w>>)
     ensures { (names : Names) (run : RunPlan) (bells : List ℕ) (given : List Typed)
-        (d : DriverState) → (driver : IsDriver d) → IsWhole d.fault
-        → AreMadeFor names run bells d.stages given → KnowSources run bells (Contains d.stages)
-        → AllFit (types_of_source run) (rows_taken d.source)
-        → IsLane ghosts run (notes_known d.stages) d.stages (rows_taken d.source) driver.rows
-        (has_ended d.source) (last_finished ghosts (has_ended d.source) d.stages) }
+        (stages : List StageState) (took gave : List Row) (ended : Bool)
+        → Linked ghosts stages took gave → ToldInTurn ghosts ended stages
+        → AreMadeFor names run bells stages given → KnowSources run bells (Contains stages)
+        → AllFit (types_of_source run) took
+        → IsLane ghosts run (notes_known stages) stages took gave ended (last_finished ghosts ended stages) }
 {
     operator_core::laws::laws::<Stage<'w>>(PhantomData);
 }
@@ -32,27 +32,28 @@ pub fn drivers_are_lanes<'w>(_of: PhantomData<Stage<'w>>)
 /// The law that so it is where the first half of an operator stands behind the node's stages.
 pub fn drivers_are_halved<'w>(_of: PhantomData<Stage<'w>>)
     ensures { (names : Names) (run : RunPlan) (half : NodeStage) (bells : List ℕ)
-        (given : List Typed) (d : DriverState) → (driver : IsDriver d) → IsWhole d.fault
-        → Behind (AreMadeFor names run bells) half d.stages given
-        → KnowSources run bells (Contains d.stages)
-        → AllFit (types_of_source run) (rows_taken d.source)
-        → IsHalved ghosts run (notes_known d.stages) half d.stages (rows_taken d.source) driver.rows
-        (has_ended d.source) (last_finished ghosts (has_ended d.source) d.stages) }
+        (given : List Typed) (stages : List StageState) (took gave : List Row) (ended : Bool)
+        → Linked ghosts stages took gave → ToldInTurn ghosts ended stages
+        → Behind (AreMadeFor names run bells) half stages given
+        → KnowSources run bells (Contains stages) → AllFit (types_of_source run) took
+        → IsHalved ghosts run (notes_known stages) half stages took gave ended (last_finished ghosts ended stages) }
 {
     operator_core::laws::laws::<Stage<'w>>(PhantomData);
 }
 
-/// The law that what a driver gave which was made for a node has the types that its stages were made to give.
+/// The law that what they gave has the types that they were made to give.
 pub fn drivers_give_typed_rows<'w>(_of: PhantomData<Stage<'w>>)
     ensures lanes { (names : Names) (run : RunPlan) (bells : List ℕ) (given : List Typed)
-        (d : DriverState) → (driver : IsDriver d) → IsWhole d.fault
-        → AreMadeFor names run bells d.stages given → KnowSources run bells (Contains d.stages)
-        → AllFit (types_of_source run) (rows_taken d.source) → AllFit given driver.rows }
+        (stages : List StageState) (took gave : List Row) (ended : Bool)
+        → Linked ghosts stages took gave → ToldInTurn ghosts ended stages
+        → AreMadeFor names run bells stages given → KnowSources run bells (Contains stages)
+        → AllFit (types_of_source run) took → AllFit given gave }
     ensures halves { (names : Names) (run : RunPlan) (half : NodeStage) (bells : List ℕ)
-        (given : List Typed) (d : DriverState) → (driver : IsDriver d) → IsWhole d.fault
-        → Behind (AreMadeFor names run bells) half d.stages given
-        → KnowSources run bells (Contains d.stages)
-        → AllFit (types_of_source run) (rows_taken d.source) → AllFit given driver.rows }
+        (given : List Typed) (stages : List StageState) (took gave : List Row) (ended : Bool)
+        → Linked ghosts stages took gave → ToldInTurn ghosts ended stages
+        → Behind (AreMadeFor names run bells) half stages given
+        → KnowSources run bells (Contains stages) → AllFit (types_of_source run) took
+        → AllFit given gave }
 {
     operator_core::laws::laws::<Stage<'w>>(PhantomData);
 }

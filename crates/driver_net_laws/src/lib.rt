@@ -4,8 +4,8 @@
 //! - `specs/Cells.antt`: the cells that drivers look into and publish in, by the numbers of their bells
 //! - `specs/Stages.antt`, `specs/Made.antt`: the stages of a driver, each made for its node, and what the notes of its probes
 //!   know
-//! - `drivers`: such a driver, wherever it stands, is a lane of its pipe (`IsLane` of `pipe_laws`), and what it gave has the
-//!   types that its stages were made to give
+//! - `drivers`: such stages, wherever they stand, are a lane of the pipe (`IsLane` of `pipe_laws`), and what they gave has the
+//!   types that they were made to give
 //! - `specs/Types.antt`: the types of the rows of each pipe
 //! - `specs/Nets.antt`: the parts of each driver (`AreDriversOf`), with what drivers share (`Links`)
 //! - `specs/Makes.antt`: what a layout has to be so that its drivers can be made (`LayoutFits`)

@@ -44,7 +44,7 @@ fn write_turns<R: Threads + Wait + Sync>(
 }
 
 /// What the turns of drivers say, and then each of them, stopped.
-fn say<R: Threads + Wait + Sync>(
+pub(crate) fn say<R: Threads + Wait + Sync>(
     rt: &R,
     alloc: Global,
     drivers: &mut Vec<Driver<'_, Slow>>,

@@ -134,8 +134,8 @@ impl PageSource for Late {
     }
 }
 
-/// A target that keeps its pages. It takes none before it was blocked at bell 5 as often as it is full, and once it was
-/// told that no page comes any more it is blocked there as often as it has waits.
+/// A target that keeps its pages. It takes none before it was blocked at bell 5 as often as it is full, and once it
+/// was told to finish it is blocked there as often as it has waits.
 #[derive(Drop)]
 pub(crate) struct Kept {
     pub(crate) pages: HeldPages,

@@ -21,7 +21,7 @@ fn build_target<'w>(alloc: Global, cell: &'w LookupCell) -> Result<Target<'w>, M
 {
     let keys = Vec::from_array(alloc, [0])?;
     let builder = LookupBuilder::new(alloc, keys, whole(alloc)?)?;
-    Ok(Target::Build(BuildTarget::new(builder, cell)))
+    Ok(Target::Build(BuildTarget::new(builder, cell, Vec::new(alloc))))
 }
 
 /// Builds the right side of a join, of rows of these numbers.

@@ -7,6 +7,7 @@
 //! - `runs`: turns of drivers, and what they gave
 //! - `drivers`: of `driver_loop`, drivers that scan a table
 //! - `joins`: a driver that builds the right side of a join, and one that probes it
+//! - `filters`: a driver that drops rows by a dynamic filter, and one that publishes the domains
 //! - `edge_drivers`: drivers that put to edges, and drivers that take from them
 //! - `edges`: turns of drivers that wait for one another at edges
 //! - `slow`: a courier that misses turns
@@ -22,6 +23,8 @@ mod edge_drivers;
 mod edges;
 #[cfg(test)]
 mod fetches;
+#[cfg(test)]
+mod filters;
 #[cfg(test)]
 mod fixtures;
 #[cfg(test)]

@@ -226,6 +226,14 @@ fn write_seats(text: &mut String, pieces: &Pieces<'_>) -> Result<(), Memory> {
     Ok(())
 }
 
+/// Writes how many rows each of its dynamic filters gave.
+fn write_passed(text: &mut String, passed: &[u64]) -> Result<(), Memory> {
+    for count in passed {
+        write!(text, "p{count} ")?;
+    }
+    Ok(())
+}
+
 /// Writes what a driver hands back, with its fault and its work.
 fn write_pieces(
     text: &mut String,
@@ -238,6 +246,7 @@ fn write_pieces(
         write!(text, "{fault} ")?;
     }
     write_pages(text, &mut pieces.rows)?;
+    write_passed(text, &pieces.passed)?;
     Ok(write!(text, "w{work};")?)
 }
 

@@ -244,7 +244,7 @@ module _ {S : Type 0} (g : Ghosts S) where
   some-held : (o : Option BlockedOn) (P : BlockedOn → Type 0) (on : BlockedOn) → o ≡ Some on → IfSome o P → P on
   some-held o P on e h = let p = subst (λ (o : Option BlockedOn). IfSome o P) e h in p
 
-  -- the target waits, or it was not told and somebody before it waits
+  -- the target waits, or it was not told to finish and somebody before it waits
   pub Blocked-who : (old mid new : List S) (told wanted is_told : Bool) (su sl sn tu tm tn : Looks) (shown later : ℕ → ℕ → Type 0) (full waits who : Option BlockedOn) (none : Type 0)
       → MatchOption who none (λ on. (full ≡ Some on) ⊎ ((told ≡ false) × (wanted ≡ true) × (waits ≡ Some on))) → AllStay g mid new → sn ≡ sl → tu.in_vain ≤ tm.in_vain
       → told ≡ is_told → ((bell count : ℕ) → shown bell count → later bell count) → IfSome waits (λ on. IsHeldUp g old mid su sl shown on)
@@ -302,7 +302,7 @@ all-told (Ok None) Q P h = tt
 all-told (Ok (Some on)) Q P h = λ _. h
 all-told (Err fault) Q P h = tt
 
--- who was told is not untold
+-- of a target that was told to finish holds what is asked of one that was not
 pub none-untold : (told : Bool) (o : Option BlockedOn) (P : BlockedOn → Type 0) → told ≡ true → IfSome o (λ on. told ≡ false → P on)
 none-untold told None P is = tt
 none-untold told (Some on) P is = λ not. absurd (let clash : true ≡ false = sym is ∙ not in cc)
@@ -318,7 +318,7 @@ pub few-step : (units quantum most room more : ℕ) → units < quantum + most �
 few-step units quantum most zero more few e some none = omega (arith, few, none refl)
 few-step units quantum most (suc room) more few e some none = omega (arith, e, some)
 
--- who was told was told before, or is told now, where the last stage is finished
+-- what holds where the target was told to finish before, and where it is told to now, holds where it is told at all
 pub told-since : (was : Bool) (last : Type 0) → (was ≡ true → last) → (was ≡ true) ⊎ last → last
 told-since was last before (inl told) = before told
 told-since was last before (inr now) = now

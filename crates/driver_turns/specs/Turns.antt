@@ -54,12 +54,12 @@ pub record WorkedTo {S : Type 0} (g : Ghosts S) (was_given : List Row → Type 0
 abbrev pub IsHeldUp : {S : Type 0} → Ghosts S → List S → List S → Looks → Looks → (ℕ → ℕ → Type 0) → BlockedOn → Type 0
 IsHeldUp g old new source_was source_is shown on = StageBlocked g old new shown on ⊎ HasWaited source_was source_is shown on
 
--- a stage waits or the source does, and the target was not told that no page comes any more; or the target waits
+-- a stage waits or the source does, and the target was not told to finish; or the target waits
 abbrev pub IsBlocked : {S : Type 0} → Ghosts S → List S → List S → Bool → Looks → Looks → Looks → Looks → (ℕ → ℕ → Type 0) → BlockedOn → Type 0
 IsBlocked g old new told source_was source_is target_was target_is shown on =
     (IsHeldUp g old new source_was source_is shown on × (told ≡ false)) ⊎ HasWaited target_was target_is shown on
 
--- why a turn ended: enough units were counted and the target was not told, somebody waits, or the target is finished
+-- why a turn ended: enough units were counted and the target was not closed, somebody waits, or the target is finished
 abbrev pub TurnedSo : (BlockedOn → Type 0) → Bool → Bool → ℕ → ℕ → Turned → Type 0
 TurnedSo blocked told finished quantum units Yield = (quantum ≤ units) × (told ≡ false) × (finished ≡ false)
 TurnedSo blocked told finished quantum units (Blocked on) = blocked on × (finished ≡ false)

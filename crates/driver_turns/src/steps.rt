@@ -64,7 +64,7 @@ pub(crate) fn tell<I: PageSource, S: TypedOperator, T: PageTarget>(
     }
 }
 
-/// Passes, puts what comes out into the target, and tells it where the last stage is finished. Answers how many
+/// Passes, puts what comes out into the target, and closes it where the last stage is finished. Answers how many
 /// rows moved.
 fn move_on<I: PageSource, S: TypedOperator, T: PageTarget>(
     source: &mut I,
@@ -231,7 +231,7 @@ fn work<I: PageSource, S: TypedOperator, T: PageTarget, R: Threads + Wait + Sync
 }
 
 /// Who waits after a step in which nothing moved: the target, or who waits before it, where the target was not
-/// told and had wanted a page.
+/// told to finish and had wanted a page.
 fn who_waits(
     full: Option<BlockedOn>,
     told: bool,
@@ -249,7 +249,7 @@ fn who_waits(
     }
 }
 
-/// A step. Once the target was told, nothing but its end is left.
+/// A step. Once the target was told to finish, nothing but its end is left.
 pub(crate) fn take_step<
     I: PageSource,
     S: TypedOperator,

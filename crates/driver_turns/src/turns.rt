@@ -39,7 +39,7 @@ pub enum Turned {
 /// A turn: it looks and passes until the target is finished, it counted `quantum` units, or nothing moved in a
 /// whole step and a stage, the source or the target waits. A unit is a row that entered a stage or the target,
 /// or an ask of the source in vain. No move begins once `quantum` units were counted, and a turn does not yield
-/// once the target was told.
+/// once the target was told to finish.
 ///
 /// Where nothing moves and nobody waits it goes on for ever: a full stage that was never told to finish is such
 /// a case, so a source that has nothing for its stages is ended from the start.

@@ -14,10 +14,10 @@ use Rattle.dyn_filter.specs.declared.domain.Domain.{Domain}
 use Rattle.dyn_filter.specs.Rows.{row_passes}
 use Rattle.dyn_filter.specs.Cells.{NotesState, new_notes}
 use Rattle.dyn_filter.proofs.CellLemmas.{fresh_cells}
-use Rattle.dyn_filter.specs.Filters.{FilterGives, FilterState, GavePage, IsFiltering, TookPage, WentBy, unlooked}
+use Rattle.dyn_filter.specs.Filters.{FilterGives, FilterState, FilterTookPage, GavePage, IsFiltering, WentBy, unlooked}
 use Rattle.dyn_filter.specs.FilterLaws.{kept-all, kept-append, kept-filter}
 
-pub taken_gives : (waits : Bool) (column : ℕ) (known : Option Domain) (held new rows X B : List Row) → TookPage column known held rows new → (known ≡ None → waits ≡ false)
+pub taken_gives : (waits : Bool) (column : ℕ) (known : Option Domain) (held new rows X B : List Row) → FilterTookPage column known held rows new → (known ≡ None → waits ≡ false)
     → FilterGives waits column known new X B → FilterGives waits column known held (rows ++ X) B
 taken_gives waits column (Some domain) held new rows X B is free g =
     let pass : Row → Bool = row_passes g.0 column in
@@ -39,7 +39,7 @@ taken_gives waits column None held new rows X B is free g =
       λ w. cc (free refl, w),
     )
 
-pub taken_went : (waits : Bool) (column : ℕ) (known : Option Domain) (held new rows T G : List Row) → TookPage column known held rows new → (known ≡ None → waits ≡ false)
+pub taken_went : (waits : Bool) (column : ℕ) (known : Option Domain) (held new rows T G : List Row) → FilterTookPage column known held rows new → (known ≡ None → waits ≡ false)
     → is_some known ≡ false → WentBy waits held T G → WentBy waits new (T ++ rows) G
 taken_went waits column (Some domain) held new rows T G is free unknown went = cc
 taken_went waits column None held new rows T G is free unknown went = (
@@ -124,7 +124,7 @@ learned_made old new same e =
     )
 
 -- over whole states
-pub took_gives : (old new : FilterState) (rows X B : List Row) → new ≡ record old { held = new.held } → TookPage old.column old.known old.held rows new.held
+pub took_gives : (old new : FilterState) (rows X B : List Row) → new ≡ record old { held = new.held } → FilterTookPage old.column old.known old.held rows new.held
     → ((is_some old.known || not old.waits) && not (old.is_told || has_row old.held)) ≡ true
     → FilterGives new.waits new.column new.known new.held X B → FilterGives old.waits old.column old.known old.held (rows ++ X) B
 took_gives old new rows X B same is needs g =

@@ -178,7 +178,7 @@ not_in_gap xs v place gap = false_or_true (is_in xs v) not_there
           | inr above ↦ not_less_itself (get_or xs k Null) v (sym is) (gap.greater_behind k Null above lt)
         ]
 
--- what a search found tells whether the value is in the list
+-- what a search found says whether the value is in the list
 pub found_in : (xs : List Value) (v : Value) (r : Result ℕ ℕ) → IfOk r (λ _. is_in xs v ≡ true) → IfErr r (IsGapFor xs v) → is_ok r ≡ is_in xs v
 found_in xs v (Ok place) found absent = sym found
 found_in xs v (Err place) found absent = sym (not_in_gap xs v place absent)

@@ -30,9 +30,9 @@ abbrev pub WentBy : Bool → List Row → List Row → List Row → Type 0
 WentBy waits held T G = (G ++ held ≡ T) × (waits ≡ true → T ≡ [])
 
 -- a page was taken in: the rows of it that pass, or all where the domain is not known
-abbrev pub TookPage : ℕ → Option Domain → List Row → List Row → List Row → Type 0
-TookPage column (Some domain) held rows new = new ≡ held ++ filter (row_passes domain column) rows
-TookPage column None held rows new = new ≡ held ++ rows
+abbrev pub FilterTookPage : ℕ → Option Domain → List Row → List Row → List Row → Type 0
+FilterTookPage column (Some domain) held rows new = new ≡ held ++ filter (row_passes domain column) rows
+FilterTookPage column None held rows new = new ≡ held ++ rows
 
 -- its column, whether it waits, its cell's parts and bell, its note, the domain that it knows, the rows that it holds, how
 -- many rows it gave, and whether it was told to finish

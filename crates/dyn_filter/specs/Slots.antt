@@ -1,4 +1,4 @@
--- Slots that tell of a value's hash whether a list may have the value.
+-- Slots that say of a value's hash whether a list may have the value.
 use Rattle.std.specs.Prelude.{◌≡◌, ℕ, ◌<◌, ◌%◌, List, length, true, slice_index_or}
 use Rattle.sql_values.specs.declared.value.Value.{Value}
 use Rattle.cell_hashes.specs.Hashes.{hash_value, no_value}

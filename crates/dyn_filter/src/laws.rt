@@ -1,4 +1,4 @@
-//! What a domain tells of the values that it is of.
+//! What a domain says of the values that it is of.
 ghost use Rattle.std.specs.Prelude.{◌≡◌, ◌<◌, List, [], true, false, filter, length, map, slice_index_or};
 ghost use Rattle.sql_values.specs.declared.value.Value.{Value as Cell};
 ghost use Rattle.sql_values.specs.Cells.{cell};

@@ -4,7 +4,7 @@ use set_once::{SetFault, SetNote, SetOnce};
 use std::alloc::AllocError;
 use std::thread;
 
-/// Whether a cell is empty, takes 5, refuses 6 and shows 5 then, each time as its notes tell.
+/// Whether a cell is empty, takes 5, refuses 6 and shows 5 then, each time as its notes say.
 fn does_the_first_value_stay(
     cell: &SetOnce<u8>,
     one: &mut SetNote<u8>,

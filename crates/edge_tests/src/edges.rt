@@ -66,7 +66,7 @@ fn puts_its_end<R: Threads + Wait + Sync>(rt: &R, alloc: Global, put: &mut Gathe
     told(alloc, put.put(rt, seen, end)) == Ok(PIECE)
 }
 
-/// Whether an End was taken, and the edge has ended so.
+/// Whether an End was taken, and the edge has ended exactly where `has_ended` says it.
 fn takes_an_end<R: Threads + Wait + Sync>(
     rt: &R,
     alloc: Global,

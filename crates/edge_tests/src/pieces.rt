@@ -9,7 +9,7 @@ use std::alloc::Global;
 use std::sync::Wait;
 use std::thread::Threads;
 
-/// What stands for an End where numbers are told.
+/// What stands for an End where numbers are written.
 pub(crate) const END: i64 = -1;
 
 /// The number of a piece, or `END`.
@@ -59,7 +59,7 @@ pub(crate) fn seen<R: Threads + Wait + Sync>(rt: &R, alloc: Global, bell: u32) -
     Seen::read(rt, &mut bells, bell)
 }
 
-/// Rings, and tells the bell.
+/// Rings, and answers the bell.
 pub(crate) fn rung(alloc: Global, due: Due) -> u32 {
     let number = due.bell();
     Bell::<u8>::new(alloc).ring(due);

@@ -20,7 +20,7 @@ impl Model for PageClient {
     ghost view = { λ c. record { next = c.next; is_complete = c.is_complete } };
 }
 
-/// A reply whose token is not the next one, which is told. The reply is handed back.
+/// A reply whose token is not `next`, the one that is wanted. The reply is handed back.
 #[derive(Drop)]
 pub struct Stale {
     pub next: u64,

@@ -9,3 +9,5 @@ pub mod TreeLemmas
 pub mod JoinLemmas
 pub mod PairLemmas
 pub mod FilterLemmas
+pub mod BuiltLemmas
+pub mod ApartLemmas

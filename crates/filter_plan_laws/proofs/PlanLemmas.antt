@@ -41,7 +41,7 @@ named d e =
 document_once : (n : ℕ) (d : Data) → refusal_of d ≡ None → ids_among n (map (fragment_of d) (entries_under key.Fragments d)) ≤ 1
 document_once n d e = omega (arith, document_given n d (places_of d) (document_checked d e), given_once n d [] (places_of d) (named d e))
 
-plan_once : (n : ℕ) (plan : PlanForm) → IsConsistent plan → ids_among n plan.fragments ≤ 1
+pub plan_once : (n : ℕ) (plan : PlanForm) → IsConsistent plan → ids_among n plan.fragments ≤ 1
 plan_once n plan c =
     let d = c.document in
     let same = ap (λ (p : PlanForm). ids_among n p.fragments) c.means ∙ ap (ids_among n) (fragments_of d) in

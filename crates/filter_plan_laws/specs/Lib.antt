@@ -1,2 +1,3 @@
 pub mod JoinIds
 pub mod RunJoins
+pub mod BuiltFilters

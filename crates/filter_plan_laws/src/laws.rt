@@ -11,6 +11,11 @@ ghost use Rattle.plan_link_laws.specs.Consistent.{IsConsistent};
 ghost use Rattle.plan_spreads.specs.Runs.{plan_run};
 ghost use Rattle.sieve_laws.specs.ComingDown.{ScansApart};
 ghost use Rattle.sieve_laws.specs.KnownDomains.{JoinFilter, sieves_of};
+ghost use Rattle.plan_layout.specs.declared.pipe.Parallelism.{Parallelism};
+ghost use Rattle.plan_layout.specs.Filters.{scan_filters};
+ghost use Rattle.plan_layout.specs.Layouts.{layout_of};
+ghost use Rattle.plan_layout.specs.Pipes.{PipeForm};
+ghost use Rattle.filter_plan_laws.specs.BuiltFilters.{AreOfPlan, BuiltFiltersReach, JoinsAreBuilt, PipesApart};
 ghost use Rattle.filter_plan_laws.specs.JoinIds.{JoinsApart};
 ghost use Rattle.filter_plan_laws.specs.RunJoins.{FiltersReachIn, HasJoins, ReachesIn};
 
@@ -24,7 +29,7 @@ pub fn scans_are_apart(plan: &Plan)
         → ScansApart (plan_run tasks (plan_view plan.now)) }
 {}
 
-/// The law that no two joins of it have one either, so that what each has of its own can be told by its id.
+/// The law that no two joins of it have one either, so that what each has of its own can be named by its id.
 pub fn joins_are_apart(plan: &Plan)
     ensures { IsConsistent (plan_view plan.now) → (tasks : ℕ)
         → JoinsApart (plan_run tasks (plan_view plan.now)) }
@@ -56,3 +61,31 @@ pub fn named_scans_are_reached()
 {
     known_domains_arrive();
 }
+
+/// The law that in the layout of such a plan what a pipe builds is the right side of a join of the run, by whose id, pairs and
+/// filters.
+pub fn built_filters_reach(plan: &Plan)
+    ensures { IsConsistent (plan_view plan.now) → (p : Parallelism) (tasks : ℕ)
+        → BuiltFiltersReach (plan_run tasks (plan_view plan.now)) (layout_of p (plan_view plan.now)) }
+{}
+
+/// The law that in the layout of a plan a pipe builds the right side of each join of the plan.
+pub fn joins_are_built(plan: &Plan)
+    ensures { (p : Parallelism) → JoinsAreBuilt (layout_of p (plan_view plan.now)) (plan_view plan.now) }
+{}
+
+/// The law that the filters which the layout of a consistent plan gives a pipe that scans are those of joins of the run that
+/// reach this scan, and all that the plan has for it.
+pub fn scan_filters_reach(plan: &Plan)
+    ensures { IsConsistent (plan_view plan.now) → (p : Parallelism) (tasks : ℕ)
+        → (pipe : PipeForm) (scan : ℕ) → pipe.scan ≡ Some scan
+        → AreOfPlan (plan_run tasks (plan_view plan.now)) (layout_of p (plan_view plan.now)) (plan_view plan.now)
+        scan (scan_filters (layout_of p (plan_view plan.now)) pipe) }
+{}
+
+/// The law that in such a layout no two pipes build the right side of one join, and no two read one scan: so either is found by
+/// its id.
+pub fn pipes_are_apart(plan: &Plan)
+    ensures { IsConsistent (plan_view plan.now) → (p : Parallelism)
+        → PipesApart (layout_of p (plan_view plan.now)) }
+{}

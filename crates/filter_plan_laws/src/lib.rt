@@ -8,12 +8,14 @@
 //!   (`specs/JoinIds.antt`). `joins_are_in_runs`: the run has each join of the plan, over the left side that the plan gives it.
 //!   `filters_reach_in_runs`: each dynamic filter is one of an inner join of the run, and its column comes there from the
 //!   column of the scan that the filter names (`specs/RunJoins.antt`); so `named_scans_are_reached`: the domain that is known
-//!   of it arrives there
+//!   of it arrives there. `built_filters_reach`, `joins_are_built`, `pipes_are_apart`, `scan_filters_reach`: in the layout of such a plan a pipe
+//!   builds the right side of each join, one for each, and the filters of a scan are those of the joins' that reach it
+//!   (`specs/BuiltFilters.antt`)
 #![tactic(auto)]
 
 mod laws;
 
 pub use laws::{
-    filters_reach_in_runs, joins_are_apart, joins_are_in_runs, named_scans_are_reached,
-    scans_are_apart,
+    built_filters_reach, filters_reach_in_runs, joins_are_apart, joins_are_built,
+    joins_are_in_runs, named_scans_are_reached, scan_filters_reach, scans_are_apart,
 };

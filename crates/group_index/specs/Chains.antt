@@ -24,7 +24,7 @@ hashes_of links = map (λ link. link.hash) links
 abbrev pub link_at : List Link → ℕ → Link
 link_at links place = slice_index_or links place record { hash = 0; before = 0 }
 
--- what each link has behind it tells the last place of its bucket below
+-- what each link has behind it gives the last place of its bucket below
 abbrev pub AreLinked : ℕ → List Link → Type 0
 AreLinked mask links =
     (place : ℕ) → place < length links
@@ -41,7 +41,7 @@ pub record AreChains (mask : ℕ) (heads : List ℕ) (links : List Link) : Type 
   pub headed : AreHeads mask heads links
   pub linked : AreLinked mask links
 
--- the number tells the last place of the hash's bucket below some place
+-- the number gives the last place of the hash's bucket below some place
 pub record IsOnChain (links : List Link) (hash start : ℕ) : Type 0 where
   pub mask : ℕ
   pub below : ℕ

@@ -6,14 +6,14 @@ use std::alloc::Global;
 use std::marker::Model;
 
 /// A hash, and one more than the place before of its bucket.
-#[derive(Clone, Copy, Debug)]
+#[derive(Clone, Copy)]
 struct Link {
     hash: u64,
     before: u32,
 }
 
 /// Hashes, each at a place, found by going from the last place of a bucket to the first.
-#[derive(Debug, Drop)]
+#[derive(Drop)]
 pub struct HashChains {
     alloc: Global,
     /// One less than the number of buckets, which is a power of two.

@@ -11,7 +11,7 @@ use std::alloc::Global;
 use std::marker::Model;
 
 /// Keys of groups, each at a place.
-#[derive(Debug, Drop)]
+#[derive(Drop)]
 pub struct GroupIndex {
     alloc: Global,
     /// How many cells each key has.

@@ -1,5 +1,5 @@
--- The pipes of a fragment lie together, those of its root and below first: what is told of the fragment is at the place of
--- its root, or below it.
+-- The pipes of a fragment lie together, those of its root and below first: what is said of the fragment is at the place
+-- of its root, or below it.
 use Rattle.std.proofs.Common.{◌≡◌, ℕ, ◌+◌, ◌<◌, ◌≤◌, suc, zero, List, [], ◌∷◌, ◌++◌, length, map, true, ◌⊎◌, inl, inr, refl, ap, ◌∙◌, subst, arith, Some}
 use Rattle.std.specs.Prelude.{option_map, slice_get}
 use Rattle.std.proofs.lemmas.Bool.{cases_order}
@@ -10,10 +10,10 @@ use Rattle.plan_layout.specs.declared.pipe.Parallelism.{Parallelism}
 use Rattle.plan_layout.specs.declared.pipe.Series.{Series}
 use Rattle.plan_layout.specs.Edges.{after, target_of}
 use Rattle.plan_layout.specs.Layouts.{fragment_pipes, laid, numbered, site_of}
-use Rattle.plan_layout.specs.Pipes.{PipeForm, SourceForm, StepForm, TargetForm, cell, side}
-use Rattle.plan_layout.specs.Runs.{PipeAt, Runs, bare}
-use Rattle.plan_layout.specs.Sides.{Site, pipe_of, pipes_of, sides_of}
-use Rattle.plan_layout.specs.Steps.{side_count, source_of, steps_of}
+use Rattle.plan_layout.specs.Pipes.{PipeForm, SourceForm, StepForm, TargetForm, side}
+use Rattle.plan_layout.specs.Runs.{HasScan, PipeAt, Runs, bare}
+use Rattle.plan_layout.specs.Sides.{Site, built_for, pipe_of, pipes_of, sides_of}
+use Rattle.plan_layout.specs.Steps.{scan_read, side_count, source_of, steps_of}
 use Rattle.plan_layout.proofs.PipeLemmas.{each_block, each_numbered}
 use Rattle.plan_layout.proofs.SideLemmas.{Stand, get_left, get_right, length_append, side_length}
 use Rattle.plan_spreads.proofs.EachLemmas.{Each, each_at, each_join, each_weaker}
@@ -72,7 +72,7 @@ module _ (layout : List PipeForm) (s : Site) (Told : ℕ → ℕ → Type 0) whe
   abbrev pub LaidNode : ℕ → ℕ → NodeForm → Type 0
   LaidNode own next n = Laid own next n (source_of n) (steps_of s.fragments next n)
 
-  pub pipe_laid : (at : ℕ) (target : TargetForm) (n : NodeForm) → (Stand layout (at + 1) (sides_of s at (at + 1) n) → LaidNode at (at + 1) n)
+  pub pipe_laid : (at : ℕ) (target : TargetForm) (n : NodeForm) → (Stand layout (at + 1) (sides_of s at (at + 1) n) → HasScan layout at (scan_read n) → LaidNode at (at + 1) n)
       → Stand layout at (pipes_of s at target n) → PipeAt layout s target at (Laid at (at + 1) n)
   pipe_laid at target n runs stand = record {
     pipe = pipe_of s (at + 1) target n;
@@ -81,7 +81,8 @@ module _ (layout : List PipeForm) (s : Site) (Told : ℕ → ℕ → Type 0) whe
     tasks = refl;
     drivers = refl;
     has = refl;
-    below = runs (stand_next layout at (pipe_of s (at + 1) target n) (sides_of s at (at + 1) n) stand);
+    below = runs (stand_next layout at (pipe_of s (at + 1) target n) (sides_of s at (at + 1) n) stand)
+        (record { pipe = pipe_of s (at + 1) target n; is = stand_first layout at (pipe_of s (at + 1) target n) (sides_of s at (at + 1) n) stand; scan = refl });
   }
 
   -- its place is one of these
@@ -92,49 +93,49 @@ module _ (layout : List PipeForm) (s : Site) (Told : ℕ → ℕ → Type 0) whe
       → AtPipe at target n p place
   at_pipe at target n p place low high = in_sum (λ same. same) (λ inside. p.below.1 place inside.0 inside.1) (own_or_below place at (side_count n) low high)
 
-  pub nodes_laid : (own next : ℕ) (n : NodeForm) → Stand layout next (sides_of s own next n) → LaidNode own next n
-  nodes_laid own next (node.scan id table columns types) stand = ((refl, refl), λ place low high. absurd (omega (arith, low, high)))
-  nodes_laid own next (node.values id types list) stand = ((refl, refl), λ place low high. absurd (omega (arith, low, high)))
-  nodes_laid own next (node.remote id number) stand = ((refl, refl), λ place low high. absurd (omega (arith, low, high)))
-  nodes_laid own next (node.filter id predicate input) stand =
-      let below = nodes_laid own next input stand in ((steps_of s.fragments next input, refl, below.0), below.1)
-  nodes_laid own next (node.project id columns input) stand =
-      let below = nodes_laid own next input stand in ((steps_of s.fragments next input, refl, below.0), below.1)
-  nodes_laid own next (node.join id kind on filters left right) stand =
+  pub nodes_laid : (own next : ℕ) (n : NodeForm) → Stand layout next (sides_of s own next n) → HasScan layout own (scan_read n) → LaidNode own next n
+  nodes_laid own next (node.scan id table columns types) stand reads = ((refl, refl, reads), λ place low high. absurd (omega (arith, low, high)))
+  nodes_laid own next (node.values id types list) stand reads = ((refl, refl), λ place low high. absurd (omega (arith, low, high)))
+  nodes_laid own next (node.remote id number) stand reads = ((refl, refl), λ place low high. absurd (omega (arith, low, high)))
+  nodes_laid own next (node.filter id predicate input) stand reads =
+      let below = nodes_laid own next input stand reads in ((steps_of s.fragments next input, refl, below.0), below.1)
+  nodes_laid own next (node.project id columns input) stand reads =
+      let below = nodes_laid own next input stand reads in ((steps_of s.fragments next input, refl, below.0), below.1)
+  nodes_laid own next (node.join id kind on filters left right) stand reads =
       let at = next + side_count left in
       let before = sides_of s own next left in
-      let beside = pipes_of s at (cell on) right in
+      let beside = pipes_of s at (built_for id on filters) right in
       let long : next + length before ≡ at = omega (arith, side_length s own next left) in
-      let built = pipe_laid at (cell on) right (nodes_laid at (at + 1) right) (stand_right layout next before beside at long stand) in
-      let below = nodes_laid own next left (stand_left layout next before beside stand) in (
+      let built = pipe_laid at (built_for id on filters) right (nodes_laid at (at + 1) right) (stand_right layout next before beside at long stand) in
+      let below = nodes_laid own next left (stand_left layout next before beside stand) reads in (
         (
           at,
           record { pipe = built.pipe; is = built.is; part = built.part; tasks = built.tasks; drivers = built.drivers; has = built.has; below = built.below.0 },
           (steps_of s.fragments next left, refl, below.0),
         ),
         (λ place low high.
-            by_part (λ inside. at_pipe at (cell on) right built place inside.0 (omega (arith, inside.1))) (λ inside. below.1 place inside.0 inside.1)
+            by_part (λ inside. at_pipe at (built_for id on filters) right built place inside.0 (omega (arith, inside.1))) (λ inside. below.1 place inside.0 inside.1)
             (either_part place next at (next + side_count (node.join id kind on filters left right)) low high)),
       )
     where
       by_part : {A B C D : Type 0} → (B → C) → (A → D) → A ⊎ B → C ⊎ D
       by_part f g (inl a) = inr (g a)
       by_part f g (inr b) = inl (f b)
-  nodes_laid own next (node.aggregate id step keys calls input) stand =
-      let below = nodes_laid own next input stand in ((steps_of s.fragments next input, refl, below.0), below.1)
-  nodes_laid own next (node.aggregate_final id input) stand =
-      let below = nodes_laid own next input stand in ((steps_of s.fragments next input, refl, below.0), below.1)
-  nodes_laid own next (node.sort id keys input) stand =
-      let below = nodes_laid own next input stand in ((steps_of s.fragments next input, refl, below.0), below.1)
-  nodes_laid own next (node.top_n id step count keys input) stand =
-      let below = nodes_laid own next input stand in ((steps_of s.fragments next input, refl, below.0), below.1)
-  nodes_laid own next (node.top_n_final id input) stand =
-      let below = nodes_laid own next input stand in ((steps_of s.fragments next input, refl, below.0), below.1)
-  nodes_laid own next (node.limit id step count input) stand =
-      let below = nodes_laid own next input stand in ((steps_of s.fragments next input, refl, below.0), below.1)
-  nodes_laid own next (node.limit_final id input) stand =
-      let below = nodes_laid own next input stand in ((steps_of s.fragments next input, refl, below.0), below.1)
-  nodes_laid own next (node.union id left right) stand =
+  nodes_laid own next (node.aggregate id step keys calls input) stand reads =
+      let below = nodes_laid own next input stand reads in ((steps_of s.fragments next input, refl, below.0), below.1)
+  nodes_laid own next (node.aggregate_final id input) stand reads =
+      let below = nodes_laid own next input stand reads in ((steps_of s.fragments next input, refl, below.0), below.1)
+  nodes_laid own next (node.sort id keys input) stand reads =
+      let below = nodes_laid own next input stand reads in ((steps_of s.fragments next input, refl, below.0), below.1)
+  nodes_laid own next (node.top_n id step count keys input) stand reads =
+      let below = nodes_laid own next input stand reads in ((steps_of s.fragments next input, refl, below.0), below.1)
+  nodes_laid own next (node.top_n_final id input) stand reads =
+      let below = nodes_laid own next input stand reads in ((steps_of s.fragments next input, refl, below.0), below.1)
+  nodes_laid own next (node.limit id step count input) stand reads =
+      let below = nodes_laid own next input stand reads in ((steps_of s.fragments next input, refl, below.0), below.1)
+  nodes_laid own next (node.limit_final id input) stand reads =
+      let below = nodes_laid own next input stand reads in ((steps_of s.fragments next input, refl, below.0), below.1)
+  nodes_laid own next (node.union id left right) stand reads =
       let at = next + 1 + side_count left in
       let first = pipes_of s next (side own) left in
       let second = pipes_of s at (side own) right in

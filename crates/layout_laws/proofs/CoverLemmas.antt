@@ -1,4 +1,4 @@
--- A plan that runs in pipes, with what is told of the pipes that begin below.
+-- A plan that runs in pipes, with what is said of the pipes that begin below.
 use Rattle.std.proofs.Common.{◌≡◌, ℕ, List, map, ap, Some, None, true, ◌⊎◌, inl, inr}
 use Rattle.std.specs.List.{list_any}
 use Rattle.plan_docs.specs.declared.node.NodeStep.TheVariants.{Single, Partial}
@@ -130,7 +130,8 @@ module _ (layout : List PipeForm) (Of : ℕ → Type 0) (n m from : ℕ) (parts 
   final_limit (node.top_n other Partial count keys input) h are alone taken = absurd cc
   final_limit root h are alone taken = absurd cc
 
--- at the place is a pipe of the fragment that begins below the node, or one that is told of a fragment read there
+-- at the place is a pipe of the fragment that begins below the node, or a place that
+-- `Told` gives a fragment that is read there
 abbrev pub Holds : (layout : List PipeForm) (s : Site) (Told : ℕ → ℕ → Type 0) (place own : ℕ) (x : NodeForm) (source : SourceForm) (steps : List StepForm)
     → Runs layout s own x source steps → Type 0
 Holds layout s Told place own (node.scan id table columns types) source steps r = ⊥
@@ -151,7 +152,7 @@ Holds layout s Told place own (node.union id left right) source steps r =
     ((place ≡ r.2.0) ⊎ Holds layout s Told place r.2.0 left r.2.1.pipe.source r.2.1.pipe.steps r.2.1.below)
     ⊎ ((place ≡ r.3.0) ⊎ Holds layout s Told place r.3.0 right r.3.1.pipe.source r.3.1.pipe.steps r.3.1.below)
 
--- where the root of a fragment runs, all that is told of it is at its place or below
+-- where the root of a fragment runs, each place that `Told` gives the fragment is that of the root, or below
 abbrev pub RootHolds : (layout : List PipeForm) (s : Site) (Told : ℕ → ℕ → Type 0) (number at : ℕ) → NodeForm → SourceForm → List StepForm → Type 0
 RootHolds layout s Told number at root source steps =
     (r : Runs layout s at root source steps) × ((place : ℕ) → Told number place → (place ≡ at) ⊎ Holds layout s Told place at root source steps r)

@@ -117,7 +117,7 @@ all_rise p fragments (f ∷ fs) number done h =
     let block = fragment_pipes s done target f.root in
     all_rise p fragments fs (number + 1) (done ++ block) (rising_append (length done) (length (done ++ block)) 0 done block h (block_rises s done target f.root))
 
--- two places that are told are in the order of those that tell them
+-- the places that sources name are in the order of the pipes of these sources
 behind_source : (source : SourceForm) (at : ℕ) (numbers : Series) (low : ℕ) (P : ℕ → Type 0) → source ≡ edge at numbers → Next source low P → (low ≤ at) × P (at + 1)
 behind_source source at numbers low P is h = subst (λ (x : SourceForm). Next x low P) is h
 

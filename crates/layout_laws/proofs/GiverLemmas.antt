@@ -8,7 +8,7 @@ use Rattle.plan_docs.specs.Nodes as node
 use Rattle.plan_layout.specs.Edges.{count_if}
 use Rattle.plan_layout.specs.Pipes.{PipeForm, TargetForm, cell, side, sides, result, readers, takers}
 use Rattle.plan_layout.specs.Runs.{bare}
-use Rattle.plan_layout.specs.Sides.{Site, pipe_of, pipes_of, sides_of}
+use Rattle.plan_layout.specs.Sides.{Site, built_for, pipe_of, pipes_of, sides_of}
 use Rattle.plan_layout.specs.Steps.{side_count, source_of}
 use Rattle.plan_layout.proofs.SideLemmas.{Stand, side_length}
 use Rattle.plan_spreads.proofs.EachLemmas.{Each, each_join, each_weaker}
@@ -18,7 +18,7 @@ use Rattle.layout_laws.proofs.BlockLemmas.{stand_first, stand_left, stand_next, 
 abbrev pub is_side : ℕ → TargetForm → Bool
 is_side at (side other) = other == at
 is_side at result = false
-is_side at (cell on) = false
+is_side at (cell build) = false
 is_side at (readers output other) = false
 is_side at (takers other) = false
 
@@ -111,9 +111,9 @@ module _ (s : Site) where
       let at = next + side_count left in
       let end = next + side_count (node.join id kind on filters left right) in
       let long : at ≤ end = omega arith in
-      each_join (Names own next end) (sides_of s own next left) (pipes_of s at (cell on) right)
+      each_join (Names own next end) (sides_of s own next left) (pipes_of s at (built_for id on filters) right)
       (each_weaker (Names own next at) (Names own next end) (longer own next at end long) (sides_of s own next left) (sides_name own next left)) (
-        no_side own next end (pipe_of s (at + 1) (cell on) right) (λ k is. cc is),
+        no_side own next end (pipe_of s (at + 1) (built_for id on filters) right) (λ k is. cc is),
         each_weaker (Names at (at + 1) (at + 1 + side_count right)) (Names own next end)
             (wider own at next (at + 1 + side_count right) (at + 1) end (omega arith) (omega arith) (omega arith) (omega arith) (omega arith)) (sides_of s at (at + 1) right) (sides_name at (at + 1) right),
       )
@@ -180,7 +180,7 @@ module _ (s : Site) where
   few_sides x own next (node.project id columns input) lt = few_sides x own next input lt
   few_sides x own next (node.join id kind on filters left right) lt =
       let at = next + side_count left in
-      let both = sides_append x (sides_of s own next left) (pipes_of s at (cell on) right) in
+      let both = sides_append x (sides_of s own next left) (pipes_of s at (built_for id on filters) right) in
       let parts = two_parts own next at x left right lt (omega arith) (few_sides x own next left lt) (few_sides x at (at + 1) right (omega arith)) in
       omega (arith, both, parts)
   few_sides x own next (node.aggregate id step keys calls input) lt = few_sides x own next input lt
@@ -228,13 +228,13 @@ module _ (layout : List PipeForm) (s : Site) where
   unions own next (node.project id columns input) stand here = unions own next input stand here
   unions own next (node.join id kind on filters left right) stand here =
       let at = next + side_count left in
-      let beside = pipes_of s at (cell on) right in
+      let beside = pipes_of s at (built_for id on filters) right in
       let long : next + length (sides_of s own next left) ≡ at = omega (arith, side_length s own next left) in
       let stands = stand_right layout next (sides_of s own next left) beside at long stand in
       each_join HasUnion (sides_of s own next left) beside (unions own next left (stand_left layout next (sides_of s own next left) beside stand) here) (
         (λ k is. absurd cc),
-        unions at (at + 1) right (stand_next layout at (pipe_of s (at + 1) (cell on) right) (sides_of s at (at + 1) right) stands)
-            (has_first at (pipe_of s (at + 1) (cell on) right) (sides_of s at (at + 1) right) stands),
+        unions at (at + 1) right (stand_next layout at (pipe_of s (at + 1) (built_for id on filters) right) (sides_of s at (at + 1) right) stands)
+            (has_first at (pipe_of s (at + 1) (built_for id on filters) right) (sides_of s at (at + 1) right) stands),
       )
   unions own next (node.aggregate id step keys calls input) stand here = unions own next input stand here
   unions own next (node.aggregate_final id input) stand here = unions own next input stand here
@@ -276,7 +276,7 @@ module _ (s : Site) where
   no_reader own next (node.project id columns input) = no_reader own next input
   no_reader own next (node.join id kind on filters left right) =
       let at = next + side_count left in
-      each_join NoReader (sides_of s own next left) (pipes_of s at (cell on) right) (no_reader own next left) ((λ output k is. cc is), no_reader at (at + 1) right)
+      each_join NoReader (sides_of s own next left) (pipes_of s at (built_for id on filters) right) (no_reader own next left) ((λ output k is. cc is), no_reader at (at + 1) right)
   no_reader own next (node.aggregate id step keys calls input) = no_reader own next input
   no_reader own next (node.aggregate_final id input) = no_reader own next input
   no_reader own next (node.sort id keys input) = no_reader own next input
@@ -302,7 +302,7 @@ module _ (s : Site) where
   no_result own next (node.project id columns input) = no_result own next input
   no_result own next (node.join id kind on filters left right) =
       let at = next + side_count left in
-      each_join NoResult (sides_of s own next left) (pipes_of s at (cell on) right) (no_result own next left) ((λ is. cc is), no_result at (at + 1) right)
+      each_join NoResult (sides_of s own next left) (pipes_of s at (built_for id on filters) right) (no_result own next left) ((λ is. cc is), no_result at (at + 1) right)
   no_result own next (node.aggregate id step keys calls input) = no_result own next input
   no_result own next (node.aggregate_final id input) = no_result own next input
   no_result own next (node.sort id keys input) = no_result own next input

@@ -1,5 +1,5 @@
--- The root of each fragment runs where all that is told of the fragment is below: the pipes of it and of those read in it,
--- but for those that fetch. And of fragment 0 all pipes are told.
+-- Where the root of a fragment runs, all pipes of it and of the fragments read in it stand at its place or below, but
+-- for those that fetch. Of fragment 0 these are all pipes that do not fetch.
 use Rattle.std.proofs.Common.{◌≡◌, ℕ, ◌+◌, ◌<◌, ◌≤◌, List, [], ◌++◌, length, map, false, ◌⊎◌, inl, inr, refl, sym, subst, arith, Some}
 use Rattle.std.specs.Prelude.{slice_get, ◌==◌}
 use Rattle.plan_docs.specs.Plans.{FragmentForm, PlanForm}

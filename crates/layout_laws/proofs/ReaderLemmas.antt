@@ -13,10 +13,10 @@ use Rattle.plan_layout.specs.declared.pipe.Parallelism.{Parallelism}
 use Rattle.plan_layout.specs.declared.pipe.Series.{Series}
 use Rattle.plan_layout.specs.Edges.{after, count_if, edge_numbers, fetch_of, fetches_of, is_fragment, reader_of, reads, reads_fragment, target_of}
 use Rattle.plan_layout.specs.Layouts.{driver_numbers, fragment_pipes, laid, layout_of, numbered, site_of, with_fetches}
-use Rattle.plan_layout.specs.Pipes.{PipeForm, SourceForm, TargetForm, cell, edge, fragment, readers, result, rows, side, sides, table}
+use Rattle.plan_layout.specs.Pipes.{PipeForm, SourceForm, TargetForm, edge, fragment, readers, result, rows, side, sides, table}
 use Rattle.layout_laws.specs.Readers.{IsReader, IsRootAt}
 use Rattle.plan_layout.specs.Runs.{IsLaid}
-use Rattle.plan_layout.specs.Sides.{Site, pipes_of, sides_of}
+use Rattle.plan_layout.specs.Sides.{Site, built_for, pipes_of, sides_of}
 use Rattle.plan_layout.specs.Steps.{drivers_in_task, side_count, source_of}
 use Rattle.plan_spreads.proofs.EachLemmas.{Each, each_at, each_join}
 use Rattle.plan_layout.proofs.FetchLemmas.{in_either}
@@ -45,7 +45,7 @@ module _ (number : ℕ) (s : Site) where
   node_readers own next (node.project id columns input) = node_readers own next input
   node_readers own next (node.join id kind on filters left right) =
       let at = next + side_count left in
-      let both = readers_append number (sides_of s own next left) (pipes_of s at (cell on) right) in
+      let both = readers_append number (sides_of s own next left) (pipes_of s at (built_for id on filters) right) in
       let first = node_readers own next left in
       let second = node_readers at (at + 1) right in
       omega (arith, both, first, second)
@@ -122,7 +122,7 @@ module _ (P : ℕ → Type 0) where
     side_names own next (node.project id columns input) each = side_names own next input each
     side_names own next (node.join id kind on filters left right) each =
         let at = next + side_count left in
-        each_join (PipeNames P) (sides_of s own next left) (pipes_of s at (cell on) right) (side_names own next left each.0)
+        each_join (PipeNames P) (sides_of s own next left) (pipes_of s at (built_for id on filters) right) (side_names own next left each.0)
         (own_names right each.1, side_names at (at + 1) right each.1)
     side_names own next (node.aggregate id step keys calls input) each = side_names own next input each
     side_names own next (node.aggregate_final id input) each = side_names own next input each

@@ -23,9 +23,9 @@ use Rattle.plan_spreads.proofs.ReadParts.{Reads, has_read, over_half}
 use Rattle.plan_layout.specs.declared.pipe.Parallelism.{Parallelism}
 use Rattle.plan_layout.specs.Edges.{reader_of, target_of}
 use Rattle.plan_layout.specs.Layouts.{site_of}
-use Rattle.plan_layout.specs.Pipes.{PipeForm, SourceForm, StepForm, TargetForm, aggregate, cell, fragment, readers, result, side}
+use Rattle.plan_layout.specs.Pipes.{PipeForm, SourceForm, StepForm, TargetForm, aggregate, fragment, readers, result, side}
 use Rattle.plan_layout.specs.Runs.{EndsWith, PipeAt, Runs, bare}
-use Rattle.plan_layout.specs.Sides.{Site}
+use Rattle.plan_layout.specs.Sides.{Site, built_for}
 use Rattle.plan_layout.specs.Steps.{aggregate_step, builds, final_in, final_of, final_over, is_shared}
 use Rattle.layout_laws.specs.Readers.{IsReader}
 use Rattle.layout_laws.specs.RunPipes.{Alone, OfPipe, PipeIn, Takes}
@@ -236,7 +236,9 @@ module _ (layout : List PipeForm) (p : Parallelism) (fragments : List FragmentFo
 
   node_runs : (x : NodeForm) (path : Path) (own w : ℕ) (source : SourceForm) (steps : List StepForm) → Meets first later x → Fine placement (spread path x)
       → Own own w source steps → (r : Runs bares s own x source steps) → NodeRuns x own w source steps r
-  node_runs (node.scan id place columns types) path own w source steps m fine o r = (r, λ place none. none)
+  node_runs (node.scan id place columns types) path own w source steps m fine o r =
+      let own_pipe = real layout own r.2.pipe r.2.is in
+      ((r.0, r.1, record { pipe = own_pipe.pipe; is = own_pipe.is; scan = ap (λ (q : PipeForm). q.scan) own_pipe.same ∙ r.2.scan }), λ place none. none)
   node_runs (node.values id types list) path own w source steps m fine o r = ((o.lone.unshared (ap is_shared r.0), r.0, r.1), λ place none. none)
   node_runs (node.remote id other) path own w source steps m fine o r =
       source_runs id other own w source steps o (has_read first later None other (fragment_read first later other) refl m) r.0 r.1
@@ -253,13 +255,13 @@ module _ (layout : List PipeForm) (p : Parallelism) (fragments : List FragmentFo
       let rights = fine_right placement path (spread (under path key.Left) left) (spread (under path key.Right) right) (sides_spread (node.join id kind on filters left right)) fine in
       let beside = r.1.pipe in
       let Of : ℕ → Type 0 = λ place. Holds bares s Told place r.0 right beside.source beside.steps r.1.below in
-      let built = built_runs (Runs bares s r.0 right) (Covers layout Of n (node_run first parts right)) (cell on) r.0 refl r.1
+      let built = built_runs (Runs bares s r.0 right) (Covers layout Of n (node_run first parts right)) (built_for id on filters) r.0 refl r.1
       (λ w2 o2. node_runs right (under path key.Right) r.0 w2 beside.source beside.steps m.1 rights o2 r.1.below) in
       let below = node_runs left (under path key.Left) own w source r.2.0 m.0 lefts (own_before own w source steps r.2.0 _ r.2.1 o) r.2.2 in (
         (
           r.0,
-          on,
-          refl,
+          record { join = id; on = on; filters = filters },
+          record { join = refl; pairs = refl },
           record { pipe = built.pipe; is = built.is; tasks = built.tasks; has = built.has; so = (built.so.0, built.so.1.0) },
           (r.2.0, r.2.1, below.0),
         ),

@@ -56,7 +56,7 @@ module _ (P : ℕ → Type 0) (n : ℕ) where
   each_source_of (node.union id left right) some each =
       by_either (λ h. each_source_of left h each.0) (λ h. each_source_of right h each.1) (one_of_two (reads_of n left) (reads_of n right) some)
 
--- what is told of a fragment is held where a source reads it
+-- a place that `Told` gives a fragment is held (`Holds`) where a source reads the fragment
 module _ (layout : List PipeForm) (s : Site) (Told : ℕ → ℕ → Type 0) (n place : ℕ) (told : Told n place) where
   pub source_holds : (x : NodeForm) (own : ℕ) (source : SourceForm) (steps : List StepForm) → 0 < reads_of n x → (r : Runs layout s own x source steps)
       → Holds layout s Told place own x source steps r

@@ -2,14 +2,18 @@
 -- nodes below, and where it has to see all rows of its task the pipe has one driver there.
 use Rattle.std.specs.Prelude.{◌≡◌, ◌<◌, ℕ, List, [], ◌∷◌, map, slice_get, Some}
 use Rattle.plan_docs.specs.declared.plan.Output.{Output}
-use Rattle.plan_trees.specs.declared.tree.Pair.{Pair}
 use Rattle.plan_trees.specs.TreeForms.{pair_view}
 use Rattle.plan_run_laws.specs.Nets.{IsAlone}
 use Rattle.plan_run_laws.specs.RunPlans.{RunPlan}
 use Rattle.plan_run_laws.specs.RunPlans as plan
 use Rattle.plan_spreads.specs.Runs.{output_view}
-use Rattle.plan_layout.specs.Pipes.{PipeForm, SourceForm, StepForm, TargetForm, table, rows, sides, fragment, filter, project, probe, aggregate, partial, final, sort, top_n, limit, cell, side, readers}
-use Rattle.plan_layout.specs.Runs.{EndsWith}
+use Rattle.plan_layout.specs.Pipes.{BuildForm, PipeForm, SourceForm, StepForm, TargetForm, table, rows, sides, fragment, filter, project, probe, aggregate, partial, final, sort, top_n, limit, cell, side, readers}
+use Rattle.plan_layout.specs.Runs.{EndsWith, HasScan}
+
+-- what is built is the right side of this join
+pub record IsRightSide (id : ℕ) (on : List (ℕ × ℕ)) (build : BuildForm) : Type 0 where
+  pub join : build.join ≡ id
+  pub pairs : map pair_view build.on ≡ on
 
 -- what is said of a pipe by its place, the drivers in a task, the source and the steps
 abbrev pub OfPipe : Type 1
@@ -42,7 +46,8 @@ Alone Is own w source steps = IsAlone w × Is own w source steps
 -- the pipe runs the plan in n tasks: it takes from this source, and its steps are those of the nodes from there up to
 -- this one; and the pipes that begin below run what they begin with
 abbrev pub RunsAs : List PipeForm → ℕ → RunPlan → OfPipe
-RunsAs layout n (plan.scan id place columns types) own w source steps = (source ≡ table place columns types) × (steps ≡ [])
+RunsAs layout n (plan.scan id place columns types) own w source steps =
+    (source ≡ table place columns types) × (steps ≡ []) × HasScan layout own (Some id)
 RunsAs layout n (plan.values id types list) own w source steps = IsAlone w × (source ≡ rows types list) × (steps ≡ [])
 RunsAs layout n (plan.remote id output m input) own w source steps = (steps ≡ []) × Takes layout own source output m (RunsAs layout m input)
 RunsAs layout n (plan.filter id predicate input) own w source steps =
@@ -50,8 +55,8 @@ RunsAs layout n (plan.filter id predicate input) own w source steps =
 RunsAs layout n (plan.project id columns input) own w source steps =
     EndsWith (RunsAs layout n input own w source) (project id columns ∷ []) steps
 RunsAs layout n (plan.join id kind on left right) own w source steps =
-    (at : ℕ) × (pairs : List Pair) × (map pair_view pairs ≡ on) × PipeIn layout n (cell pairs) at (Alone (RunsAs layout n right))
-    × EndsWith (RunsAs layout n left own w source) (probe id kind pairs at ∷ []) steps
+    (at : ℕ) × (build : BuildForm) × IsRightSide id on build × PipeIn layout n (cell build) at (Alone (RunsAs layout n right))
+    × EndsWith (RunsAs layout n left own w source) (probe id kind build.on at ∷ []) steps
 RunsAs layout n (plan.aggregate id keys calls input) own w source steps =
     IsAlone w × EndsWith (RunsAs layout n input own w source) (aggregate id keys calls ∷ []) steps
 RunsAs layout n (plan.aggregate_parts id remote output m keys calls input) own w source steps =

@@ -55,7 +55,7 @@ over_both comes (s ∷ own) sieves = ap (sieve_at (comes s.column) s) (over_both
     put None = refl
     put (Some c) = refl
 
--- what a sieve holds back, told by its two parts
+-- what a sieve holds back, said by its two parts
 pub back_by : (s : Sieve) (row : List Value) → s.column < length row → s.pass (cell row s.column) ≡ false → holds_back s row ≡ true
 back_by s row lt h = both (nat_lt s.column (length row)) (not (s.pass (cell row s.column))) (grind (arith, lt)) (ap not h)
 

@@ -43,7 +43,7 @@ pub record FailedFinalLosing (Fails : List (List Value) → Type 0) (tables : Ta
   pub failed : (more : List (List Value)) → MayCome (ended task driver) more
       → Fails (took task driver ++ more)
 
--- a driver failed so at the node of the id, in the node's pipeline or in one below
+-- a driver failed with this kind at the node of the id, in the node's pipeline or in one below
 abbrev pub FailedLosing : Tables → ℕ → ℕ → RunPlan → Notes → Lanes → Flags → ℕ → Fail → Type 0
 FailedLosing tables n w (plan.scan id table columns types) notes took ended node kind = ⊥
 FailedLosing tables n w (plan.values id types rows) notes took ended node kind = ⊥

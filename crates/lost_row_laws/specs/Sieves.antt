@@ -33,7 +33,7 @@ abbrev pub sieve_at : Option ℕ → Sieve → List Sieve → List Sieve
 sieve_at None s sieves = sieves
 sieve_at (Some column) s sieves = record { column = column; pass = s.pass } ∷ sieves
 
--- the sieves over the columns of an input, where `comes` tells from which of them a column comes, if from any
+-- the sieves over the columns of an input, where `comes` says from which of them a column comes, if from any
 abbrev pub over_input : (ℕ → Option ℕ) → List Sieve → List Sieve
 over_input comes [] = []
 over_input comes (s ∷ sieves) = sieve_at (comes s.column) s (over_input comes sieves)

@@ -8,7 +8,7 @@ use Rattle.sql_values.specs.declared.relational.JoinKind.{JoinKind}
 use Rattle.driver_loop.specs.Drivers.{DriverState}
 use Rattle.driver_loop.specs.contracts.stage.StageOperator.TheImpl.{ghosts}
 use Rattle.driver_loop.specs.declared.stage.Stage.{Stage}
-use Rattle.driver_loop.specs.declared.stage.Stage.TheVariants.{Filter, Final, Limit, Partial, Probe, Single, Sort, TopN}
+use Rattle.driver_loop.specs.declared.stage.Stage.TheVariants.{Dynamic, Filter, Final, Limit, Partial, Probe, Single, Sort, TopN}
 use Rattle.driver_loop.specs.declared.target.Target.{Target}
 use Rattle.driver_loop.specs.declared.target.Target.TheVariants.{Build, Deal, Put, Result}
 use Rattle.driver_net_laws.specs.Cells.{AreNamed, cell_of, cells_of, target_cell}
@@ -29,6 +29,7 @@ made_cells (Single op) = refl
 made_cells (Partial op) = refl
 made_cells (Final op) = refl
 made_cells (Probe op types) = refl
+made_cells (Dynamic op types) = refl
 
 module _ (net : NetForm) where
   abbrev Holds : ℕ × ℕ → Type 0

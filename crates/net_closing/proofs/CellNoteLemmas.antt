@@ -1,19 +1,20 @@
 -- The notes of drivers that know each cell by its bell.
-use Rattle.std.proofs.Common.{◌≡◌, ℕ, List, [], ◌∷◌, ◌++◌, map, refl, ap, sym, subst, ◌∙◌}
+use Rattle.std.proofs.Common.{◌≡◌, ℕ, List, [], ◌∷◌, ◌++◌, map, refl, ap, append-nil, sym, subst, ◌∙◌}
 use Rattle.std.specs.Prelude.{All, flat_map}
 use Rattle.std.proofs.lemmas.List.{map-append}
 use Rattle.std.proofs.lemmas.List.Elements.{All-append, All-cons, All-head, All-nil, All-tail}
 use Rattle.bag_laws.proofs.TopLemmas.{All-back, All-front}
 use Rattle.driver_loop.specs.Drivers.{DriverState}
-use Rattle.driver_loop.specs.Turns.{note_of_stage, note_of_target}
+use Rattle.driver_loop.specs.Ends.{is_build}
+use Rattle.driver_loop.specs.Turns.{note_of_stage, note_of_target, notes_of}
 use Rattle.driver_loop.specs.declared.pieces.CellNote.{CellNote}
 use Rattle.driver_loop.specs.declared.stage.Stage.{Stage}
-use Rattle.driver_loop.specs.declared.stage.Stage.TheVariants.{Filter, Final, Limit, Partial, Probe, Single, Sort, TopN}
+use Rattle.driver_loop.specs.declared.stage.Stage.TheVariants.{Dynamic, Filter, Final, Limit, Partial, Probe, Single, Sort, TopN}
 use Rattle.driver_loop.specs.declared.target.Target.{Target}
 use Rattle.driver_loop.specs.declared.target.Target.TheVariants.{Build, Deal, Put, Result}
 use Rattle.driver_net_laws.specs.Cells.{AreNamed, AreOfCells, Names, cell_of, cells_of, target_cell}
 use Rattle.driver_net_laws.specs.Settled.{builds_of, looks_of}
-use Rattle.net_closing.specs.Closing.{HaveKept}
+use Rattle.net_closing.specs.Closing.{HaveKept, IsOneIf}
 use Rattle.net_closing.specs.declared.notes.Notes.{Notes}
 
 -- the cells of notes are those of their stages and targets
@@ -29,6 +30,7 @@ stage_noted (Single op) = refl
 stage_noted (Partial op) = refl
 stage_noted (Final op) = refl
 stage_noted (Probe op types) = refl
+stage_noted (Dynamic op types) = refl
 
 stages_noted : (ss : List Stage) → map cell_noted (flat_map note_of_stage ss) ≡ flat_map cell_of ss
 stages_noted [] = refl
@@ -97,3 +99,14 @@ kept_of_cells ds old new named none empty kept =
     let looks : new.looks.items ≡ looks_of ds = kept.looks ∙ ap (λ (ns : List CellNote). ns ++ looks_of ds) none in
     let builds : new.builds.items ≡ builds_of ds = kept.builds ∙ ap (λ (ns : List CellNote). ns ++ builds_of ds) empty in
     subst (λ (ls : List CellNote). AreOfCells ls new.builds.items) (sym looks) (subst (AreOfCells (looks_of ds)) (sym builds) (of_cells ds named))
+
+-- of a target that builds there is one note, and of another one none
+pub target_is_one : (t : Target) → IsOneIf (is_build t) (note_of_target t ++ [])
+target_is_one (Result result) = refl
+target_is_one (Build b) = (record { bell = b.bell; note = b.note }, refl)
+target_is_one (Put put) = refl
+target_is_one (Deal deal) = refl
+
+-- the notes of a driver are those of its stages, and behind them that of its target
+pub notes_apart : (d : DriverState) → notes_of d ≡ looks_of (d ∷ []) ++ builds_of (d ∷ [])
+notes_apart d = λ i. sym (append-nil (flat_map note_of_stage d.stages)) i ++ sym (append-nil (note_of_target d.target)) i

@@ -8,7 +8,7 @@
 //!
 //! - `held`: what drivers hand back, by the numbers of the drivers, until it is taken (`specs/Held.antt`)
 //! - `parts`: drivers are taken apart (`specs/Left.antt`)
-//! - `notes`: what they tell of cells is compared
+//! - `notes`: what they know of cells is compared
 //! - `collect`: the seats of one edge, or of one table, are taken, in the order of `driver_net_laws`
 //! - `settle`: they are given back (`specs/Back.antt`)
 //! - `cover`: each driver is one of a pipe

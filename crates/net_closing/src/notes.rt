@@ -1,4 +1,4 @@
-//! What drivers that were taken apart tell of cells.
+//! What is known of cells from drivers that were taken apart.
 ghost use Rattle.std.specs.Prelude.{◌≡◌, ◌++◌, List, true, All, OnOk};
 ghost use Rattle.driver_net_laws.specs.Cells.{AllLearnedFrom, AreOfCells, LearnedFrom};
 ghost use Rattle.net_closing.specs.Closing.{HaveKept, IsOneIf};

@@ -1,5 +1,5 @@
 -- What a run gives whose drivers are all finished, and of what it failed where one of them did.
-use Rattle.std.proofs.Common.{◌≡◌, ◌⊎◌, inl, inr, ℕ, ◌<◌, List, [], true, false, Option, Some, None, length, refl, ap, sym, subst, ◌∙◌, arith}
+use Rattle.std.proofs.Common.{◌≡◌, ◌⊎◌, inl, inr, ℕ, ◌<◌, List, [], Bool, true, false, Option, Some, None, length, refl, ap, sym, subst, ◌∙◌, arith}
 use Rattle.std.specs.Prelude.{All, option_map, slice_get, unwrap_or}
 use Rattle.std.proofs.lemmas.Bool.{cases_Bool}
 use Rattle.std.proofs.lemmas.List.Elements.{All-contains}
@@ -7,18 +7,26 @@ use Rattle.std.proofs.lemmas.Option.{slice_get_within}
 use Rattle.sql_values.specs.declared.fail.Fail.{Fail}
 use Rattle.operator_core.specs.Calls.{IsLawful}
 use Rattle.operator_core.specs.Rows.{Row}
+use Rattle.operator_core.specs.Stages.{last_finished}
 use Rattle.plan_trees.specs.Allowed.{Gives, strict}
 use Rattle.plan_trees.specs.Stopped.{MayFail}
 use Rattle.tree_evaluator.specs.Fits.{FitsTables}
 use Rattle.pipe_laws.proofs.FitLemmas.{fits_widths}
-use Rattle.plan_run_laws.specs.Faults.{Failed}
-use Rattle.plan_run_laws.specs.Nets.{Below, IsAlone, Went, of_tasks}
+use Rattle.plan_run_laws.specs.Nets.{IsAlone, Went, of_tasks}
 use Rattle.plan_run_laws.specs.Placements.{Placed}
 use Rattle.plan_run_laws.specs.RunPlans.{RunPlan, tree_of_run}
 use Rattle.plan_run_laws.specs.Spreads.{whole}
 use Rattle.plan_run_laws.proofs.ComposeLemmas.{composed}
-use Rattle.plan_run_laws.proofs.FailedLemmas.{failed}
-use Rattle.plan_run_laws.proofs.WireLemmas.{wired}
+use Rattle.lost_row_laws.specs.Faults.{FailedLosing}
+use Rattle.lost_row_laws.specs.Nets.{BelowLosing}
+use Rattle.lost_row_laws.specs.Runs.{AreTyped}
+use Rattle.lost_row_laws.specs.Sieves.{Sieve}
+use Rattle.lost_row_laws.proofs.FailedLemmas.{failed}
+use Rattle.lost_row_laws.proofs.RestoreLemmas.{put_back}
+use Rattle.lost_row_laws.proofs.WireLemmas.{wired}
+use Rattle.sieve_laws.proofs.FailLemmas.{failed_in}
+use Rattle.sieve_laws.proofs.OverLemmas.{gave_root}
+use Rattle.sieve_laws.proofs.TypedLemmas.{typed as run_typed}
 use Rattle.driver_loop.specs.Drivers.{DriverState, HasFailed}
 use Rattle.driver_loop.specs.Ends.{has_ended, rows_handed, rows_taken, was_given}
 use Rattle.driver_turns.specs.Turns.{StageFailed}
@@ -28,18 +36,18 @@ use Rattle.driver_loop.specs.declared.target.Target.{Target}
 use Rattle.driver_loop.specs.declared.target.Target.TheVariants.{Build, Deal, Put, Result}
 use Rattle.pipe_laws.specs.Lanes.{notes_of_lanes}
 use Rattle.pipe_laws.specs.Pipes.{AreOver, HasFailing, PipeState}
-use Rattle.pipe_laws.proofs.FailLemmas.{failed_in}
-use Rattle.pipe_laws.proofs.OverLemmas.{gave_root}
 use Rattle.plan_layout.specs.Layouts.{drivers_in}
 use Rattle.plan_layout.specs.Pipes.{PipeForm, StepForm, TargetForm, driver_number, result}
 use Rattle.layout_laws.specs.Numbers.{AreNumbered}
 use Rattle.layout_laws.specs.Reached.{AreReached, IsWithin, is_fetching}
 use Rattle.layout_laws.specs.RunPipes.{PipeIn, RunsAs}
-use Rattle.driver_net_laws.specs.Nets.{AreDriversOf, AreStagesFor, IsResultTarget, IsTargetFor, NetForm}
+use Rattle.driver_net_laws.specs.Nets.{AreDriversOf, AreStagesFor, IsResultTarget, IsTargetFor, NetForm, front_stages, step_stages}
 use Rattle.driver_net_laws.specs.Settled.{AreSettled}
-use Rattle.driver_net_laws.specs.States.{WereGiven, no_pipe, pipe_of, pipe_states_of}
-use Rattle.net_laws.proofs.DriverLemmas.{Known, all_known, done_is, ended_is, pipe_at}
+use Rattle.driver_net_laws.specs.States.{Flow, IsFlowOf, no_pipe, pipe_of, pipe_states_of}
+use Rattle.net_laws.proofs.DriverLemmas.{Known, all_known, done_is, front_ended, pipe_at, took_is}
+use Rattle.net_laws.proofs.FrontLemmas.{all_for_steps, front_finished, none_in_front}
 use Rattle.net_laws.proofs.NoteLemmas.{contains_got}
+use Rattle.net_laws.specs.Sifted.{AreSiftedBy}
 use Rattle.net_laws.specs.Standing.{IsStanding}
 use Rattle.net_laws.specs.Tidy.{IsTidy}
 use Rattle.net_laws.proofs.StandLemmas.{Passes, all_stand, or_below}
@@ -50,12 +58,12 @@ result_rows (Build own) rows is given = absurd is
 result_rows (Put own) rows is given = absurd is
 result_rows (Deal own) rows is given = absurd is
 
-module _ (net : NetForm) (drivers : List DriverState) (of : AreDriversOf net drivers) (settled : AreSettled net drivers) (gave : ℕ → List Row) (given : WereGiven drivers gave) where
+module _ (net : NetForm) (drivers : List DriverState) (of : AreDriversOf net drivers) (settled : AreSettled net drivers) (flow : Flow) (flowed : IsFlowOf net.layout drivers flow) (laws : IsLawful ghosts) where
   abbrev P : ℕ → PipeState Stage
-  P = pipe_states_of net.layout drivers gave
+  P = pipe_states_of net.layout drivers flow
 
-  abbrev known : (at : ℕ) (pipe : PipeForm) → slice_get net.layout at ≡ Some pipe → (k d : ℕ) → k < pipe.tasks → d < pipe.drivers → Known net drivers gave at pipe k d
-  known = all_known net drivers gave of settled given
+  abbrev known : (at : ℕ) (pipe : PipeForm) → slice_get net.layout at ≡ Some pipe → (k d : ℕ) → k < pipe.tasks → d < pipe.drivers → Known net drivers flow at pipe k d
+  known = all_known net drivers flow of settled flowed
 
   abbrev IsOverAt : PipeState Stage → Type 0
   IsOverAt p = (k d : ℕ) → k < p.tasks → d < p.drivers → (p.ended k d ≡ true) × (p.done k d ≡ true)
@@ -63,15 +71,15 @@ module _ (net : NetForm) (drivers : List DriverState) (of : AreDriversOf net dri
   finished_at : All (λ d. d.is_finished ≡ true) drivers → (number : ℕ) (d : DriverState) → slice_get drivers number ≡ Some d → d.is_finished ≡ true
   finished_at finished number d there = All-contains (λ (e : DriverState). e.is_finished ≡ true) drivers d finished (contains_got drivers number d there)
 
-  pipe_over : All (λ d. d.is_finished ≡ true) drivers → (at : ℕ) (pipe : PipeForm) → slice_get net.layout at ≡ Some pipe → IsOverAt (pipe_of drivers gave pipe)
+  pipe_over : All (λ d. d.is_finished ≡ true) drivers → (at : ℕ) (pipe : PipeForm) → slice_get net.layout at ≡ Some pipe → IsOverAt (pipe_of drivers flow at pipe)
   pipe_over finished at pipe is k d in_task in_lane =
       let it = known at pipe is k d in_task in_lane in
-      let done = finished_at finished (driver_number pipe k d) it.driver it.there in (
-        ended_is net drivers gave at pipe k d it ∙ (it.still.over done).over.ended,
-        done_is net drivers gave at pipe k d it ∙ (it.goes.over done).1,
+      let done = (it.goes.over (finished_at finished (driver_number pipe k d) it.driver it.there)).1 in (
+        front_ended net drivers flow at pipe k d it ∙ front_finished laws pipe.steps it.driver.stages (has_ended it.driver.source) (it.goes.turns it.still.whole) done,
+        done_is net drivers flow at pipe k d it ∙ done,
       )
 
-  over_at : All (λ d. d.is_finished ≡ true) drivers → (at : ℕ) (o : Option PipeForm) → slice_get net.layout at ≡ o → IsOverAt (unwrap_or (option_map (pipe_of drivers gave) o) no_pipe)
+  over_at : All (λ d. d.is_finished ≡ true) drivers → (at : ℕ) (o : Option PipeForm) → slice_get net.layout at ≡ o → IsOverAt (unwrap_or (option_map (pipe_of drivers flow at) o) no_pipe)
   over_at finished at None is k d in_task in_lane = absurd (omega (arith, in_task))
   over_at finished at (Some pipe) is k d in_task in_lane = pipe_over finished at pipe is k d in_task in_lane
 
@@ -79,12 +87,19 @@ module _ (net : NetForm) (drivers : List DriverState) (of : AreDriversOf net dri
   all_over finished j k d in_task in_lane = over_at finished j (slice_get net.layout j) refl k d in_task in_lane
 
   -- a failing driver of a pipe is a failing lane of it
-  failing_in : (at : ℕ) (pipe : PipeForm) (is : slice_get net.layout at ≡ Some pipe) (k d : ℕ) (in_task : k < pipe.tasks) (in_lane : d < pipe.drivers) (it : Known net drivers gave at pipe k d)
+  failing_in : (at : ℕ) (pipe : PipeForm) (is : slice_get net.layout at ≡ Some pipe) (k d : ℕ) (in_task : k < pipe.tasks) (in_lane : d < pipe.drivers) (it : Known net drivers flow at pipe k d)
       (node : ℕ) (kind : Fail) → HasFailed it.driver node kind → HasFailing ghosts (P at) node kind
   failing_in at pipe is k d in_task in_lane it node kind fails =
-      let f = subst (λ (o : Option DriverState). StageFailed ghosts (unwrap_or (option_map (λ (e : DriverState). e.stages) o) [])
-      (unwrap_or (option_map (λ (e : DriverState). has_ended e.source) o) false) (unwrap_or (option_map (λ (e : DriverState). rows_taken e.source) o) []) node kind) (sym it.there) fails in
-      let here : HasFailing ghosts (pipe_of drivers gave pipe) node kind = record {
+      let none = none_in_front net at pipe k d it.driver it.is in
+      let rows : rows_taken it.driver.source ≡ flow.came at k d = sym (took_is net drivers flow at pipe k d it none) in
+      let over = has_ended it.driver.source in
+      let behind = subst (λ (ss : List Stage). StageFailed ghosts ss over (rows_taken it.driver.source) node kind) (all_for_steps net at pipe k d it.driver it.is) fails in
+      let told = subst (λ (b : Bool). StageFailed ghosts (step_stages pipe.steps it.driver.stages) b (rows_taken it.driver.source) node kind)
+      (sym (ap (last_finished ghosts over) none)) behind in
+      let took = subst (λ (taken : List Row). StageFailed ghosts (step_stages pipe.steps it.driver.stages) (last_finished ghosts over (front_stages pipe.steps it.driver.stages)) taken node kind) rows told in
+      let f = subst (λ (o : Option DriverState). StageFailed ghosts (unwrap_or (option_map (λ (e : DriverState). step_stages pipe.steps e.stages) o) [])
+      (unwrap_or (option_map (λ (e : DriverState). last_finished ghosts (has_ended e.source) (front_stages pipe.steps e.stages)) o) false) (flow.came at k d) node kind) (sym it.there) took in
+      let here : HasFailing ghosts (pipe_of drivers flow at pipe) node kind = record {
         task = k;
         driver = d;
         in_tasks = in_task;
@@ -95,31 +110,36 @@ module _ (net : NetForm) (drivers : List DriverState) (of : AreDriversOf net dri
         is = f.is;
         fails = f.after;
       } in
-      subst (λ (p : PipeState Stage). HasFailing ghosts p node kind) (sym (pipe_at net.layout drivers gave at pipe is)) here
+      subst (λ (p : PipeState Stage). HasFailing ghosts p node kind) (sym (pipe_at net.layout drivers flow at pipe is)) here
 
   -- what has no step has no stage that fails
-  never_fails : (at : ℕ) (pipe : PipeForm) (k d : ℕ) (it : Known net drivers gave at pipe k d) → pipe.steps ≡ [] → (node : ℕ) (kind : Fail) → HasFailed it.driver node kind → ⊥
+  never_fails : (at : ℕ) (pipe : PipeForm) (k d : ℕ) (it : Known net drivers flow at pipe k d) → pipe.steps ≡ [] → (node : ℕ) (kind : Fail) → HasFailed it.driver node kind → ⊥
   never_fails at pipe k d it plain node kind fails =
       let stages = subst (λ (ss : List StepForm). AreStagesFor net k (net.types at).halved ss (net.types at).taken it.driver.stages) plain it.is.stages in
       let none : length it.driver.stages ≡ 0 = ap (λ (ss : List Stage). length ss) stages in
       omega (arith, fails.there, none)
 
-  module _ (laws : IsLawful ghosts) (tidy : IsTidy net.layout) (passes : Passes net drivers gave)
+  module _ (tidy : IsTidy net.layout) (passes : Passes net drivers flow) (of_join due : ℕ → List Sieve)
       (run : RunPlan) (fits_tables : FitsTables (tree_of_run run) net.tables) (placed : Placed 1 run whole) where
-    module _ (at : ℕ) (root : PipeIn net.layout 1 result at (RunsAs net.layout 1 run)) (lone : IsAlone root.pipe.drivers) where
-      standing : IsStanding P net.tables net.layout 1 run at root.pipe root.so
-      standing = all_stand net drivers of settled gave given laws tidy passes 1 run at root.pipe root.is root.tasks root.so fits_tables
+    typed : AreTyped run
+    typed = run_typed run net.tables fits_tables
+
+    module _ (at : ℕ) (root : PipeIn net.layout 1 result at (RunsAs net.layout 1 run)) (lone : IsAlone root.pipe.drivers)
+        (sifted : AreSiftedBy drivers P of_join due net.layout [] 1 run at root.pipe.drivers root.pipe.source root.pipe.steps root.so) where
+      standing : IsStanding P of_join net.tables net.layout [] 1 run at root.pipe root.so
+      standing = all_stand net drivers of settled flow flowed laws tidy passes of_join due [] 1 run at root.pipe root.is root.tasks root.so sifted fits_tables
 
       one : (P at).drivers ≡ 1
-      one = ap (λ (p : PipeState Stage). p.drivers) (pipe_at net.layout drivers gave at root.pipe root.is) ∙ lone
+      one = ap (λ (p : PipeState Stage). p.drivers) (pipe_at net.layout drivers flow at root.pipe root.is) ∙ lone
 
       gives_allowed : All (λ d. d.is_finished ≡ true) drivers → Gives strict (tree_of_run run) net.tables ((P at).gave 0 0)
       gives_allowed finished =
-          let all = gave_root ghosts laws P net.tables (all_over finished) at run standing.is standing.on.stands in
+          let all = gave_root ghosts laws P of_join net.tables (all_over finished) at run standing.is standing.on.stands in
           let took = (P at).took in
-          let below = subst (λ (w : ℕ). Below strict net.tables 1 w run all.builds took) one all.below in
+          let below = subst (λ (w : ℕ). BelowLosing strict net.tables [] 1 w run all.builds took) one all.below in
           let went = subst (λ (w : ℕ). Went strict 1 w run all.builds took (P at).gave) one all.went in
-          composed strict net.tables (omega arith) (fits_widths (tree_of_run run) net.tables fits_tables) placed (of_tasks 1 (P at).gave) (wired strict net.tables 1 1 run all.builds took (P at).gave below went)
+          composed strict net.tables (omega arith) (fits_widths (tree_of_run run) net.tables fits_tables) placed (of_tasks 1 (P at).gave)
+          (put_back strict net.tables 1 run typed (of_tasks 1 (P at).gave) (wired strict net.tables [] 1 1 run all.builds took (P at).gave below went))
 
       pub gives : All (λ d. d.is_finished ≡ true) drivers → (d : DriverState) → slice_get drivers (driver_number root.pipe 0 0) ≡ Some d
           → Gives strict (tree_of_run run) net.tables (rows_handed d.target)
@@ -127,25 +147,27 @@ module _ (net : NetForm) (drivers : List DriverState) (of : AreDriversOf net dri
           let it = known at root.pipe root.is 0 0 (omega (arith, root.tasks)) (omega (arith, lone)) in
           let same : it.driver ≡ d = cc (it.there, there) in
           let target = subst (λ (t : TargetForm). IsTargetFor net at 0 t it.driver.target) root.has it.is.target in
-          let rows = result_rows it.driver.target (gave (driver_number root.pipe 0 0)) target it.given in
+          let rows = result_rows it.driver.target (flow.gave (driver_number root.pipe 0 0)) target it.given in
           subst (Gives strict (tree_of_run run) net.tables)
-          (ap (λ (p : PipeState Stage). p.gave 0 0) (pipe_at net.layout drivers gave at root.pipe root.is) ∙ rows ∙ ap (λ (e : DriverState). rows_handed e.target) same)
+          (ap (λ (p : PipeState Stage). p.gave 0 0) (pipe_at net.layout drivers flow at root.pipe root.is) ∙ rows ∙ ap (λ (e : DriverState). rows_handed e.target) same)
           (gives_allowed finished)
 
-    module _ (reached : AreReached net.layout run) (lone : IsAlone reached.root.pipe.drivers) (node : ℕ) (kind : Fail) where
-      stood : IsStanding P net.tables net.layout 1 run reached.at reached.root.pipe reached.root.so
-      stood = standing reached.at reached.root lone
+    module _ (reached : AreReached net.layout run) (lone : IsAlone reached.root.pipe.drivers)
+        (sifted : AreSiftedBy drivers P of_join due net.layout [] 1 run reached.at reached.root.pipe.drivers reached.root.pipe.source reached.root.pipe.steps reached.root.so)
+        (node : ℕ) (kind : Fail) where
+      stood : IsStanding P of_join net.tables net.layout [] 1 run reached.at reached.root.pipe reached.root.so
+      stood = standing reached.at reached.root lone sifted
 
       fails_in : (place : ℕ) → HasFailing ghosts (P place) node kind → (place ≡ reached.at)
           ⊎ IsWithin net.layout place 1 run reached.at reached.root.pipe.drivers reached.root.pipe.source reached.root.pipe.steps reached.root.so
           → MayFail (tree_of_run run) net.tables node kind
       fails_in place failing within =
           let notes = notes_of_lanes run (P reached.at).notes in
-          let all = failed_in ghosts laws P net.tables node kind place failing reached.at 1 run stood.is stood.on.stands (or_below (stood.on.below place) within) in
-          failed net.tables node kind (omega arith) (fits_widths (tree_of_run run) net.tables fits_tables) placed 1 notes (P reached.at).took (P reached.at).ended
-          (subst (λ (w : ℕ). Failed net.tables 1 w run notes (P reached.at).took (P reached.at).ended node kind) (one reached.at reached.root lone) all)
+          let all = failed_in ghosts laws P of_join net.tables node kind place failing [] reached.at 1 run stood.is stood.on.stands (or_below (stood.on.below place) within) in
+          failed net.tables node kind (omega arith) typed (fits_widths (tree_of_run run) net.tables fits_tables) placed 1 notes (P reached.at).took (P reached.at).ended
+          (subst (λ (w : ℕ). FailedLosing net.tables 1 w run notes (P reached.at).took (P reached.at).ended node kind) (one reached.at reached.root lone sifted) all)
 
-      by_target : (at : ℕ) (pipe : PipeForm) (is : slice_get net.layout at ≡ Some pipe) (k d : ℕ) → k < pipe.tasks → d < pipe.drivers → (it : Known net drivers gave at pipe k d)
+      by_target : (at : ℕ) (pipe : PipeForm) (is : slice_get net.layout at ≡ Some pipe) (k d : ℕ) → k < pipe.tasks → d < pipe.drivers → (it : Known net drivers flow at pipe k d)
           → HasFailed it.driver node kind → (is_fetching pipe.target ≡ true) ⊎ (is_fetching pipe.target ≡ false) → MayFail (tree_of_run run) net.tables node kind
       by_target at pipe is k d in_task in_lane it fails (inl fetches) = absurd (never_fails at pipe k d it (tidy.plain at pipe is fetches) node kind fails)
       by_target at pipe is k d in_task in_lane it fails (inr stays) = fails_in at (failing_in at pipe is k d in_task in_lane it node kind fails) (reached.each at pipe is stays)

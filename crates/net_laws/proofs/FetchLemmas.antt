@@ -3,7 +3,6 @@ use Rattle.std.proofs.Common.{◌≡◌, ℕ, ◌<◌, List, [], ◌∷◌, Bool
 use Rattle.std.specs.Prelude.{All, if◌then◌else◌}
 use Rattle.std.proofs.lemmas.Bool.{eq-eqb}
 use Rattle.std.proofs.lemmas.List.Elements.{All-head}
-use Rattle.operator_core.specs.Rows.{Row}
 use Rattle.operator_core.specs.Stages.{Linked, last_finished}
 use Rattle.output_buffer.specs.Seats.{EdgeId, GatherTakeState, SpreadPutState}
 use Rattle.driver_ends.specs.Deals.{rows_dealt}
@@ -23,6 +22,7 @@ use Rattle.source_laws.proofs.TakeLemmas.{dealt_edge_hop, fetched_edge_hop}
 use Rattle.plan_layout.specs.Pipes.{PipeForm, driver_number}
 use Rattle.driver_net_laws.specs.Nets.{AreStagesFor, IsDealFor, IsFetchFor, IsSourceFor, IsTargetFor, NetForm}
 use Rattle.driver_net_laws.specs.Settled.{GatherIsBack, SourceIsBack, deals_from, deals_in, deals_into, gather_takes_in, in_task, listed, puts_into}
+use Rattle.driver_net_laws.specs.States.{Flow}
 use Rattle.net_laws.specs.Giving.{IsPlainlyFetched}
 use Rattle.net_laws.proofs.ListLemmas.{All-flat_at, All-one, same_one}
 use Rattle.net_laws.proofs.DriverLemmas.{AllKnown, Known, alone_is, lane_is}
@@ -37,13 +37,13 @@ fetch_source_hop of source are begun drained putters keeps take one back =
     subst (λ (s : Source). Hop (rows_for putters) (rows_taken s) (has_ended s ≡ true) (AreTold putters)) (sym are.is)
     (hop_when own_drained (fetched_edge_hop putters are.fetch keeps (subst (GatherCameBack (putting_seats putters)) (sym own) back) (subst IsBegun are.is begun)))
 
-module _ (net : NetForm) (drivers : List DriverState) (gave : ℕ → List Row) (at n : ℕ) (is : IsPlainlyFetched net.layout at n)
-    (known : AllKnown net drivers gave is.fetched.place is.fetched.pipe) (back : SourceIsBack net drivers is.fetched.place is.fetched.pipe is.fetched.pipe.source)
+module _ (net : NetForm) (drivers : List DriverState) (flow : Flow) (at n : ℕ) (is : IsPlainlyFetched net.layout at n)
+    (known : AllKnown net drivers flow is.fetched.place is.fetched.pipe) (back : SourceIsBack net drivers is.fetched.place is.fetched.pipe is.fetched.pipe.source)
     (task : ℕ) (in_tasks : task < n) where
   abbrev fetcher : PipeForm
   fetcher = is.fetched.pipe
 
-  k : Known net drivers gave is.fetched.place fetcher task 0
+  k : Known net drivers flow is.fetched.place fetcher task 0
   k = known task 0 (omega (arith, is.fetched.tasks, in_tasks)) (omega (arith, is.fetched.alone))
 
   abbrev source : Source
@@ -67,7 +67,7 @@ module _ (net : NetForm) (drivers : List DriverState) (gave : ℕ → List Row) 
 
   passed_on : rows_dealt deals.deal ≡ rows_taken source
   passed_on =
-      let rows = gave (driver_number fetcher task 0) in
+      let rows = flow.gave (driver_number fetcher task 0) in
       let given = subst (λ (t : Target). was_given t rows) deals.is k.given in
       let linked = subst (λ (stages : List Stage). Linked ghosts stages (rows_taken source) rows) no_stage (k.goes.links k.still.whole) in
       given ∙ sym linked

@@ -1,3 +1,4 @@
+pub mod FrontLemmas
 pub mod ListLemmas
 pub mod DriverLemmas
 pub mod TableLemmas
@@ -14,6 +15,8 @@ pub mod NoteLemmas
 pub mod LaneLemmas
 pub mod LaterLemmas
 pub mod FitLemmas
+pub mod SiftLemmas
+pub mod PlainFrontLemmas
 pub mod StandLemmas
 pub mod EndLemmas
 pub mod PlainLemmas

@@ -132,7 +132,7 @@ module _ (layout : List PipeForm) (types : ℕ → PipeTypes) (typed : PipesAreT
       let p = r.3 in
       let lefts = run_makes n left own w source r.4.0 at r.4.2 fits.0 reads.0 in
       let rights = run_makes n right r.0 p.pipe.drivers p.pipe.source p.pipe.steps (at_pipe layout r.0 p.pipe p.is) p.so.1 fits.1 reads.1 in
-      let own_made = over own source steps r.4.0 (form.probe id kind r.1 r.0) (λ place. IsWithin layout place n left own w source r.4.0 r.4.2) (TypesOf left) r.4.1
+      let own_made = over own source steps r.4.0 (form.probe id kind r.1.on r.0) (λ place. IsWithin layout place n left own w source r.4.0 r.4.2) (TypesOf left) r.4.1
       (comes n left own w source r.4.0 at r.4.2) lefts tt in
       record {
         made = own_made.made;

@@ -29,17 +29,17 @@ use Rattle.driver_loop.specs.Turns.{note_of_stage, note_of_target}
 use Rattle.driver_loop.specs.contracts.stage.StageOperator.TheImpl.{ghosts}
 use Rattle.driver_loop.specs.declared.pieces.CellNote.{CellNote}
 use Rattle.driver_loop.specs.declared.stage.Stage.{Stage}
-use Rattle.driver_loop.specs.declared.stage.Stage.TheVariants.{Filter, Final, Limit, Partial, Probe, Single, Sort, TopN}
+use Rattle.driver_loop.specs.declared.stage.Stage.TheVariants.{Dynamic, Filter, Final, Limit, Partial, Probe, Single, Sort, TopN}
 use Rattle.pipe_laws.specs.Lanes.{Noted, first_note, other_notes}
 use Rattle.pipe_laws.specs.Pipes.{PipeState}
 use Rattle.driver_net_laws.specs.Stages.{IsProbeOf}
 use Rattle.driver_net_laws.specs.Cells.{LearnedFrom, cell_of}
 use Rattle.driver_net_laws.specs.Made.{AreMadeFor, Behind, KnowSources, note_known, notes_known}
-use Rattle.plan_layout.specs.Pipes.{PipeForm, SourceForm, StepForm, TargetForm, cell, driver_number}
+use Rattle.plan_layout.specs.Pipes.{BuildForm, PipeForm, SourceForm, StepForm, TargetForm, cell, driver_number}
 use Rattle.layout_laws.specs.RunPipes.{Alone, OfPipe, PipeIn, RunsAs}
 use Rattle.driver_net_laws.specs.Nets.{AreDriversOf, IsTargetFor, NetForm, right_columns}
 use Rattle.driver_net_laws.specs.Settled.{AreSettled, WasTakenApart, builds_of, looks_of}
-use Rattle.driver_net_laws.specs.States.{WereGiven, no_pipe, pipe_of, pipe_states_of}
+use Rattle.driver_net_laws.specs.States.{Flow, IsFlowOf, no_pipe, pipe_of, pipe_states_of}
 use Rattle.net_laws.specs.Along.{Along, BuiltTyped, bells_in}
 use Rattle.net_laws.proofs.TypeLemmas.{runs_typed}
 
@@ -65,12 +65,13 @@ probe_raw (TopN s) op types same = absurd cc
 probe_raw (Single s) op types same = absurd cc
 probe_raw (Partial s) op types same = absurd cc
 probe_raw (Final s) op types same = absurd cc
+probe_raw (Dynamic d ts) op types same = absurd cc
 probe_raw (Probe raw ts) op types same =
     let own : ts ≡ types = cc in
     let made : probe_ghosts.as_made raw ≡ op = cc in
     record { raw = raw; is = ap (λ (t : List SqlType). Probe raw t) own; made = made }
 
--- a stage that looks into no cell has no note
+-- a stage that looks into no cell of a join has no note of one
 no_note : (s : Stage) → cell_of (ghosts.as_made s) ≡ [] → note_known s ≡ []
 no_note (Filter f) apart = refl
 no_note (Limit l ts) apart = refl
@@ -80,6 +81,7 @@ no_note (Single s) apart = refl
 no_note (Partial s) apart = refl
 no_note (Final s) apart = refl
 no_note (Probe raw ts) apart = absurd cc
+no_note (Dynamic d ts) apart = refl
 
 -- the notes of the last stage come first
 notes-snoc : (before : List Stage) (last : Stage) → notes_known (before ++ last ∷ []) ≡ note_known last ++ notes_known before
@@ -149,12 +151,12 @@ record Built (given : List SqlType) (pairs : List Pair) (task : ℕ) (source : I
   by : source.keys ≡ right_columns pairs
   of : source.types ≡ given
 
-module _ (net : NetForm) (drivers : List DriverState) (of : AreDriversOf net drivers) (settled : AreSettled net drivers) (gave : ℕ → List Row) (given : WereGiven drivers gave) where
+module _ (net : NetForm) (drivers : List DriverState) (of : AreDriversOf net drivers) (settled : AreSettled net drivers) (flow : Flow) (flowed : IsFlowOf net.layout drivers flow) where
   abbrev pub P : ℕ → PipeState Stage
-  P = pipe_states_of net.layout drivers gave
+  P = pipe_states_of net.layout drivers flow
 
-  pub pipe_is : (own : ℕ) (pipe : PipeForm) → slice_get net.layout own ≡ Some pipe → P own ≡ pipe_of drivers gave pipe
-  pipe_is own pipe is = ap (λ (o : Option PipeForm). unwrap_or (option_map (pipe_of drivers gave) o) no_pipe) is
+  pub pipe_is : (own : ℕ) (pipe : PipeForm) → slice_get net.layout own ≡ Some pipe → P own ≡ pipe_of drivers flow own pipe
+  pipe_is own pipe is = ap (λ (o : Option PipeForm). unwrap_or (option_map (pipe_of drivers flow own) o) no_pipe) is
 
   pub still : (d : DriverState) → Contains drivers d → WasTakenApart d
   still d there = All-contains WasTakenApart drivers d settled.each there
@@ -164,10 +166,10 @@ module _ (net : NetForm) (drivers : List DriverState) (of : AreDriversOf net dri
       contains_flat (λ (e : DriverState). flat_map note_of_stage e.stages) drivers d (look_of op) there
       (contains_flat note_of_stage d.stages (Probe op types) (look_of op) own (Contains-push [] (look_of op)))
 
-  built_by : (n j : ℕ) (pairs : List Pair) (Is : OfPipe) (p : PipeIn net.layout n (cell pairs) j (Alone Is)) (task : ℕ) → task < n
+  built_by : (n j : ℕ) (build : BuildForm) (Is : OfPipe) (p : PipeIn net.layout n (cell build) j (Alone Is)) (task : ℕ) → task < n
       → (op : ProbeState) → Contains (looks_of drivers) (look_of op) → op.bell ≡ net.links.cells j task → (source : IndexedRows) → op.note.known ≡ Some source
-      → Built (net.types j).given pairs task source (P j)
-  built_by n j pairs Is p task lt op at rings source known =
+      → Built (net.types j).given build.on task source (P j)
+  built_by n j build Is p task lt op at rings source known =
       let lone : p.pipe.drivers ≡ 1 = p.so.0 in
       let some : 0 < p.pipe.drivers = omega (arith, lone) in
       let h = of.each j p.pipe p.is task 0 (omega (arith, lt, p.tasks)) some in
@@ -181,25 +183,25 @@ module _ (net : NetForm) (drivers : List DriverState) (of : AreDriversOf net dri
       let learned = All-contains (LearnedFrom (look_of op)) (builds_of drivers) mine all within (b.rings ∙ sym rings) source known in
       let built = subst (IsBuiltAs d.is_finished) b.is (still d there).built in
       let finished = built.2 source learned.0 learned.1 in
-      let was = given (driver_number p.pipe task 0) d h.there in
-      let rows = subst (λ t. was_given t (gave (driver_number p.pipe task 0))) b.is was.0 in
-      let own_pipe : Built (net.types j).given pairs task source (pipe_of drivers gave p.pipe) = record {
+      let was = flowed.given (driver_number p.pipe task 0) d h.there in
+      let rows = subst (λ t. was_given t (flow.gave (driver_number p.pipe task 0))) b.is was.0 in
+      let own_pipe : Built (net.types j).given build.on task source (pipe_of drivers flow j p.pipe) = record {
         lone = lone;
         done = ap (λ (o : Option DriverState). unwrap_or (option_map (λ (e : DriverState). last_finished ghosts (has_ended e.source) e.stages) o) false) h.there ∙ (was.1.over finished.0).1;
         gave = rows ∙ ap (λ (s : IndexedRows). s.rows) (sym finished.1);
         by = ap (λ (s : IndexedRows). s.keys) finished.1 ∙ b.by;
         of = ap (λ (s : IndexedRows). s.types) finished.1 ∙ b.of;
       } in
-      subst (Built (net.types j).given pairs task source) (sym (pipe_is j p.pipe p.is)) own_pipe
+      subst (Built (net.types j).given build.on task source) (sym (pipe_is j p.pipe p.is)) own_pipe
 
-  source_of : (n j : ℕ) (pairs : List Pair) (on : List (ℕ × ℕ)) (right : RunPlan) (p : PipeIn net.layout n (cell pairs) j (Alone (RunsAs net.layout n right))) → map pair_view pairs ≡ on
-      → (task : ℕ) → task < n → (source : IndexedRows) → Built (net.types j).given pairs task source (P j) → BuiltTyped (P) n right j (λ k d. [])
+  source_of : (n j : ℕ) (build : BuildForm) (on : List (ℕ × ℕ)) (right : RunPlan) (p : PipeIn net.layout n (cell build) j (Alone (RunsAs net.layout n right))) → map pair_view build.on ≡ on
+      → (task : ℕ) → task < n → (source : IndexedRows) → Built (net.types j).given build.on task source (P j) → BuiltTyped (P) n right j (λ k d. [])
       → IsSourceOf (map (λ (pair : ℕ × ℕ). pair.1) on) (types_of (tree_of_run right)) source
-  source_of n j pairs on right p same task lt source built typed =
+  source_of n j build on right p same task lt source built typed =
       let t = runs_typed net.layout net.types of.typed n right j p.pipe p.is p.so.1 in
       let types = built.of ∙ t.given in
       record {
-        by = built.by ∙ right_are pairs ∙ ap (λ (ps : List (ℕ × ℕ)). map (λ (pair : ℕ × ℕ). pair.1) ps) same;
+        by = built.by ∙ right_are build.on ∙ ap (λ (ps : List (ℕ × ℕ)). map (λ (pair : ℕ × ℕ). pair.1) ps) same;
         of = types;
         fit = subst (λ (ts : List SqlType). AllFit ts source.rows) (sym types)
             (subst (AllFit (types_of (tree_of_run right))) built.gave (typed task 0 lt (omega (arith, built.lone))));
@@ -216,7 +218,7 @@ module _ (net : NetForm) (drivers : List DriverState) (of : AreDriversOf net dri
   knows n (plan.project id columns input) own w source steps r notes typed task lt d there = knows n input own w source r.0 r.2 notes typed task lt d there
   knows n (plan.join id kind on left right) own w source steps r notes typed task lt d there = (
     (λ op types is rings x known.
-        source_of n r.0 r.1 on right r.3 r.2 task lt x
+        source_of n r.0 r.1 on right r.3 r.2.pairs task lt x
         (built_by n r.0 r.1 (RunsAs net.layout n right) r.3 task lt op (looked d op types there is) rings x known) typed.0),
     knows n left own w source r.4.0 r.4.2 (λ k e. other_notes (notes k e)) typed.1 task lt d there,
   )
@@ -257,11 +259,11 @@ module _ (net : NetForm) (drivers : List DriverState) (of : AreDriversOf net dri
   last_of d stages before last are own = own last (subst (λ (ss : List Stage). Contains ss last) (sym are) (Contains-push before last))
 
   -- a note that knows what was built, among those of a driver
-  joined : (n j : ℕ) (kind : JoinKind) (pairs : List Pair) (on : List (ℕ × ℕ)) (Is : OfPipe) (p : PipeIn net.layout n (cell pairs) j (Alone Is)) (task : ℕ) → task < n
+  joined : (n j : ℕ) (kind : JoinKind) (build : BuildForm) (on : List (ℕ × ℕ)) (Is : OfPipe) (p : PipeIn net.layout n (cell build) j (Alone Is)) (task : ℕ) → task < n
       → (d : DriverState) → Contains drivers d → (right between types : List SqlType) (last : Stage) → Contains d.stages last
       → IsProbeOf net.links.names (net.links.cells j task) kind on right between types (ghosts.as_made last)
       → (noted : Option (List Row)) × (note_known last ≡ noted ∷ []) × IsFollowed task j (noted ∷ [])
-  joined n j kind pairs on Is p task lt d there right between types last own is =
+  joined n j kind build on Is p task lt d there right between types last own is =
       let q = is.probes in
       let r = probe_raw last q.op q.types q.is in
       let at = looked d r.raw q.types there (subst (Contains d.stages) r.is own) in
@@ -270,7 +272,7 @@ module _ (net : NetForm) (drivers : List DriverState) (of : AreDriversOf net dri
         ap note_known r.is,
         (λ built same.
             let (source, known, rows) = source_known r.raw.note.known built same in
-            followed j task pairs built source (built_by n j pairs Is p task lt r.raw at rings source known) rows),
+            followed j task build.on built source (built_by n j build Is p task lt r.raw at rings source known) rows),
       )
 
   -- a stage that has no note stands behind the others

@@ -9,8 +9,8 @@ use Rattle.plan_spreads.proofs.EachLemmas.{Each, each_at, each_join}
 use Rattle.plan_layout.specs.declared.pipe.Parallelism.{Parallelism}
 use Rattle.plan_layout.specs.Edges.{edge_numbers, reads_edge, fetches_of, reader_of, target_of}
 use Rattle.plan_layout.specs.Layouts.{driver_numbers, fragment_pipes, laid, layout_of, site_of, with_fetches}
-use Rattle.plan_layout.specs.Pipes.{PipeForm, TargetForm, cell, readers, result, side}
-use Rattle.plan_layout.specs.Sides.{Site, pipe_of, pipes_of, sides_of}
+use Rattle.plan_layout.specs.Pipes.{PipeForm, TargetForm, readers, result, side}
+use Rattle.plan_layout.specs.Sides.{Site, built_for, pipe_of, pipes_of, sides_of}
 use Rattle.plan_layout.specs.Steps.{side_count}
 use Rattle.plan_layout.proofs.PipeLemmas.{each_fetch, each_numbered}
 use Rattle.layout_laws.specs.Reached.{is_fetching}
@@ -29,8 +29,8 @@ plain_sides s own next (node.filter id predicate input) = plain_sides s own next
 plain_sides s own next (node.project id columns input) = plain_sides s own next input
 plain_sides s own next (node.join id kind on filters left right) =
     let at = next + side_count left in
-    each_join IsPlain (sides_of s own next left) (pipes_of s at (cell on) right) (plain_sides s own next left)
-    (stays s (at + 1) (cell on) right refl, plain_sides s at (at + 1) right)
+    each_join IsPlain (sides_of s own next left) (pipes_of s at (built_for id on filters) right) (plain_sides s own next left)
+    (stays s (at + 1) (built_for id on filters) right refl, plain_sides s at (at + 1) right)
 plain_sides s own next (node.aggregate id step keys calls input) = plain_sides s own next input
 plain_sides s own next (node.aggregate_final id input) = plain_sides s own next input
 plain_sides s own next (node.sort id keys input) = plain_sides s own next input

@@ -24,7 +24,7 @@ use Rattle.source_laws.proofs.SentLemmas.{keeps_putter, outlet_sent}
 use Rattle.plan_layout.specs.Pipes.{PipeForm, driver_number}
 use Rattle.driver_net_laws.specs.Nets.{IsPutFor, NetForm}
 use Rattle.driver_net_laws.specs.Settled.{in_pipe, in_task, listed, of_lane, put_to}
-use Rattle.driver_net_laws.specs.States.{pipe_of}
+use Rattle.driver_net_laws.specs.States.{Flow, pipe_of}
 use Rattle.net_laws.proofs.ListLemmas.{Found, found, All-gather, All-gathered, All-left, All-one, All-right}
 use Rattle.net_laws.proofs.DriverLemmas.{Known, done_is, lane_is, map_in_pipe, map_in_task}
 
@@ -57,7 +57,7 @@ pub seats_in_pipe : (to : ℕ) (drivers : List DriverState) (pipe : PipeForm)
     → putting_seats (in_pipe (putters_in to) drivers pipe) ≡ in_pipe (put_to to) drivers pipe
 seats_in_pipe to drivers pipe = map_in_pipe (λ (p : Putter). p.outlet.seat) (putters_in to) (put_to to) (λ d. puts_seen to d.target) drivers pipe
 
--- putters that were given these rows, and for which something is done where all were told
+-- putters that were given these rows, and for which something is done where all were told to finish
 pub record Putting (putters : List Putter) (rows : List Row) (IsDone : Type 0) : Type 0 where
   pub keeps : All KeepsPutter putters
   pub given : rows_for putters ≡ rows
@@ -80,7 +80,7 @@ both_put putters others rows more IsDone AreDone first second = record {
   done = λ told. (first.done (All-left (λ (p : Putter). p.is_told ≡ true) putters others told), second.done (All-right (λ (p : Putter). p.is_told ≡ true) putters others told));
 }
 
-module _ (net : NetForm) (drivers : List DriverState) (gave : ℕ → List Row) (at : ℕ) (pipe : PipeForm) (task lane : ℕ) (k : Known net drivers gave at pipe task lane)
+module _ (net : NetForm) (drivers : List DriverState) (flow : Flow) (at : ℕ) (pipe : PipeForm) (task lane : ℕ) (k : Known net drivers flow at pipe task lane)
     (output : Output) (edges : List EdgeId) (to : ℕ) (puts : IsPutFor output edges k.driver.target) (within : to < length edges) where
   long : length puts.put.outlets ≡ length edges
   long = sym (length-map puts.put.outlets (λ (outlet : OutletState). outlet.seat.edge)) ∙ ap length puts.of
@@ -91,8 +91,8 @@ module _ (net : NetForm) (drivers : List DriverState) (gave : ℕ → List Row) 
   keeps : KeepsTarget puts.put
   keeps = subst KeepsEnds puts.is k.still.ends
 
-  has_sent : HasSent puts.put (gave (driver_number pipe task lane))
-  has_sent = subst (λ (t : Target). was_given t (gave (driver_number pipe task lane))) puts.is k.given
+  has_sent : HasSent puts.put (flow.gave (driver_number pipe task lane))
+  has_sent = subst (λ (t : Target). was_given t (flow.gave (driver_number pipe task lane))) puts.is k.given
 
   lane_putter : of_lane (putters_in to) drivers pipe task lane ≡ putter_of puts.put to here.item ∷ []
   lane_putter =
@@ -104,19 +104,19 @@ module _ (net : NetForm) (drivers : List DriverState) (gave : ℕ → List Row) 
       subst (λ (outlet : OutletState). KeepsPutter (putter_of puts.put to outlet)) here.is
       (keeps_putter puts.put to here.item keeps (omega (arith, long, within)))
 
-  rows_it : rows_for (putter_of puts.put to here.item ∷ []) ≡ sent output (length edges) to (gave (driver_number pipe task lane))
+  rows_it : rows_for (putter_of puts.put to here.item ∷ []) ≡ sent output (length edges) to (flow.gave (driver_number pipe task lane))
   rows_it =
-      ap (λ (outlet : OutletState). rows_for (putter_of puts.put to outlet ∷ [])) (sym here.is) ∙ outlet_sent puts.put (gave (driver_number pipe task lane)) (length edges) to here.item keeps has_sent long within
-      ∙ ap (λ (o : Output). sent o (length edges) to (gave (driver_number pipe task lane))) puts.sends
+      ap (λ (outlet : OutletState). rows_for (putter_of puts.put to outlet ∷ [])) (sym here.is) ∙ outlet_sent puts.put (flow.gave (driver_number pipe task lane)) (length edges) to here.item keeps has_sent long within
+      ∙ ap (λ (o : Output). sent o (length edges) to (flow.gave (driver_number pipe task lane))) puts.sends
 
-  done_it : puts.put.is_told ≡ true → (pipe_of drivers gave pipe).done task lane ≡ true
-  done_it told = done_is net drivers gave at pipe task lane k ∙ k.goes.told k.still.whole (ap is_told puts.is ∙ told)
+  done_it : puts.put.is_told ≡ true → (pipe_of drivers flow at pipe).done task lane ≡ true
+  done_it told = done_is net drivers flow at pipe task lane k ∙ k.goes.told k.still.whole (ap is_told puts.is ∙ told)
 
   -- the outlet of one driver
-  pub lane_puts : Putting (of_lane (putters_in to) drivers pipe task lane) (sent output (length edges) to (gave (driver_number pipe task lane)))
-      ((pipe_of drivers gave pipe).done task lane ≡ true)
+  pub lane_puts : Putting (of_lane (putters_in to) drivers pipe task lane) (sent output (length edges) to (flow.gave (driver_number pipe task lane)))
+      ((pipe_of drivers flow at pipe).done task lane ≡ true)
   lane_puts =
-      subst (λ list. Putting list (sent output (length edges) to (gave (driver_number pipe task lane))) ((pipe_of drivers gave pipe).done task lane ≡ true)) (sym lane_putter)
+      subst (λ list. Putting list (sent output (length edges) to (flow.gave (driver_number pipe task lane))) ((pipe_of drivers flow at pipe).done task lane ≡ true)) (sym lane_putter)
       (record {
         keeps = All-one KeepsPutter (putter_of puts.put to here.item) keeps_it;
         given = rows_it;

@@ -5,7 +5,6 @@ use Rattle.std.proofs.lemmas.List.{append-nil}
 use Rattle.std.proofs.lemmas.List.Elements.{All-same}
 use Rattle.bag_laws.specs.Gather.{gather}
 use Rattle.bag_laws.proofs.GatherLemmas.{gather-agree, gather-flat_map}
-use Rattle.operator_core.specs.Rows.{Row}
 use Rattle.driver_ends.specs.Ends.{remote_taken}
 use Rattle.driver_ends.specs.Sources.{HasRemoteTaken, IsRemoteEnded, RemoteState}
 use Rattle.driver_loop.specs.Drivers.{DriverState}
@@ -14,11 +13,12 @@ use Rattle.driver_loop.specs.Seats.{spread_take_of}
 use Rattle.driver_loop.specs.Sources.{Source, Scan, Rows, Local, Remote, Fetch}
 use Rattle.source_laws.specs.Edges.{rows_from, taking_seats}
 use Rattle.plan_layout.specs.Pipes.{PipeForm, fragment}
-use Rattle.driver_net_laws.specs.Nets.{IsRemoteFor, IsSourceFor, NetForm}
+use Rattle.driver_net_laws.specs.Nets.{IsRemoteFor, IsSourceFor, NetForm, front_stages}
 use Rattle.driver_net_laws.specs.Settled.{in_task, listed, of_lane, spread_takes_in}
-use Rattle.driver_net_laws.specs.States.{pipe_of}
+use Rattle.driver_net_laws.specs.States.{Flow, pipe_of}
 use Rattle.net_laws.proofs.ListLemmas.{All-gather, All-one}
 use Rattle.net_laws.proofs.DriverLemmas.{AllKnown, ended_is, lane_is, map_in_task, took_is}
+use Rattle.net_laws.proofs.FrontLemmas.{none_in_front}
 
 abbrev remotes_of : Source → List RemoteState
 remotes_of (Scan scan) = []
@@ -40,7 +40,7 @@ takes_seen (Fetch fetch) = refl
 pub remote_seats : (drivers : List DriverState) (pipe : PipeForm) (task : ℕ) → taking_seats (in_task remotes_in drivers pipe task) ≡ in_task spread_takes_in drivers pipe task
 remote_seats drivers pipe task = map_in_task (λ (remote : RemoteState). remote.seat) remotes_in spread_takes_in (λ d. takes_seen d.source) drivers pipe task
 
-module _ (net : NetForm) (drivers : List DriverState) (gave : ℕ → List Row) (at : ℕ) (pipe : PipeForm) (known : AllKnown net drivers gave at pipe)
+module _ (net : NetForm) (drivers : List DriverState) (flow : Flow) (at : ℕ) (pipe : PipeForm) (known : AllKnown net drivers flow at pipe)
     (number : ℕ) (reads : pipe.source ≡ fragment number) (task : ℕ) (in_tasks : task < pipe.tasks) where
   abbrev remotes : List RemoteState
   remotes = in_task remotes_in drivers pipe task
@@ -49,6 +49,9 @@ module _ (net : NetForm) (drivers : List DriverState) (gave : ℕ → List Row) 
   remote_at lane in_lanes =
       let k = known task lane in_tasks in_lanes in
       subst (λ source. IsSourceFor net at task source k.driver.source) reads k.is.source
+
+  no_front : (lane : ℕ) (in_lanes : lane < pipe.drivers) → front_stages pipe.steps (known task lane in_tasks in_lanes).driver.stages ≡ []
+  no_front lane in_lanes = let k = known task lane in_tasks in_lanes in none_in_front net at pipe task lane k.driver k.is
 
   lane_remote : (lane : ℕ) (in_lanes : lane < pipe.drivers) → of_lane remotes_in drivers pipe task lane ≡ (remote_at lane in_lanes).remote ∷ []
   lane_remote lane in_lanes =
@@ -61,23 +64,23 @@ module _ (net : NetForm) (drivers : List DriverState) (gave : ℕ → List Row) 
       let remote = (remote_at lane in_lanes).remote in
       All-same P (of_lane remotes_in drivers pipe task lane) (remote ∷ []) (lane_remote lane in_lanes) (All-one P remote (each lane in_lanes)))
 
-  lane_rows : (lane : ℕ) (in_lanes : lane < pipe.drivers) → flat_map remote_taken (of_lane remotes_in drivers pipe task lane) ≡ (pipe_of drivers gave pipe).took task lane
+  lane_rows : (lane : ℕ) (in_lanes : lane < pipe.drivers) → flat_map remote_taken (of_lane remotes_in drivers pipe task lane) ≡ (pipe_of drivers flow at pipe).took task lane
   lane_rows lane in_lanes =
       let remote = (remote_at lane in_lanes).remote in
       ap (flat_map remote_taken) (lane_remote lane in_lanes) ∙ append-nil (remote_taken remote)
-      ∙ sym (took_is net drivers gave at pipe task lane (known task lane in_tasks in_lanes) ∙ ap rows_taken (remote_at lane in_lanes).is)
+      ∙ sym (took_is net drivers flow at pipe task lane (known task lane in_tasks in_lanes) (no_front lane in_lanes) ∙ ap rows_taken (remote_at lane in_lanes).is)
 
-  pub remote_rows : rows_from remotes ≡ gather pipe.drivers ((pipe_of drivers gave pipe).took task)
+  pub remote_rows : rows_from remotes ≡ gather pipe.drivers ((pipe_of drivers flow at pipe).took task)
   remote_rows =
       gather-flat_map pipe.drivers remote_taken (of_lane remotes_in drivers pipe task)
-      ∙ gather-agree pipe.drivers (λ lane. flat_map remote_taken (of_lane remotes_in drivers pipe task lane)) ((pipe_of drivers gave pipe).took task) lane_rows
+      ∙ gather-agree pipe.drivers (λ lane. flat_map remote_taken (of_lane remotes_in drivers pipe task lane)) ((pipe_of drivers flow at pipe).took task) lane_rows
 
   pub remotes_taken : All (λ (s : RemoteState). HasRemoteTaken s (remote_taken s)) remotes
   remotes_taken =
       each_remote (λ (s : RemoteState). HasRemoteTaken s (remote_taken s)) (λ lane in_lanes. subst IsBegun (remote_at lane in_lanes).is (known task lane in_tasks in_lanes).still.begun)
 
-  pub remotes_ended : ((d : ℕ) → d < pipe.drivers → (pipe_of drivers gave pipe).ended task d ≡ true) → All IsRemoteEnded remotes
+  pub remotes_ended : ((d : ℕ) → d < pipe.drivers → (pipe_of drivers flow at pipe).ended task d ≡ true) → All IsRemoteEnded remotes
   remotes_ended set =
       each_remote IsRemoteEnded (λ lane in_lanes.
       let k = known task lane in_tasks in_lanes in
-      subst IsDrained (remote_at lane in_lanes).is (k.still.drained (sym (ended_is net drivers gave at pipe task lane k) ∙ set lane in_lanes)))
+      subst IsDrained (remote_at lane in_lanes).is (k.still.drained (sym (ended_is net drivers flow at pipe task lane k (no_front lane in_lanes)) ∙ set lane in_lanes)))

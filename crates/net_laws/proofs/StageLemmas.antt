@@ -95,9 +95,9 @@ module _ (net : NetForm) (task : ℕ) where
         let a = are_through net.layout net.types typed n input own w source r.0 at r.2 in
         let s = last_stage own input (form.project id columns) r.0 steps stages r.1 a.given all in
         record { before = s.before; last = s.last; between = types_of (tree_of_run input); are = s.are; input = are_made n input own w source r.0 s.before at r.2 s.fronts; is = s.is }
-    are_made n (plan.join id kind on left right) own w source steps stages at (j, pairs, same, p, (rest, are, so)) all =
+    are_made n (plan.join id kind on left right) own w source steps stages at (j, build, same, p, (rest, are, so)) all =
         let a = are_through net.layout net.types typed n left own w source rest at so in
-        let s = last_stage own left (form.probe id kind pairs j) rest steps stages are a.given all in
+        let s = last_stage own left (form.probe id kind build.on j) rest steps stages are a.given all in
         let built = runs_typed net.layout net.types typed n right j p.pipe p.is p.so.1 in
         record {
           before = s.before;
@@ -107,7 +107,7 @@ module _ (net : NetForm) (task : ℕ) where
           input = are_made n left own w source rest s.before at so s.fronts;
           is = subst (λ (ts : List SqlType). IsProbeOf net.links.names (net.links.cells j task) kind on ts (types_of (tree_of_run left)) (types_of (tree_of_run left) ++ ts) (ghosts.as_made s.last)) built.given
               (subst (λ (ps : List (ℕ × ℕ)). IsProbeOf net.links.names (net.links.cells j task) kind ps (net.types j).given (types_of (tree_of_run left))
-              (types_of (tree_of_run left) ++ (net.types j).given) (ghosts.as_made s.last)) same s.is);
+              (types_of (tree_of_run left) ++ (net.types j).given) (ghosts.as_made s.last)) same.pairs s.is);
         }
     are_made n (plan.aggregate id keys calls input) own w source steps stages at r all =
         let a = are_through net.layout net.types typed n input own w source r.1.0 at r.1.2 in

@@ -1,5 +1,5 @@
 -- The pipes of a layout that runs a plan, one below the other, stand as a net of pipes.
-use Rattle.std.proofs.Common.{◌≡◌, ◌⊎◌, inl, inr, ℕ, ◌<◌, List, ◌++◌, Some, true, refl, ap, sym, subst, ◌∙◌, arith}
+use Rattle.std.proofs.Common.{◌≡◌, ◌⊎◌, inl, inr, ℕ, ◌<◌, List, [], ◌++◌, Some, true, refl, ap, sym, subst, ◌∙◌, arith}
 use Rattle.std.specs.Prelude.{IsTrue, slice_get}
 use Rattle.std.proofs.lemmas.Bool.{eqb-true}
 use Rattle.sql_values.specs.declared.types.SqlType.{SqlType}
@@ -10,8 +10,10 @@ use Rattle.bag_laws.specs.Gather.{gather}
 use Rattle.std.proofs.lemmas.List.Elements.{All-append}
 use Rattle.sql_values.specs.ColumnRows.{fits_row}
 use Rattle.plan_docs.specs.declared.plan.Output.{Output}
-use Rattle.plan_trees.specs.Allowed.{scanned}
+use Rattle.sql_exprs.specs.Calm.{is_calm}
+use Rattle.plan_trees.specs.Allowed.{scanned, width_of}
 use Rattle.plan_trees.specs.TreeTypes.{types_of}
+use Rattle.column_origins.specs.Origins.{left_column, passed_column}
 use Rattle.plan_run_laws.specs.Nets.{IsAlone, of_tasks}
 use Rattle.plan_run_laws.specs.RunPlans.{RunPlan, tree_of_run}
 use Rattle.plan_run_laws.specs.RunPlans as plan
@@ -23,7 +25,10 @@ use Rattle.driver_loop.specs.Drivers.{DriverState}
 use Rattle.driver_loop.specs.contracts.stage.StageOperator.TheImpl.{ghosts}
 use Rattle.driver_loop.specs.declared.stage.Stage.{Stage}
 use Rattle.pipe_laws.specs.Lanes.{Noted, other_notes}
-use Rattle.pipe_laws.specs.Pipes.{IsHalfPipeOf, PipeState, stopped}
+use Rattle.pipe_laws.specs.Pipes.{GaveTyped, IsHalfPipeOf, PipeState, TookTyped, stopped}
+use Rattle.lost_row_laws.specs.Sieves.{Sieve, if_calm, over_input}
+use Rattle.sieve_laws.specs.ComingDown.{ComeDown}
+use Rattle.sieve_laws.specs.LosingPipes.{StandsLosing}
 use Rattle.plan_spreads.specs.Runs.{output_view}
 use Rattle.plan_layout.specs.Edges.{reads_fragment}
 use Rattle.plan_layout.specs.Pipes.{PipeForm, SourceForm, StepForm, TargetForm}
@@ -31,31 +36,34 @@ use Rattle.plan_layout.specs.Pipes as form
 use Rattle.layout_laws.specs.Givers.{HasSource, HasTarget}
 use Rattle.layout_laws.specs.Reached.{is_fetching}
 use Rattle.layout_laws.specs.RunPipes.{Into, OfPipe, PipeIn, RunsAs, Takes}
-use Rattle.driver_net_laws.specs.Nets.{AreDriversOf, NetForm}
+use Rattle.driver_net_laws.specs.Nets.{AreDriversOf, NetForm, front_stages}
 use Rattle.driver_net_laws.specs.Settled.{AreSettled}
-use Rattle.driver_net_laws.specs.States.{WereGiven, pipe_states_of}
+use Rattle.driver_net_laws.specs.States.{Flow, IsFlowOf, pipe_states_of, rows_taken_by, sources_ended}
 use Rattle.driver_net_laws.specs.Types.{gives_to}
-use Rattle.net_laws.specs.Along.{Along, Follows, GaveTyped, TookTyped}
+use Rattle.net_laws.specs.Along.{Along, Follows}
 use Rattle.net_laws.specs.Halves.{Half, half_stage, half_step, half_types, limit, partial, top_n}
 use Rattle.net_laws.proofs.LaneLemmas.{follows, half_follows, halves, halves_give, lanes, lanes_give}
 use Rattle.net_laws.specs.Giving.{AreSides, IsGiver, IsPlainlyFetched, IsRoot}
 use Rattle.net_laws.specs.Takes.{AreDoneIn, TakesRoot, TakesRows, TakesSides, TakesTable}
-use Rattle.net_laws.proofs.DriverLemmas.{pipe_at}
+use Rattle.net_laws.specs.Sifted.{AreSiftedBy, AreSifting, IsSifted, IsSure}
+use Rattle.net_laws.specs.Throughout.{Throughout}
+use Rattle.net_laws.proofs.DriverLemmas.{all_known, pipe_at}
+use Rattle.net_laws.proofs.SiftLemmas.{scan_stands, scan_typed}
 use Rattle.net_laws.specs.Standing.{IsStanding, StandsOn}
 use Rattle.net_laws.specs.Tidy.{IsTidy}
 use Rattle.net_laws.proofs.FitLemmas.{gathered_fit, one_fits, sent_fits, took_fits}
 
 -- what is known of the sources of all pipes
-pub record Passes (net : NetForm) (drivers : List DriverState) (gave : ℕ → List Row) : Type 0 where
+pub record Passes (net : NetForm) (drivers : List DriverState) (flow : Flow) : Type 0 where
   pub tables : (at : ℕ) (pipe : PipeForm) → slice_get net.layout at ≡ Some pipe → (place : ℕ) (columns : List ℕ) (kinds : List SqlType) → pipe.source ≡ form.table place columns kinds
-      → TakesTable net.tables pipe.tasks (pipe_states_of net.layout drivers gave at) place columns
+      → TakesTable net.tables pipe.tasks pipe.drivers (rows_taken_by drivers pipe) (sources_ended drivers pipe) place columns
   pub rows : (at : ℕ) (pipe : PipeForm) → slice_get net.layout at ≡ Some pipe → (kinds : List SqlType) (list : List Row) → pipe.source ≡ form.rows kinds list → IsAlone pipe.drivers
-      → TakesRows pipe.tasks (pipe_states_of net.layout drivers gave at) list
+      → TakesRows pipe.tasks (pipe_states_of net.layout drivers flow at) list
   pub sides : (at : ℕ) (pipe : PipeForm) → slice_get net.layout at ≡ Some pipe → pipe.source ≡ form.sides → IsAlone pipe.drivers → (i j : ℕ) → AreSides net.layout pipe.tasks at i j
-      → TakesSides pipe.tasks (pipe_states_of net.layout drivers gave at) (pipe_states_of net.layout drivers gave i) (pipe_states_of net.layout drivers gave j)
+      → TakesSides pipe.tasks (pipe_states_of net.layout drivers flow at) (pipe_states_of net.layout drivers flow i) (pipe_states_of net.layout drivers flow j)
   pub roots : (at : ℕ) (pipe : PipeForm) → slice_get net.layout at ≡ Some pipe → (number : ℕ) → pipe.source ≡ form.fragment number
       → (output : Output) (m j : ℕ) → IsRoot net.layout output m at j → IsPlainlyFetched net.layout at pipe.tasks → (run : RunPlan)
-      → TakesRoot pipe.tasks (pipe_states_of net.layout drivers gave at) (output_view output) m run (pipe_states_of net.layout drivers gave j)
+      → TakesRoot pipe.tasks (pipe_states_of net.layout drivers flow at) (output_view output) m run (pipe_states_of net.layout drivers flow j)
 
 either : {A B C D : Type 0} → (A → C) → (B → D) → A ⊎ B → C ⊎ D
 either f g (inl a) = inl (f a)
@@ -156,40 +164,45 @@ task_fits types n p typed k lt = gathered_fit types p.drivers (p.gave k) (λ d i
 all_fit : (types : List SqlType) (n : ℕ) (p : PipeState Stage) → GaveTyped types n p → AllFit types (gather n (of_tasks p.drivers p.gave))
 all_fit types n p typed = gathered_fit types n (of_tasks p.drivers p.gave) (task_fits types n p typed)
 
-module _ (net : NetForm) (drivers : List DriverState) (of : AreDriversOf net drivers) (settled : AreSettled net drivers) (gave : ℕ → List Row) (given : WereGiven drivers gave)
-    (laws : IsLawful ghosts) (tidy : IsTidy net.layout) (passes : Passes net drivers gave) where
+module _ (net : NetForm) (drivers : List DriverState) (of : AreDriversOf net drivers) (settled : AreSettled net drivers) (flow : Flow) (flowed : IsFlowOf net.layout drivers flow)
+    (laws : IsLawful ghosts) (tidy : IsTidy net.layout) (passes : Passes net drivers flow) (of_join due : ℕ → List Sieve) where
   abbrev P : ℕ → PipeState Stage
-  P = pipe_states_of net.layout drivers gave
+  P = pipe_states_of net.layout drivers flow
 
-  abbrev On : (n : ℕ) (run : RunPlan) (own w : ℕ) (source : SourceForm) (steps : List StepForm) → RunsAs net.layout n run own w source steps → (ℕ → ℕ → Noted) → Type 0
-  On n run own w source steps r notes = StandsOn P net.tables net.layout n run own w source steps r notes
+  abbrev On : (sieves : List Sieve) (n : ℕ) (run : RunPlan) (own w : ℕ) (source : SourceForm) (steps : List StepForm) → RunsAs net.layout n run own w source steps → (ℕ → ℕ → Noted) → Type 0
+  On sieves n run own w source steps r notes = StandsOn P of_join net.tables net.layout sieves n run own w source steps r notes
+
+  -- what is said of all scans and joins
+  abbrev Sifts : (n : ℕ) (run : RunPlan) (own w : ℕ) (source : SourceForm) (steps : List StepForm) → RunsAs net.layout n run own w source steps → Type 0
+  Sifts n run own w source steps r = Throughout (IsSifted net.layout drivers due) (IsSure P of_join) net.layout n run own w source steps r
 
   -- the first half of an operator stands behind the plan
-  record IsHalfStanding (n : ℕ) (run : RunPlan) (half : Half) (own : ℕ) (pipe : PipeForm) (r : Into (half_step half) (RunsAs net.layout n run) own pipe.drivers pipe.source pipe.steps) : Type 0 where
+  record IsHalfStanding (n : ℕ) (run : RunPlan) (half : Half) (own : ℕ) (pipe : PipeForm)
+      (r : Into (half_step half) (RunsAs net.layout n run) own pipe.drivers pipe.source pipe.steps) : Type 0 where
     is : IsHalfPipeOf ghosts n run (at_node r.0 (half_stage half)) (P own)
-    on : On n run own pipe.drivers pipe.source r.1.0 r.1.2 (P own).notes
+    on : On [] n run own pipe.drivers pipe.source r.1.0 r.1.2 (P own).notes
     fits : GaveTyped (half_types half (types_of (tree_of_run run))) n (P own)
 
-  whole : (n : ℕ) (run : RunPlan) (own : ℕ) (pipe : PipeForm) → slice_get net.layout own ≡ Some pipe → pipe.tasks ≡ n
-      → (r : RunsAs net.layout n run own pipe.drivers pipe.source pipe.steps) → On n run own pipe.drivers pipe.source pipe.steps r (P own).notes
-      → IsStanding P net.tables net.layout n run own pipe r
-  whole n run own pipe is tasks r on = record {
-    is = lanes net drivers of settled gave given n own pipe is tasks run r laws on.typed on.built;
+  whole : (sieves : List Sieve) (n : ℕ) (run : RunPlan) (own : ℕ) (pipe : PipeForm) → slice_get net.layout own ≡ Some pipe → pipe.tasks ≡ n
+      → (r : RunsAs net.layout n run own pipe.drivers pipe.source pipe.steps) → On sieves n run own pipe.drivers pipe.source pipe.steps r (P own).notes
+      → IsStanding P of_join net.tables net.layout sieves n run own pipe r
+  whole sieves n run own pipe is tasks r on = record {
+    is = lanes net drivers of settled flow flowed n own pipe is tasks run r laws on.typed on.built;
     on = on;
-    gave = lanes_give net drivers of settled gave given n own pipe is tasks run r laws on.typed on.built;
+    gave = lanes_give net drivers of settled flow flowed n own pipe is tasks run r laws on.typed on.built;
   }
 
   half_whole : (n : ℕ) (run : RunPlan) (half : Half) (own : ℕ) (pipe : PipeForm) → slice_get net.layout own ≡ Some pipe → pipe.tasks ≡ n
-      → (r : Into (half_step half) (RunsAs net.layout n run) own pipe.drivers pipe.source pipe.steps) → On n run own pipe.drivers pipe.source r.1.0 r.1.2 (P own).notes
+      → (r : Into (half_step half) (RunsAs net.layout n run) own pipe.drivers pipe.source pipe.steps) → On [] n run own pipe.drivers pipe.source r.1.0 r.1.2 (P own).notes
       → IsHalfStanding n run half own pipe r
   half_whole n run half own pipe is tasks r on = record {
-    is = halves net drivers of settled gave given n own pipe is tasks run half r laws on.typed on.built;
+    is = halves net drivers of settled flow flowed n own pipe is tasks run half r laws on.typed on.built;
     on = on;
-    fits = halves_give net drivers of settled gave given n own pipe is tasks run half r laws on.typed on.built;
+    fits = halves_give net drivers of settled flow flowed n own pipe is tasks run half r laws on.typed on.built;
   }
 
   lone : (n own w : ℕ) (source : SourceForm) → IsIn net.layout n own w source → IsAlone w → IsAlone (P own).drivers
-  lone n own w source o alone = ap (λ (p : PipeState Stage). p.drivers) (pipe_at net.layout drivers gave own o.pipe o.is) ∙ o.drivers ∙ alone
+  lone n own w source o alone = ap (λ (p : PipeState Stage). p.drivers) (pipe_at net.layout drivers flow own o.pipe o.is) ∙ o.drivers ∙ alone
 
   -- what the pipe took of the root of a fragment
   passed : (n own w : ℕ) (source : SourceForm) (output : plan.Output) (m : ℕ) (Is : OfPipe) → IsIn net.layout n own w source → (t : Takes net.layout own source output m Is) → (run : RunPlan)
@@ -205,26 +218,30 @@ module _ (net : NetForm) (drivers : List DriverState) (of : AreDriversOf net dri
       task_typed types n (P own) (λ k. sent output n k (gather m (of_tasks (P at).drivers (P at).gave))) (λ k. AllSet m (P at).drivers (P at).done) took
       (λ k in_task. sent_fits types output n k (gather m (of_tasks (P at).drivers (P at).gave)) (all_fit types m (P at) typed))
 
-  table_on : (n id place : ℕ) (columns : List ℕ) (kinds : List SqlType) (own w : ℕ) (source : SourceForm) (steps : List StepForm)
+  table_on : (sieves : List Sieve) (n id place : ℕ) (columns : List ℕ) (kinds : List SqlType) (own w : ℕ) (source : SourceForm) (steps : List StepForm)
       (r : RunsAs net.layout n (plan.scan id place columns kinds) own w source steps) (notes : ℕ → ℕ → Noted) → IsIn net.layout n own w source
-      → AllFit kinds (scanned net.tables place columns) → On n (plan.scan id place columns kinds) own w source steps r notes
-  table_on n id place columns kinds own w source steps r notes o all =
+      → AllFit kinds (scanned net.tables place columns) → ComeDown of_join due sieves (plan.scan id place columns kinds) → IsSifted net.layout drivers due id own
+      → On sieves n (plan.scan id place columns kinds) own w source steps r notes
+  table_on sieves n id place columns kinds own w source steps r notes o all down sifted =
       let reads = o.takes ∙ r.0 in
-      let took = subst (λ (i : ℕ). TakesTable net.tables i (P own) place columns) o.tasks (passes.tables own o.pipe o.is place columns kinds reads) in
+      let known = all_known net drivers flow of settled flowed own o.pipe o.is in
+      let sifting : (k d : ℕ) (in_tasks : k < o.pipe.tasks) (in_lanes : d < o.pipe.drivers) → AreSifting (due id) (front_stages o.pipe.steps (known k d in_tasks in_lanes).driver.stages) =
+      λ k d in_tasks in_lanes. sifted o.pipe o.is k d in_tasks in_lanes (known k d in_tasks in_lanes).driver (known k d in_tasks in_lanes).there in
+      let took = subst (λ (i : ℕ). TakesTable net.tables i o.pipe.drivers (rows_taken_by drivers o.pipe) (sources_ended drivers o.pipe) place columns) o.tasks
+      (passes.tables own o.pipe o.is place columns kinds reads) in
+      let at = sym (pipe_at net.layout drivers flow own o.pipe o.is) in
       record {
-        stands = took;
+        stands = subst (λ (p : PipeState Stage). StandsLosing ghosts (λ i. p) of_join net.tables sieves own n (plan.scan id place columns kinds) notes) at
+            (scan_stands net drivers flow laws own o.pipe known (due id) sieves kinds down n o.tasks sifting (scanned net.tables place columns) all took);
         below = λ at within. within;
-        typed = λ k d in_task in_lane.
-            one_fits kinds (P own).drivers ((P own).took k)
-            (one_fits kinds n (of_tasks (P own).drivers (P own).took)
-            (took_fits kinds (scanned net.tables place columns) (gather n (of_tasks (P own).drivers (P own).took)) (AllSet n (P own).drivers (P own).ended) (Unit {0}) took all) k in_task) d in_lane;
+        typed = subst (TookTyped kinds n) at (scan_typed net drivers flow laws own o.pipe known (due id) sieves kinds down n o.tasks sifting (scanned net.tables place columns) all took);
         built = tt;
       }
 
-  rows_on : (n id : ℕ) (kinds : List SqlType) (list : List Row) (own w : ℕ) (source : SourceForm) (steps : List StepForm)
+  rows_on : (sieves : List Sieve) (n id : ℕ) (kinds : List SqlType) (list : List Row) (own w : ℕ) (source : SourceForm) (steps : List StepForm)
       (r : RunsAs net.layout n (plan.values id kinds list) own w source steps) (notes : ℕ → ℕ → Noted) → IsIn net.layout n own w source
-      → AllFit kinds list → On n (plan.values id kinds list) own w source steps r notes
-  rows_on n id kinds list own w source steps r notes o all =
+      → AllFit kinds list → On sieves n (plan.values id kinds list) own w source steps r notes
+  rows_on sieves n id kinds list own w source steps r notes o all =
       let reads = o.takes ∙ r.1 in
       let took = subst (λ (i : ℕ). TakesRows i (P own) list) o.tasks (passes.rows own o.pipe o.is kinds list reads (o.drivers ∙ r.0)) in
       record {
@@ -234,11 +251,11 @@ module _ (net : NetForm) (drivers : List DriverState) (of : AreDriversOf net dri
         built = tt;
       }
 
-  union_on : (n id : ℕ) (left right : RunPlan) (own w : ℕ) (source : SourceForm) (steps : List StepForm) (r : RunsAs net.layout n (plan.union id left right) own w source steps)
+  union_on : (sieves : List Sieve) (n id : ℕ) (left right : RunPlan) (own w : ℕ) (source : SourceForm) (steps : List StepForm) (r : RunsAs net.layout n (plan.union id left right) own w source steps)
       (notes : ℕ → ℕ → Noted) → IsIn net.layout n own w source → types_of (tree_of_run left) ≡ types_of (tree_of_run right)
-      → IsStanding P net.tables net.layout n left r.3.0 r.3.1.pipe r.3.1.so → IsStanding P net.tables net.layout n right r.4.0 r.4.1.pipe r.4.1.so
-      → On n (plan.union id left right) own w source steps r notes
-  union_on n id left right own w source steps r notes o same first second =
+      → IsStanding P of_join net.tables net.layout [] n left r.3.0 r.3.1.pipe r.3.1.so → IsStanding P of_join net.tables net.layout [] n right r.4.0 r.4.1.pipe r.4.1.so
+      → On sieves n (plan.union id left right) own w source steps r notes
+  union_on sieves n id left right own w source steps r notes o same first second =
       let i = r.3.0 in
       let j = r.4.0 in
       let reads = o.takes ∙ r.1 in
@@ -257,10 +274,10 @@ module _ (net : NetForm) (drivers : List DriverState) (of : AreDriversOf net dri
       }
 
   -- a node that takes what a fragment's root gave
-  remote_on : (n id : ℕ) (output : plan.Output) (m : ℕ) (input : RunPlan) (own w : ℕ) (source : SourceForm) (steps : List StepForm)
+  remote_on : (sieves : List Sieve) (n id : ℕ) (output : plan.Output) (m : ℕ) (input : RunPlan) (own w : ℕ) (source : SourceForm) (steps : List StepForm)
       (r : RunsAs net.layout n (plan.remote id output m input) own w source steps) (notes : ℕ → ℕ → Noted) → IsIn net.layout n own w source
-      → IsStanding P net.tables net.layout m input r.1.at r.1.root.pipe r.1.root.so → On n (plan.remote id output m input) own w source steps r notes
-  remote_on n id output m input own w source steps r notes o root =
+      → IsStanding P of_join net.tables net.layout sieves m input r.1.at r.1.root.pipe r.1.root.so → On sieves n (plan.remote id output m input) own w source steps r notes
+  remote_on sieves n id output m input own w source steps r notes o root =
       let took = passed n own w source output m (RunsAs net.layout m input) o r.1 input in
       record {
         stands = (r.1.at, root.is, root.on.stands, took);
@@ -277,41 +294,42 @@ module _ (net : NetForm) (drivers : List DriverState) (of : AreDriversOf net dri
       passed_typed (half_types half (types_of (tree_of_run input))) n own output m t.at input
       (passed n own w source output m (Into (half_step half) (RunsAs net.layout m input)) o t input) root.fits
 
-  pub stand : (n : ℕ) (run : RunPlan) (own w : ℕ) (source : SourceForm) (steps : List StepForm) (r : RunsAs net.layout n run own w source steps) (notes : ℕ → ℕ → Noted)
-      → IsIn net.layout n own w source → FitsTables (tree_of_run run) net.tables → Along (Follows P own n) net.layout n run own w source steps r notes → On n run own w source steps r notes
-  stand n (plan.scan id place columns kinds) own w source steps r notes o fits follow = table_on n id place columns kinds own w source steps r notes o fits.2
-  stand n (plan.values id kinds list) own w source steps r notes o fits follow = rows_on n id kinds list own w source steps r notes o fits.1
-  stand n (plan.remote id output m input) own w source steps r notes o fits follow =
+  pub stand : (sieves : List Sieve) (n : ℕ) (run : RunPlan) (own w : ℕ) (source : SourceForm) (steps : List StepForm) (r : RunsAs net.layout n run own w source steps) (notes : ℕ → ℕ → Noted)
+      → IsIn net.layout n own w source → FitsTables (tree_of_run run) net.tables → Along (Follows P own n) net.layout n run own w source steps r notes
+      → ComeDown of_join due sieves run → Sifts n run own w source steps r → On sieves n run own w source steps r notes
+  stand sieves n (plan.scan id place columns kinds) own w source steps r notes o fits follow down sifts = table_on sieves n id place columns kinds own w source steps r notes o fits.2 down sifts
+  stand sieves n (plan.values id kinds list) own w source steps r notes o fits follow down sifts = rows_on sieves n id kinds list own w source steps r notes o fits.1
+  stand sieves n (plan.remote id output m input) own w source steps r notes o fits follow down sifts =
       let p = r.1.root in
-      let on = stand m input r.1.at p.pipe.drivers p.pipe.source p.pipe.steps p.so (P r.1.at).notes (in_it net.layout m r.1.at p.pipe p.is p.tasks) fits
-      (follows net drivers of settled gave given m r.1.at p.pipe p.is p.tasks input p.so) in
-      remote_on n id output m input own w source steps r notes o (whole m input r.1.at p.pipe p.is p.tasks p.so on)
-  stand n (plan.filter id predicate input) own w source steps r notes o fits follow =
-      let on = stand n input own w source r.0 r.2 notes o fits.1 follow in
+      let on = stand sieves m input r.1.at p.pipe.drivers p.pipe.source p.pipe.steps p.so (P r.1.at).notes (in_it net.layout m r.1.at p.pipe p.is p.tasks) fits
+      (follows net drivers of settled flow flowed m r.1.at p.pipe p.is p.tasks input p.so) down sifts in
+      remote_on sieves n id output m input own w source steps r notes o (whole sieves m input r.1.at p.pipe p.is p.tasks p.so on)
+  stand sieves n (plan.filter id predicate input) own w source steps r notes o fits follow down sifts =
+      let on = stand (if_calm (is_calm (types_of (tree_of_run input)) predicate) sieves) n input own w source r.0 r.2 notes o fits.1 follow down sifts in
       record { stands = on.stands; below = on.below; typed = on.typed; built = on.built }
-  stand n (plan.project id columns input) own w source steps r notes o fits follow =
-      let on = stand n input own w source r.0 r.2 notes o fits.2 follow in
+  stand sieves n (plan.project id columns input) own w source steps r notes o fits follow down sifts =
+      let on = stand (over_input (passed_column (types_of (tree_of_run input)) columns) sieves) n input own w source r.0 r.2 notes o fits.2 follow down sifts in
       record { stands = on.stands; below = on.below; typed = on.typed; built = on.built }
-  stand n (plan.join id kind columns left right) own w source steps r notes o fits follow =
+  stand sieves n (plan.join id kind columns left right) own w source steps r notes o fits follow down sifts =
       let p = r.3 in
-      let right_on = stand n right r.0 p.pipe.drivers p.pipe.source p.pipe.steps p.so.1 (P r.0).notes (in_it net.layout n r.0 p.pipe p.is p.tasks) fits.1
-      (follows net drivers of settled gave given n r.0 p.pipe p.is p.tasks right p.so.1) in
-      let built = whole n right r.0 p.pipe p.is p.tasks p.so.1 right_on in
-      let on = stand n left own w source r.4.0 r.4.2 (λ k d. other_notes (notes k d)) o fits.0 follow.1 in
+      let right_on = stand [] n right r.0 p.pipe.drivers p.pipe.source p.pipe.steps p.so.1 (P r.0).notes (in_it net.layout n r.0 p.pipe p.is p.tasks) fits.1
+      (follows net drivers of settled flow flowed n r.0 p.pipe p.is p.tasks right p.so.1) down.1 sifts.1 in
+      let built = whole [] n right r.0 p.pipe p.is p.tasks p.so.1 right_on in
+      let on = stand (over_input (left_column kind (width_of (tree_of_run left))) (of_join id ++ sieves)) n left own w source r.4.0 r.4.2 (λ k d. other_notes (notes k d)) o fits.0 follow.1 down.0 sifts.2 in
       record {
-        stands = (r.0, built.is, built.on.stands, follow.0, on.stands);
+        stands = (r.0, built.is, built.on.stands, follow.0, sifts.0, built.gave, on.stands);
         below = λ place within. either (or_below (built.on.below place)) (on.below place) within;
         typed = on.typed;
         built = (built.gave, on.built);
       }
-  stand n (plan.aggregate id keys calls input) own w source steps r notes o fits follow =
-      let on = stand n input own w source r.1.0 r.1.2 notes o fits.2 follow in
+  stand sieves n (plan.aggregate id keys calls input) own w source steps r notes o fits follow down sifts =
+      let on = stand [] n input own w source r.1.0 r.1.2 notes o fits.2 follow down sifts in
       record { stands = (lone n own w source o r.0, on.stands); below = on.below; typed = on.typed; built = on.built }
-  stand n (plan.aggregate_parts id remote output m keys calls input) own w source steps r notes o fits follow =
+  stand sieves n (plan.aggregate_parts id remote output m keys calls input) own w source steps r notes o fits follow down sifts =
       let t = r.2 in
       let p = t.root in
-      let on = stand m input t.at p.pipe.drivers p.pipe.source p.so.1.0 p.so.1.2 (P t.at).notes (in_it net.layout m t.at p.pipe p.is p.tasks) fits.2
-      (half_follows net drivers of settled gave given m t.at p.pipe p.is p.tasks input (partial keys calls) p.so) in
+      let on = stand [] m input t.at p.pipe.drivers p.pipe.source p.so.1.0 p.so.1.2 (P t.at).notes (in_it net.layout m t.at p.pipe p.is p.tasks) fits.2
+      (half_follows net drivers of settled flow flowed m t.at p.pipe p.is p.tasks input (partial keys calls) p.so) down sifts in
       let root = half_whole m input (partial keys calls) t.at p.pipe p.is p.tasks p.so on in
       record {
         stands = (t.at, p.so.0, lone n own w source o r.0, root.is, root.on.stands, passed n own w source output m (Into (half_step (partial keys calls)) (RunsAs net.layout m input)) o t input);
@@ -319,17 +337,17 @@ module _ (net : NetForm) (drivers : List DriverState) (of : AreDriversOf net dri
         typed = half_typed n own w source output m input (partial keys calls) o t root;
         built = tt;
       }
-  stand n (plan.sort id keys input) own w source steps r notes o fits follow =
-      let on = stand n input own w source r.1.0 r.1.2 notes o fits follow in
+  stand sieves n (plan.sort id keys input) own w source steps r notes o fits follow down sifts =
+      let on = stand [] n input own w source r.1.0 r.1.2 notes o fits follow down sifts in
       record { stands = (lone n own w source o r.0, on.stands); below = on.below; typed = on.typed; built = on.built }
-  stand n (plan.topn id count keys input) own w source steps r notes o fits follow =
-      let on = stand n input own w source r.1.0 r.1.2 notes o fits follow in
+  stand sieves n (plan.topn id count keys input) own w source steps r notes o fits follow down sifts =
+      let on = stand [] n input own w source r.1.0 r.1.2 notes o fits follow down sifts in
       record { stands = (lone n own w source o r.0, on.stands); below = on.below; typed = on.typed; built = on.built }
-  stand n (plan.topn_parts id remote output m count keys input) own w source steps r notes o fits follow =
+  stand sieves n (plan.topn_parts id remote output m count keys input) own w source steps r notes o fits follow down sifts =
       let t = r.2 in
       let p = t.root in
-      let on = stand m input t.at p.pipe.drivers p.pipe.source p.so.1.0 p.so.1.2 (P t.at).notes (in_it net.layout m t.at p.pipe p.is p.tasks) fits
-      (half_follows net drivers of settled gave given m t.at p.pipe p.is p.tasks input (top_n count keys) p.so) in
+      let on = stand [] m input t.at p.pipe.drivers p.pipe.source p.so.1.0 p.so.1.2 (P t.at).notes (in_it net.layout m t.at p.pipe p.is p.tasks) fits
+      (half_follows net drivers of settled flow flowed m t.at p.pipe p.is p.tasks input (top_n count keys) p.so) down sifts in
       let root = half_whole m input (top_n count keys) t.at p.pipe p.is p.tasks p.so on in
       record {
         stands = (t.at, p.so.0, lone n own w source o r.0, root.is, root.on.stands, passed n own w source output m (Into (half_step (top_n count keys)) (RunsAs net.layout m input)) o t input);
@@ -337,14 +355,14 @@ module _ (net : NetForm) (drivers : List DriverState) (of : AreDriversOf net dri
         typed = half_typed n own w source output m input (top_n count keys) o t root;
         built = tt;
       }
-  stand n (plan.limit id count input) own w source steps r notes o fits follow =
-      let on = stand n input own w source r.1.0 r.1.2 notes o fits follow in
+  stand sieves n (plan.limit id count input) own w source steps r notes o fits follow down sifts =
+      let on = stand [] n input own w source r.1.0 r.1.2 notes o fits follow down sifts in
       record { stands = (lone n own w source o r.0, on.stands); below = on.below; typed = on.typed; built = on.built }
-  stand n (plan.limit_parts id remote output m count input) own w source steps r notes o fits follow =
+  stand sieves n (plan.limit_parts id remote output m count input) own w source steps r notes o fits follow down sifts =
       let t = r.2 in
       let p = t.root in
-      let on = stand m input t.at p.pipe.drivers p.pipe.source p.so.1.0 p.so.1.2 (P t.at).notes (in_it net.layout m t.at p.pipe p.is p.tasks) fits
-      (half_follows net drivers of settled gave given m t.at p.pipe p.is p.tasks input (limit count) p.so) in
+      let on = stand [] m input t.at p.pipe.drivers p.pipe.source p.so.1.0 p.so.1.2 (P t.at).notes (in_it net.layout m t.at p.pipe p.is p.tasks) fits
+      (half_follows net drivers of settled flow flowed m t.at p.pipe p.is p.tasks input (limit count) p.so) down sifts in
       let root = half_whole m input (limit count) t.at p.pipe p.is p.tasks p.so on in
       record {
         stands = (t.at, p.so.0, lone n own w source o r.0, root.is, root.on.stands, passed n own w source output m (Into (half_step (limit count)) (RunsAs net.layout m input)) o t input);
@@ -352,17 +370,18 @@ module _ (net : NetForm) (drivers : List DriverState) (of : AreDriversOf net dri
         typed = half_typed n own w source output m input (limit count) o t root;
         built = tt;
       }
-  stand n (plan.union id left right) own w source steps r notes o fits follow =
+  stand sieves n (plan.union id left right) own w source steps r notes o fits follow down sifts =
       let p = r.3.1 in
       let q = r.4.1 in
-      let first = stand n left r.3.0 p.pipe.drivers p.pipe.source p.pipe.steps p.so (P r.3.0).notes (in_it net.layout n r.3.0 p.pipe p.is p.tasks) fits.1
-      (follows net drivers of settled gave given n r.3.0 p.pipe p.is p.tasks left p.so) in
-      let second = stand n right r.4.0 q.pipe.drivers q.pipe.source q.pipe.steps q.so (P r.4.0).notes (in_it net.layout n r.4.0 q.pipe q.is q.tasks) fits.2
-      (follows net drivers of settled gave given n r.4.0 q.pipe q.is q.tasks right q.so) in
-      union_on n id left right own w source steps r notes o fits.0 (whole n left r.3.0 p.pipe p.is p.tasks p.so first) (whole n right r.4.0 q.pipe q.is q.tasks q.so second)
+      let first = stand [] n left r.3.0 p.pipe.drivers p.pipe.source p.pipe.steps p.so (P r.3.0).notes (in_it net.layout n r.3.0 p.pipe p.is p.tasks) fits.1
+      (follows net drivers of settled flow flowed n r.3.0 p.pipe p.is p.tasks left p.so) down.0 sifts.0 in
+      let second = stand [] n right r.4.0 q.pipe.drivers q.pipe.source q.pipe.steps q.so (P r.4.0).notes (in_it net.layout n r.4.0 q.pipe q.is q.tasks) fits.2
+      (follows net drivers of settled flow flowed n r.4.0 q.pipe q.is q.tasks right q.so) down.1 sifts.1 in
+      union_on sieves n id left right own w source steps r notes o fits.0 (whole [] n left r.3.0 p.pipe p.is p.tasks p.so first) (whole [] n right r.4.0 q.pipe q.is q.tasks q.so second)
 
-  pub all_stand : (n : ℕ) (run : RunPlan) (own : ℕ) (pipe : PipeForm) → slice_get net.layout own ≡ Some pipe → pipe.tasks ≡ n
-      → (r : RunsAs net.layout n run own pipe.drivers pipe.source pipe.steps) → FitsTables (tree_of_run run) net.tables → IsStanding P net.tables net.layout n run own pipe r
-  all_stand n run own pipe is tasks r fits =
-      whole n run own pipe is tasks r (stand n run own pipe.drivers pipe.source pipe.steps r (P own).notes (in_it net.layout n own pipe is tasks) fits
-      (follows net drivers of settled gave given n own pipe is tasks run r))
+  pub all_stand : (sieves : List Sieve) (n : ℕ) (run : RunPlan) (own : ℕ) (pipe : PipeForm) → slice_get net.layout own ≡ Some pipe → pipe.tasks ≡ n
+      → (r : RunsAs net.layout n run own pipe.drivers pipe.source pipe.steps) → AreSiftedBy drivers P of_join due net.layout sieves n run own pipe.drivers pipe.source pipe.steps r
+      → FitsTables (tree_of_run run) net.tables → IsStanding P of_join net.tables net.layout sieves n run own pipe r
+  all_stand sieves n run own pipe is tasks r sifted fits =
+      whole sieves n run own pipe is tasks r (stand sieves n run own pipe.drivers pipe.source pipe.steps r (P own).notes (in_it net.layout n own pipe is tasks) fits
+      (follows net drivers of settled flow flowed n own pipe is tasks run r) sifted.down sifted.all)

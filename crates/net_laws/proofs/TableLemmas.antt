@@ -6,7 +6,6 @@ use Rattle.std.proofs.lemmas.List.Elements.{All-same}
 use Rattle.sql_values.specs.declared.types.SqlType.{SqlType}
 use Rattle.bag_laws.specs.Gather.{gather}
 use Rattle.bag_laws.proofs.GatherLemmas.{gather-agree, gather-flat_map}
-use Rattle.operator_core.specs.Rows.{Row}
 use Rattle.split_source.specs.Gathered.{AreDistinct, AreWhole}
 use Rattle.split_source.specs.Scans.{ScanState, given}
 use Rattle.split_source.specs.Seats.{AreAllOf}
@@ -22,9 +21,9 @@ use Rattle.source_laws.proofs.ScanLemmas.{scans_hop}
 use Rattle.plan_layout.specs.Pipes.{PipeForm, table}
 use Rattle.driver_net_laws.specs.Nets.{IsScanFor, IsSourceFor, NetForm}
 use Rattle.driver_net_laws.specs.Settled.{SourceIsBack, claims_in, in_pipe, in_task, listed, of_lane}
-use Rattle.driver_net_laws.specs.States.{pipe_of}
+use Rattle.driver_net_laws.specs.States.{Flow, rows_taken_by, sources_ended}
 use Rattle.net_laws.proofs.ListLemmas.{All-gather, All-one, some_gathered}
-use Rattle.net_laws.proofs.DriverLemmas.{AllKnown, ended_is, lane_is, map_in_pipe, took_is}
+use Rattle.net_laws.proofs.DriverLemmas.{AllKnown, lane_is, map_in_pipe, source_ended, source_took}
 
 abbrev scans_of : Source → List ScanState
 scans_of (Scan scan) = scan ∷ []
@@ -43,7 +42,7 @@ claims_seen (Local local) = refl
 claims_seen (Remote remote) = refl
 claims_seen (Fetch fetch) = refl
 
-module _ (net : NetForm) (drivers : List DriverState) (gave : ℕ → List Row) (at : ℕ) (pipe : PipeForm) (known : AllKnown net drivers gave at pipe)
+module _ (net : NetForm) (drivers : List DriverState) (flow : Flow) (at : ℕ) (pipe : PipeForm) (known : AllKnown net drivers flow at pipe)
     (place : ℕ) (columns : List ℕ) (kinds : List SqlType) (reads : pipe.source ≡ table place columns kinds) (back : SourceIsBack net drivers at pipe pipe.source) where
   abbrev scans : List ScanState
   scans = in_pipe scans_in drivers pipe
@@ -68,24 +67,24 @@ module _ (net : NetForm) (drivers : List DriverState) (gave : ℕ → List Row) 
       All-same P (of_lane scans_in drivers pipe task lane) (scan ∷ []) (lane_scan task lane in_tasks in_lanes) (All-one P scan (each task lane in_tasks in_lanes))))
 
   lane_rows : (task lane : ℕ) (in_tasks : task < pipe.tasks) (in_lanes : lane < pipe.drivers)
-      → flat_map given (of_lane scans_in drivers pipe task lane) ≡ (pipe_of drivers gave pipe).took task lane
+      → flat_map given (of_lane scans_in drivers pipe task lane) ≡ rows_taken_by drivers pipe task lane
   lane_rows task lane in_tasks in_lanes =
       let scan = (scan_at task lane in_tasks in_lanes).scan in
       ap (flat_map given) (lane_scan task lane in_tasks in_lanes) ∙ append-nil (given scan)
-      ∙ sym (took_is net drivers gave at pipe task lane (known task lane in_tasks in_lanes) ∙ ap rows_taken (scan_at task lane in_tasks in_lanes).is)
+      ∙ sym (source_took net drivers flow at pipe task lane (known task lane in_tasks in_lanes) ∙ ap rows_taken (scan_at task lane in_tasks in_lanes).is)
 
-  all_rows : rows_scanned scans ≡ gather pipe.tasks (of_tasks pipe.drivers (pipe_of drivers gave pipe).took)
+  all_rows : rows_scanned scans ≡ gather pipe.tasks (of_tasks pipe.drivers (rows_taken_by drivers pipe))
   all_rows =
       gather-flat_map pipe.tasks given (in_task scans_in drivers pipe)
-      ∙ gather-agree pipe.tasks (λ task. flat_map given (in_task scans_in drivers pipe task)) (of_tasks pipe.drivers (pipe_of drivers gave pipe).took) (λ task in_tasks.
+      ∙ gather-agree pipe.tasks (λ task. flat_map given (in_task scans_in drivers pipe task)) (of_tasks pipe.drivers (rows_taken_by drivers pipe)) (λ task in_tasks.
       gather-flat_map pipe.drivers given (of_lane scans_in drivers pipe task)
-      ∙ gather-agree pipe.drivers (λ lane. flat_map given (of_lane scans_in drivers pipe task lane)) ((pipe_of drivers gave pipe).took task) (λ lane in_lanes.
+      ∙ gather-agree pipe.drivers (λ lane. flat_map given (of_lane scans_in drivers pipe task lane)) (rows_taken_by drivers pipe task) (λ lane in_lanes.
       lane_rows task lane in_tasks in_lanes))
 
-  all_ended : AllSet pipe.tasks pipe.drivers (pipe_of drivers gave pipe).ended → AreEnded scans
+  all_ended : AllSet pipe.tasks pipe.drivers (sources_ended drivers pipe) → AreEnded scans
   all_ended set =
       each_scan (λ (scan : ScanState). scan.seat.is_ended ≡ true) (λ task lane in_tasks in_lanes.
-      sym (ap has_ended (scan_at task lane in_tasks in_lanes).is) ∙ sym (ended_is net drivers gave at pipe task lane (known task lane in_tasks in_lanes)) ∙ set task lane in_tasks in_lanes)
+      sym (ap has_ended (scan_at task lane in_tasks in_lanes).is) ∙ sym (source_ended net drivers flow at pipe task lane (known task lane in_tasks in_lanes)) ∙ set task lane in_tasks in_lanes)
 
   all_drained : AreDrained scans
   all_drained =
@@ -112,8 +111,8 @@ module _ (net : NetForm) (drivers : List DriverState) (gave : ℕ → List Row) 
         count = one.count;
       }
 
-  pub table_hop : Hop (scanned net.tables place columns) (gather pipe.tasks (of_tasks pipe.drivers (pipe_of drivers gave pipe).took))
-      (AllSet pipe.tasks pipe.drivers (pipe_of drivers gave pipe).ended) (Unit {0})
+  pub table_hop : Hop (scanned net.tables place columns) (gather pipe.tasks (of_tasks pipe.drivers (rows_taken_by drivers pipe)))
+      (AllSet pipe.tasks pipe.drivers (sources_ended drivers pipe)) (Unit {0})
   table_hop =
       hop_when all_ended (subst (λ rows. Hop (scanned net.tables place columns) rows (AreEnded scans) (Unit {0})) all_rows
       (scans_hop (table_rows net.tables place) columns net.split scans are_scans

@@ -111,10 +111,10 @@ module _ (layout : List PipeForm) (types : ℕ → PipeTypes) where
         behind own input (plan.filter id predicate input) (form.filter id predicate) r.0 steps r.1 (are_through n input own w source r.0 at r.2) refl refl
     are_through n (plan.project id columns input) own w source steps at r =
         behind own input (plan.project id columns input) (form.project id columns) r.0 steps r.1 (are_through n input own w source r.0 at r.2) refl refl
-    are_through n (plan.join id kind on left right) own w source steps at (j, pairs, same, p, (rest, are, so)) =
+    are_through n (plan.join id kind on left right) own w source steps at (j, build, same, p, (rest, are, so)) =
         let right_is = are_through n right j p.pipe.drivers p.pipe.source p.pipe.steps (at_pipe layout j p.pipe p.is) p.so.1 in
         let built = all_given j p.pipe right p.is right_is in
-        behind own left (plan.join id kind on left right) (form.probe id kind pairs j) rest steps are (are_through n left own w source rest at so) refl
+        behind own left (plan.join id kind on left right) (form.probe id kind build.on j) rest steps are (are_through n left own w source rest at so) refl
         (ap (λ (ts : List SqlType). types_of (tree_of_run left) ++ ts) built.given)
     are_through n (plan.aggregate id keys calls input) own w source steps at r =
         behind own input (plan.aggregate id keys calls input) (form.aggregate id keys calls) r.1.0 steps r.1.1 (are_through n input own w source r.1.0 at r.1.2) refl refl

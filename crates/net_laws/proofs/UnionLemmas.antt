@@ -18,9 +18,10 @@ use Rattle.source_laws.proofs.TakeLemmas.{local_edge_hop}
 use Rattle.plan_layout.specs.Pipes.{PipeForm, driver_number, sides, side}
 use Rattle.driver_net_laws.specs.Nets.{IsLocalFor, IsPutFor, IsSourceFor, IsTargetFor, NetForm}
 use Rattle.driver_net_laws.specs.Settled.{GatherIsBack, SourceIsBack, gather_takes_in, in_task, listed, of_lane, put_to, puts_into}
-use Rattle.driver_net_laws.specs.States.{pipe_of}
+use Rattle.driver_net_laws.specs.States.{Flow, pipe_of}
 use Rattle.net_laws.specs.Giving.{AreSides, IsGiver}
 use Rattle.net_laws.proofs.DriverLemmas.{AllKnown, Known, alone_is, lane_is}
+use Rattle.net_laws.proofs.FrontLemmas.{none_in_front}
 use Rattle.net_laws.proofs.GiveLemmas.{puts_of_sides}
 use Rattle.net_laws.proofs.ListLemmas.{same_one}
 use Rattle.net_laws.proofs.PutLemmas.{Putting, both_put, gather_puts, lane_puts, putters_in, seats_in_task}
@@ -47,15 +48,15 @@ hop_swapped A B hop = record {
 abbrev seat_of : Putter → GatherPutState
 seat_of p = p.outlet.seat
 
-abbrev rows_of_side : List DriverState → (ℕ → List Row) → PipeForm → ℕ → List Row
-rows_of_side drivers gave pipe task = of_tasks pipe.drivers (pipe_of drivers gave pipe).gave task
+abbrev rows_of_side : List DriverState → Flow → ℕ → PipeForm → ℕ → List Row
+rows_of_side drivers flow at pipe task = of_tasks pipe.drivers (pipe_of drivers flow at pipe).gave task
 
-abbrev IsSideDone : List DriverState → (ℕ → List Row) → PipeForm → ℕ → Type 0
-IsSideDone drivers gave pipe task = (e : ℕ) → e < pipe.drivers → (pipe_of drivers gave pipe).done task e ≡ true
+abbrev IsSideDone : List DriverState → Flow → ℕ → PipeForm → ℕ → Type 0
+IsSideDone drivers flow at pipe task = (e : ℕ) → e < pipe.drivers → (pipe_of drivers flow at pipe).done task e ≡ true
 
 -- what the drivers of one side put in a task
-module _ (net : NetForm) (drivers : List DriverState) (gave : ℕ → List Row) (n at place : ℕ) (giver : IsGiver net.layout n (side at) place)
-    (known : AllKnown net drivers gave place giver.pipe) (task : ℕ) (in_tasks : task < n) where
+module _ (net : NetForm) (drivers : List DriverState) (flow : Flow) (n at place : ℕ) (giver : IsGiver net.layout n (side at) place)
+    (known : AllKnown net drivers flow place giver.pipe) (task : ℕ) (in_tasks : task < n) where
   has_task : task < giver.pipe.tasks
   has_task = omega (arith, giver.tasks, in_tasks)
 
@@ -64,15 +65,15 @@ module _ (net : NetForm) (drivers : List DriverState) (gave : ℕ → List Row) 
       let k = known task lane has_task in_lanes in
       subst (λ target. IsTargetFor net place task target k.driver.target) giver.has k.is.target
 
-  side_puts : Putting (in_task (putters_in 0) drivers giver.pipe task) (rows_of_side drivers gave giver.pipe task) (IsSideDone drivers gave giver.pipe task)
+  side_puts : Putting (in_task (putters_in 0) drivers giver.pipe task) (rows_of_side drivers flow place giver.pipe task) (IsSideDone drivers flow place giver.pipe task)
   side_puts =
-      gather_puts giver.pipe.drivers (of_lane (putters_in 0) drivers giver.pipe task) (λ lane. gave (driver_number giver.pipe task lane))
-      (λ lane. (pipe_of drivers gave giver.pipe).done task lane ≡ true) (λ lane in_lanes.
-      lane_puts net drivers gave place giver.pipe task lane (known task lane has_task in_lanes) plan.single (net.links.gathers at task ∷ []) 0 (puts_at lane in_lanes) (omega arith))
+      gather_puts giver.pipe.drivers (of_lane (putters_in 0) drivers giver.pipe task) (λ lane. flow.gave (driver_number giver.pipe task lane))
+      (λ lane. (pipe_of drivers flow place giver.pipe).done task lane ≡ true) (λ lane in_lanes.
+      lane_puts net drivers flow place giver.pipe task lane (known task lane has_task in_lanes) plan.single (net.links.gathers at task ∷ []) 0 (puts_at lane in_lanes) (omega arith))
 
-module _ (net : NetForm) (drivers : List DriverState) (gave : ℕ → List Row) (at : ℕ) (pipe : PipeForm) (known : AllKnown net drivers gave at pipe)
+module _ (net : NetForm) (drivers : List DriverState) (flow : Flow) (at : ℕ) (pipe : PipeForm) (known : AllKnown net drivers flow at pipe)
     (reads : pipe.source ≡ sides) (alone : IsAlone pipe.drivers) (back : SourceIsBack net drivers at pipe pipe.source) (task : ℕ) (in_tasks : task < pipe.tasks) where
-  one : Known net drivers gave at pipe task 0
+  one : Known net drivers flow at pipe task 0
   one = known task 0 in_tasks (omega (arith, alone))
 
   is_back : GatherIsBack net.layout drivers at task (in_task gather_takes_in drivers pipe task)
@@ -82,28 +83,28 @@ module _ (net : NetForm) (drivers : List DriverState) (gave : ℕ → List Row) 
   own_seat = sym (alone_is gather_takes_in drivers pipe task alone ∙ lane_is gather_takes_in drivers pipe task 0 one.driver one.there) ∙ is_back.one
 
   took_of : (putters : List Putter) (rows : List Row) (IsDone : Type 0) → Putting putters rows IsDone → putting_seats putters ≡ puts_into net.layout drivers at task
-      → TookOf pipe.drivers ((pipe_of drivers gave pipe).took task) ((pipe_of drivers gave pipe).ended task) rows IsDone
+      → TookOf pipe.drivers ((pipe_of drivers flow at pipe).took task) ((pipe_of drivers flow at pipe).ended task) rows IsDone
   took_of putters rows IsDone puts seats =
-      alone_took net drivers gave at pipe task alone one rows IsDone
+      alone_took net drivers flow at pipe task alone one (none_in_front net at pipe task 0 one.driver one.is) rows IsDone
       (hop_closed puts.done (subst (λ put. Hop put (rows_taken one.driver.source) (has_ended one.driver.source ≡ true) (AreTold putters)) puts.given
       (local_source_hop (net.links.gathers at task) one.driver.source (subst (λ source. IsSourceFor net at task source one.driver.source) reads one.is.source)
       one.still.begun one.still.drained putters puts.keeps is_back.take own_seat (subst (λ seats. GatherCameBack seats is_back.take) (sym seats) is_back.back))))
 
-  module _ (i j : ℕ) (are : AreSides net.layout pipe.tasks at i j) (left_known : AllKnown net drivers gave i are.left.pipe) (right_known : AllKnown net drivers gave j are.right.pipe) where
+  module _ (i j : ℕ) (are : AreSides net.layout pipe.tasks at i j) (left_known : AllKnown net drivers flow i are.left.pipe) (right_known : AllKnown net drivers flow j are.right.pipe) where
     abbrev IsTaken : List Row → Type 0 → Type 0
-    IsTaken rows AreDone = TookOf pipe.drivers ((pipe_of drivers gave pipe).took task) ((pipe_of drivers gave pipe).ended task) rows AreDone
+    IsTaken rows AreDone = TookOf pipe.drivers ((pipe_of drivers flow at pipe).took task) ((pipe_of drivers flow at pipe).ended task) rows AreDone
 
     abbrev left_rows : List Row
-    left_rows = rows_of_side drivers gave are.left.pipe task
+    left_rows = rows_of_side drivers flow i are.left.pipe task
 
     abbrev right_rows : List Row
-    right_rows = rows_of_side drivers gave are.right.pipe task
+    right_rows = rows_of_side drivers flow j are.right.pipe task
 
     abbrev IsLeftDone : Type 0
-    IsLeftDone = IsSideDone drivers gave are.left.pipe task
+    IsLeftDone = IsSideDone drivers flow i are.left.pipe task
 
     abbrev IsRightDone : Type 0
-    IsRightDone = IsSideDone drivers gave are.right.pipe task
+    IsRightDone = IsSideDone drivers flow j are.right.pipe task
 
     abbrev left_putters : List Putter
     left_putters = in_task (putters_in 0) drivers are.left.pipe task
@@ -118,10 +119,10 @@ module _ (net : NetForm) (drivers : List DriverState) (gave : ℕ → List Row) 
     right_seats = seats_in_task 0 drivers are.right.pipe task
 
     left_put : Putting left_putters left_rows IsLeftDone
-    left_put = side_puts net drivers gave pipe.tasks at i are.left left_known task in_tasks
+    left_put = side_puts net drivers flow pipe.tasks at i are.left left_known task in_tasks
 
     right_put : Putting right_putters right_rows IsRightDone
-    right_put = side_puts net drivers gave pipe.tasks at j are.right right_known task in_tasks
+    right_put = side_puts net drivers flow pipe.tasks at j are.right right_known task in_tasks
 
     pub union_took : IsTaken (left_rows ++ right_rows)
         (IsLeftDone × IsRightDone)

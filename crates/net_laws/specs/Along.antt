@@ -1,7 +1,5 @@
 -- What is said of the joins of a pipe that runs a plan, from the node down along inputs and left sides.
 use Rattle.std.specs.Prelude.{◌≡◌, ℕ, ◌<◌, List, [], ◌∷◌, Some, true}
-use Rattle.sql_values.specs.declared.types.SqlType.{SqlType}
-use Rattle.col_pages.specs.Fits.{AllFit}
 use Rattle.operator_core.specs.Rows.{Row}
 use Rattle.bag_laws.specs.Weights.{SameWeights}
 use Rattle.plan_trees.specs.TreeTypes.{types_of}
@@ -9,7 +7,7 @@ use Rattle.plan_run_laws.specs.Nets.{of_tasks}
 use Rattle.plan_run_laws.specs.RunPlans.{RunPlan, tree_of_run}
 use Rattle.plan_run_laws.specs.RunPlans as plan
 use Rattle.pipe_laws.specs.Lanes.{Noted, first_note, other_notes}
-use Rattle.pipe_laws.specs.Pipes.{PipeState}
+use Rattle.pipe_laws.specs.Pipes.{GaveTyped, PipeState}
 use Rattle.plan_layout.specs.Pipes.{PipeForm, SourceForm, StepForm}
 use Rattle.layout_laws.specs.RunPipes.{RunsAs}
 use Rattle.driver_net_laws.specs.Nets.{Links}
@@ -55,13 +53,6 @@ Along Of layout n (plan.topn_parts id remote output m count keys input) own w so
 Along Of layout n (plan.limit id count input) own w source steps r notes = Along Of layout n input own w source r.1.0 r.1.2 notes
 Along Of layout n (plan.limit_parts id remote output m count input) own w source steps r notes = Unit {0}
 Along Of layout n (plan.union id left right) own w source steps r notes = Unit {0}
-
--- what the drivers of a pipe took, and what they gave, has these types
-abbrev pub TookTyped : {S : Type 0} → List SqlType → ℕ → PipeState S → Type 0
-TookTyped types n p = (k d : ℕ) → k < n → d < p.drivers → AllFit types (p.took k d)
-
-abbrev pub GaveTyped : {S : Type 0} → List SqlType → ℕ → PipeState S → Type 0
-GaveTyped types n p = (k d : ℕ) → k < n → d < p.drivers → AllFit types (p.gave k d)
 
 -- what the pipe of the right side gave has its types
 abbrev pub BuiltTyped : {S : Type 0} → (ℕ → PipeState S) → ℕ → OfJoin

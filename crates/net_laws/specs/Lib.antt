@@ -5,6 +5,8 @@ pub mod Typed
 pub mod Along
 pub mod Later
 pub mod Tidy
+pub mod Throughout
+pub mod Sifted
 pub mod Standing
 pub mod Roots
 pub use Rattle.driver_net_laws.specs.Makes

@@ -4,16 +4,16 @@ use Rattle.std.specs.Prelude.{◌≡◌, ℕ, ◌<◌, List, ◌++◌, true}
 use Rattle.bag_laws.specs.Gather.{gather}
 use Rattle.operator_core.specs.Rows.{Row}
 use Rattle.plan_trees.specs.Allowed.{scanned}
-use Rattle.plan_run_laws.specs.Nets.{of_tasks}
+use Rattle.plan_run_laws.specs.Nets.{Lanes, of_tasks}
 use Rattle.plan_run_laws.specs.RunPlans.{Output, RunPlan}
 use Rattle.plan_run_laws.specs.Spreads.{Tables}
-use Rattle.plan_run_laws.specs.Stops.{AllSet, Hop, PassedSoFar, TookOf}
+use Rattle.plan_run_laws.specs.Stops.{AllSet, Flags, Hop, PassedSoFar, TookOf}
 use Rattle.pipe_laws.specs.Pipes.{PipeState, stopped}
 
--- of these columns of a table, in all of so many tasks together
-abbrev pub TakesTable : {S : Type 0} → Tables → ℕ → PipeState S → ℕ → List ℕ → Type 0
-TakesTable tables n p place columns =
-    Hop (scanned tables place columns) (gather n (of_tasks p.drivers p.took)) (AllSet n p.drivers p.ended) (Unit {0})
+-- of these columns of a table, in all of so many tasks together: what each of so many drivers took there, and whether its
+-- source has ended
+abbrev pub TakesTable : Tables → ℕ → ℕ → Lanes → Flags → ℕ → List ℕ → Type 0
+TakesTable tables n w took ended place columns = Hop (scanned tables place columns) (gather n (of_tasks w took)) (AllSet n w ended) (Unit {0})
 
 -- of these rows, in each task
 abbrev pub TakesRows : {S : Type 0} → ℕ → PipeState S → List Row → Type 0

@@ -2,21 +2,20 @@
 ghost use Rattle.std.specs.Prelude.{◌≡◌, ℕ, All, List, None, Some, slice_get};
 ghost use Rattle.plan_trees.specs.TreeTypes.{types_of};
 ghost use Rattle.plan_run_laws.specs.RunPlans.{RunPlan, tree_of_run};
-ghost use Rattle.operator_core.specs.Rows.{Row};
 ghost use Rattle.pipe_laws.specs.Operators.{types_of_source};
 ghost use Rattle.pipe_laws.specs.Pipelines.{at_node};
 ghost use Rattle.driver_loop.specs.contracts.stage.StageOperator.TheImpl.{ghosts};
 ghost use Rattle.driver_loop.specs.declared.stage.Stage.{Stage as StageState};
 ghost use Rattle.driver_loop.specs.Drivers.{DriverState, IsWhole};
-ghost use Rattle.pipe_laws.specs.Pipes.{IsHalfPipeOf, IsPipeOf};
+ghost use Rattle.pipe_laws.specs.Pipes.{GaveTyped, IsHalfPipeOf, IsPipeOf, TookTyped};
 ghost use Rattle.driver_net_laws.specs.Made.{AreMadeFor, Behind};
 ghost use Rattle.plan_layout.specs.Pipes.{PipeForm};
 ghost use Rattle.layout_laws.specs.RunPipes.{Into, RunsAs};
 ghost use Rattle.driver_net_laws.specs.Nets.{AreDriversOf, AreStagesFor, IsDriverOf, NetForm};
 ghost use Rattle.driver_net_laws.specs.Settled.{AreSettled};
-ghost use Rattle.driver_net_laws.specs.States.{WereGiven, pipe_states_of};
+ghost use Rattle.driver_net_laws.specs.States.{Flow, IsFlowOf, pipe_states_of};
 ghost use Rattle.driver_net_laws.specs.Types.{PipesAreTyped, PipeTypes};
-ghost use Rattle.net_laws.specs.Along.{Along, BuiltTyped, Follows, GaveTyped, TookTyped, bells_in};
+ghost use Rattle.net_laws.specs.Along.{Along, BuiltTyped, Follows, bells_in};
 ghost use Rattle.net_laws.specs.Halves.{Half, half_stage, half_step, half_types};
 ghost use Rattle.net_laws.specs.Later.{AreLater, IsLaterDriver};
 ghost use Rattle.net_laws.specs.Typed.{HasHalfTypes, HasTypes};
@@ -63,48 +62,48 @@ pub fn stages_are_made()
 /// these rows.
 pub fn notes_follow()
     ensures pipes { (net : NetForm) (drivers : List DriverState) → AreDriversOf net drivers
-        → AreSettled net drivers → (gave : ℕ → List Row) → WereGiven drivers gave
+        → AreSettled net drivers → (flow : Flow) → IsFlowOf net.layout drivers flow
         → (n : ℕ) (run : RunPlan) (own : ℕ) (pipe : PipeForm)
         → slice_get net.layout own ≡ Some pipe → pipe.tasks ≡ n
         → (r : RunsAs net.layout n run own pipe.drivers pipe.source pipe.steps)
-        → Along (Follows (pipe_states_of net.layout drivers gave) own n) net.layout n run
+        → Along (Follows (pipe_states_of net.layout drivers flow) own n) net.layout n run
         own pipe.drivers pipe.source pipe.steps r
-        (pipe_states_of net.layout drivers gave own).notes }
+        (pipe_states_of net.layout drivers flow own).notes }
     ensures halves { (net : NetForm) (drivers : List DriverState) → AreDriversOf net drivers
-        → AreSettled net drivers → (gave : ℕ → List Row) → WereGiven drivers gave
+        → AreSettled net drivers → (flow : Flow) → IsFlowOf net.layout drivers flow
         → (n : ℕ) (run : RunPlan) (half : Half) (own : ℕ) (pipe : PipeForm)
         → slice_get net.layout own ≡ Some pipe → pipe.tasks ≡ n
         → (r : Into (half_step half) (RunsAs net.layout n run)
         own pipe.drivers pipe.source pipe.steps)
-        → Along (Follows (pipe_states_of net.layout drivers gave) own n) net.layout n run
+        → Along (Follows (pipe_states_of net.layout drivers flow) own n) net.layout n run
         own pipe.drivers pipe.source r.1.0 r.1.2
-        (pipe_states_of net.layout drivers gave own).notes }
+        (pipe_states_of net.layout drivers flow own).notes }
 {}
 
 /// The law that the drivers of a pipe that runs a plan are its lanes, with the first half of an operator behind it or
-/// with none: where what they took of the source has its types, and what the right sides of its joins gave has theirs.
+/// with none: where what came to the stages of its steps has the types of the source, and what the right sides of its joins gave has theirs.
 pub fn pipes_stand<'w>(_of: PhantomData<Stage<'w>>)
     ensures pipes { (net : NetForm) (drivers : List DriverState) → AreDriversOf net drivers
-        → AreSettled net drivers → (gave : ℕ → List Row) → WereGiven drivers gave
+        → AreSettled net drivers → (flow : Flow) → IsFlowOf net.layout drivers flow
         → (n : ℕ) (run : RunPlan) (own : ℕ) (pipe : PipeForm)
         → slice_get net.layout own ≡ Some pipe → pipe.tasks ≡ n
         → (r : RunsAs net.layout n run own pipe.drivers pipe.source pipe.steps)
-        → TookTyped (types_of_source run) n (pipe_states_of net.layout drivers gave own)
-        → Along (BuiltTyped (pipe_states_of net.layout drivers gave) n) net.layout n run
+        → TookTyped (types_of_source run) n (pipe_states_of net.layout drivers flow own)
+        → Along (BuiltTyped (pipe_states_of net.layout drivers flow) n) net.layout n run
         own pipe.drivers pipe.source pipe.steps r
-        (pipe_states_of net.layout drivers gave own).notes
-        → IsPipeOf ghosts n run (pipe_states_of net.layout drivers gave own) }
+        (pipe_states_of net.layout drivers flow own).notes
+        → IsPipeOf ghosts n run (pipe_states_of net.layout drivers flow own) }
     ensures halves { (net : NetForm) (drivers : List DriverState) → AreDriversOf net drivers
-        → AreSettled net drivers → (gave : ℕ → List Row) → WereGiven drivers gave
+        → AreSettled net drivers → (flow : Flow) → IsFlowOf net.layout drivers flow
         → (n : ℕ) (run : RunPlan) (half : Half) (own : ℕ) (pipe : PipeForm)
         → slice_get net.layout own ≡ Some pipe → pipe.tasks ≡ n
         → (r : Into (half_step half) (RunsAs net.layout n run)
         own pipe.drivers pipe.source pipe.steps)
-        → TookTyped (types_of_source run) n (pipe_states_of net.layout drivers gave own)
-        → Along (BuiltTyped (pipe_states_of net.layout drivers gave) n) net.layout n run
+        → TookTyped (types_of_source run) n (pipe_states_of net.layout drivers flow own)
+        → Along (BuiltTyped (pipe_states_of net.layout drivers flow) n) net.layout n run
         own pipe.drivers pipe.source r.1.0 r.1.2
-        (pipe_states_of net.layout drivers gave own).notes
-        → IsHalfPipeOf ghosts n run (at_node r.0 (half_stage half)) (pipe_states_of net.layout drivers gave own) }
+        (pipe_states_of net.layout drivers flow own).notes
+        → IsHalfPipeOf ghosts n run (at_node r.0 (half_stage half)) (pipe_states_of net.layout drivers flow own) }
 {
     operator_core::laws::laws::<Stage<'w>>(PhantomData);
 }
@@ -112,26 +111,26 @@ pub fn pipes_stand<'w>(_of: PhantomData<Stage<'w>>)
 /// The law that what they gave then has the types of the plan, or of the half.
 pub fn pipes_give_typed_rows<'w>(_of: PhantomData<Stage<'w>>)
     ensures pipes { (net : NetForm) (drivers : List DriverState) → AreDriversOf net drivers
-        → AreSettled net drivers → (gave : ℕ → List Row) → WereGiven drivers gave
+        → AreSettled net drivers → (flow : Flow) → IsFlowOf net.layout drivers flow
         → (n : ℕ) (run : RunPlan) (own : ℕ) (pipe : PipeForm)
         → slice_get net.layout own ≡ Some pipe → pipe.tasks ≡ n
         → (r : RunsAs net.layout n run own pipe.drivers pipe.source pipe.steps)
-        → TookTyped (types_of_source run) n (pipe_states_of net.layout drivers gave own)
-        → Along (BuiltTyped (pipe_states_of net.layout drivers gave) n) net.layout n run
+        → TookTyped (types_of_source run) n (pipe_states_of net.layout drivers flow own)
+        → Along (BuiltTyped (pipe_states_of net.layout drivers flow) n) net.layout n run
         own pipe.drivers pipe.source pipe.steps r
-        (pipe_states_of net.layout drivers gave own).notes
-        → GaveTyped (types_of (tree_of_run run)) n (pipe_states_of net.layout drivers gave own) }
+        (pipe_states_of net.layout drivers flow own).notes
+        → GaveTyped (types_of (tree_of_run run)) n (pipe_states_of net.layout drivers flow own) }
     ensures halves { (net : NetForm) (drivers : List DriverState) → AreDriversOf net drivers
-        → AreSettled net drivers → (gave : ℕ → List Row) → WereGiven drivers gave
+        → AreSettled net drivers → (flow : Flow) → IsFlowOf net.layout drivers flow
         → (n : ℕ) (run : RunPlan) (half : Half) (own : ℕ) (pipe : PipeForm)
         → slice_get net.layout own ≡ Some pipe → pipe.tasks ≡ n
         → (r : Into (half_step half) (RunsAs net.layout n run)
         own pipe.drivers pipe.source pipe.steps)
-        → TookTyped (types_of_source run) n (pipe_states_of net.layout drivers gave own)
-        → Along (BuiltTyped (pipe_states_of net.layout drivers gave) n) net.layout n run
+        → TookTyped (types_of_source run) n (pipe_states_of net.layout drivers flow own)
+        → Along (BuiltTyped (pipe_states_of net.layout drivers flow) n) net.layout n run
         own pipe.drivers pipe.source r.1.0 r.1.2
-        (pipe_states_of net.layout drivers gave own).notes
-        → GaveTyped (half_types half (types_of (tree_of_run run))) n (pipe_states_of net.layout drivers gave own) }
+        (pipe_states_of net.layout drivers flow own).notes
+        → GaveTyped (half_types half (types_of (tree_of_run run))) n (pipe_states_of net.layout drivers flow own) }
 {
     operator_core::laws::laws::<Stage<'w>>(PhantomData);
 }

@@ -3,10 +3,10 @@
 //! In a layout whose pipes run a plan (`RunsAs` of `layout_laws`) each driver is made of the parts of its pipe
 //! (`AreDriversOf` of `driver_net_laws`), and the seats of what the drivers shared came back.
 //!
-//! - `sources`: what the drivers of a pipe took together of its source, in the words in which a run is composed
+//! - `sources`: what the drivers of a pipe took together of its source, as a run is composed of it
 //!   (`specs/Takes.antt`): `tables_pass`, `rows_pass`, `unions_pass`, `fragments_pass`, of a table, of rows of the plan, of
 //!   the two pipes that give to a union, and of the pipe of a fragment's root. Which pipes these are is a premise on the
-//!   layout (`specs/Giving.antt`). `targets_were_given`: there are rows that the targets were given
+//!   layout (`specs/Giving.antt`). `rows_flowed`: there are rows that flowed through the drivers
 //! - `lanes`: the drivers as lanes of their pipes. `pipes_are_typed`: a pipe takes and gives rows of the types of the plan
 //!   that it runs; `stages_are_made`: the stages of its drivers were made for the nodes of that plan; `notes_follow`: what
 //!   their notes know of the right sides of joins is what the pipes of these gave; `pipes_stand`, `pipes_give_typed_rows`:
@@ -14,8 +14,10 @@
 //!   leave of the drivers (`specs/Later.antt`). `specs/Along.antt` has what is said of the joins of a pipe and the bells of
 //!   their cells, `specs/Halves.antt` the first halves of operators
 //! - `stands`: `pipes_stand_together`: the pipes of a layout that runs a plan stand, one below the other, as a net of pipes
-//!   (`Stands` of `pipe_laws`); `nets_give`: where all drivers are finished, the plan's answer; `nets_fail`: where one
-//!   failed, a failure of the plan. `specs/Standing.antt` says it of one pipe
+//!   whose scans may have lost rows (`StandsLosing` of `sieve_laws`); `nets_give`: where all drivers are finished, the
+//!   plan's answer; `nets_fail`: where one failed, a failure of the plan. `specs/Standing.antt` says it of one pipe,
+//!   `specs/Sifted.antt` what it asks of the stages in front of those of scans, and `specs/Throughout.antt` has what is said
+//!   of all scans and joins of a run
 //! - `plans`: the same of the layout of a consistent plan: `layouts_are_tidy`, `plans_give`, `plans_fail`.
 //!   `specs/Tidy.antt`: what is asked of a layout besides that it runs the plan
 //! - `layouts`: `layouts_fit`: the drivers of the layout of a consistent plan can be made, over tables of the columns that
@@ -34,5 +36,5 @@ pub use lanes::{
 };
 pub use layouts::layouts_fit;
 pub use plans::{layouts_are_tidy, plans_fail, plans_give};
-pub use sources::{fragments_pass, rows_pass, tables_pass, targets_were_given, unions_pass};
+pub use sources::{fragments_pass, rows_flowed, rows_pass, tables_pass, unions_pass};
 pub use stands::{nets_fail, nets_give, pipes_stand_together};

@@ -2,7 +2,6 @@
 //! of them were taken apart.
 ghost use Rattle.std.specs.Prelude.{◌≡◌, ℕ, All, List, Some, slice_get, true};
 ghost use Rattle.sql_values.specs.declared.fail.Fail.{Fail};
-ghost use Rattle.operator_core.specs.Rows.{Row};
 ghost use Rattle.driver_loop.specs.Drivers.{DriverState, HasFailed};
 ghost use Rattle.driver_loop.specs.Ends.{rows_handed};
 ghost use Rattle.plan_trees.specs.Allowed.{Gives, strict};
@@ -20,7 +19,9 @@ ghost use Rattle.layout_laws.specs.Reached.{AreReached};
 ghost use Rattle.layout_laws.specs.RunPipes.{PipeIn, RunsAs};
 ghost use Rattle.driver_net_laws.specs.Nets.{AreDriversOf, NetForm};
 ghost use Rattle.driver_net_laws.specs.Settled.{AreSettled};
-ghost use Rattle.driver_net_laws.specs.States.{WereGiven, pipe_states_of};
+ghost use Rattle.driver_net_laws.specs.States.{Flow, IsFlowOf, pipe_states_of};
+ghost use Rattle.lost_row_laws.specs.Sieves.{Sieve};
+ghost use Rattle.net_laws.specs.Sifted.{AreSiftedBy};
 ghost use Rattle.net_laws.specs.Standing.{IsStanding};
 ghost use Rattle.net_laws.specs.Tidy.{IsTidy};
 
@@ -28,15 +29,20 @@ use driver_loop::Stage;
 use std::marker::PhantomData;
 
 /// The law that a pipe that runs a plan stands, with all pipes below it, as a net of pipes: its drivers are the lanes of
-/// the plan, and what they took of their source, and know of right sides, is what the pipes below gave.
+/// the plan, and what they took of their source, and know of right sides, is what the pipes below gave; but for rows that
+/// stages in front of those of scans dropped by sieves of joins above.
 pub fn pipes_stand_together<'w>(_of: PhantomData<Stage<'w>>)
     ensures { (net : NetForm) (drivers : List DriverState) → AreDriversOf net drivers
-        → AreSettled net drivers → (gave : ℕ → List Row) → WereGiven drivers gave
-        → IsTidy net.layout → (n : ℕ) (run : RunPlan) (own : ℕ) (pipe : PipeForm)
+        → AreSettled net drivers → (flow : Flow) → IsFlowOf net.layout drivers flow
+        → IsTidy net.layout → (of_join due : ℕ → List Sieve) (sieves : List Sieve)
+        → (n : ℕ) (run : RunPlan) (own : ℕ) (pipe : PipeForm)
         → slice_get net.layout own ≡ Some pipe → pipe.tasks ≡ n
         → (r : RunsAs net.layout n run own pipe.drivers pipe.source pipe.steps)
+        → AreSiftedBy drivers (pipe_states_of net.layout drivers flow) of_join due net.layout sieves
+        n run own pipe.drivers pipe.source pipe.steps r
         → FitsTables (tree_of_run run) net.tables
-        → IsStanding (pipe_states_of net.layout drivers gave) net.tables net.layout n run own pipe r }
+        → IsStanding (pipe_states_of net.layout drivers flow) of_join net.tables net.layout sieves
+        n run own pipe r }
 {
     operator_core::laws::laws::<Stage<'w>>(PhantomData);
     crate::sources::tables_pass();
@@ -60,7 +66,7 @@ pub fn nets_give<'w>(_of: PhantomData<Stage<'w>>)
     crate::sources::rows_pass();
     crate::sources::unions_pass();
     crate::sources::fragments_pass();
-    crate::sources::targets_were_given();
+    crate::sources::rows_flowed();
 }
 
 /// The law that where a driver failed at a node, wherever the others stand, the plan's tree may fail with this kind.
@@ -79,5 +85,5 @@ pub fn nets_fail<'w>(_of: PhantomData<Stage<'w>>)
     crate::sources::rows_pass();
     crate::sources::unions_pass();
     crate::sources::fragments_pass();
-    crate::sources::targets_were_given();
+    crate::sources::rows_flowed();
 }

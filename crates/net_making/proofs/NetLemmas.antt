@@ -18,7 +18,7 @@ use Rattle.plan_wiring.specs.declared.shared.Shared.{Shared}
 use Rattle.plan_wiring.specs.Bells.{gather_bells, spread_bells}
 use Rattle.plan_wiring.specs.Handed.{SeatsForm, new_seats}
 use Rattle.plan_wiring.specs.Shares.{ClaimForm, ShareForm, claims_of, new_claims, rows_at, share_of, shares_of}
-use Rattle.plan_wiring.specs.Wirings.{bells_of, cell_bells, claims_view, share_view}
+use Rattle.plan_wiring.specs.Wirings.{bells_of, cell_bells, claims_view, filter_bells, share_view}
 use Rattle.driver_net_laws.specs.Makes.{LayoutFits}
 use Rattle.driver_net_laws.specs.Nets.{AreDriversOf, Links, NetForm}
 use Rattle.driver_net_laws.specs.Types.{PipesAreTyped, PipeTypes}
@@ -117,7 +117,9 @@ abbrev named : CellState → ℕ × ℕ
 named cell = (cell.bell, cell.name)
 
 abbrev named_bells : Shared → List (ℕ × ℕ)
-named_bells s = map bare (flat_map gather_bells s.gathers.items) ++ (map bare (flat_map spread_bells s.spreads.items) ++ map named s.cells.items)
+named_bells s =
+    map bare (flat_map gather_bells s.gathers.items)
+    ++ (map bare (flat_map spread_bells s.spreads.items) ++ (map named s.cells.items ++ map bare (filter_bells s.filters.items)))
 
 abbrev all_bells : List Shared → List (ℕ × ℕ)
 all_bells pipes = flat_map named_bells pipes
@@ -134,9 +136,17 @@ own_bells : (s : Shared) → map (λ (b : ℕ × ℕ). b.0) (named_bells s) ≡ 
 own_bells s =
     let gathers = flat_map gather_bells s.gathers.items in
     let spreads = flat_map spread_bells s.spreads.items in
-    map-append (λ (b : ℕ × ℕ). b.0) (map bare gathers) (map bare spreads ++ map named s.cells.items)
-    ∙ (λ i. bare_bells gathers i ++ (map-append (λ (b : ℕ × ℕ). b.0) (map bare spreads) (map named s.cells.items) ∙ (λ j. bare_bells spreads j ++ bells_named s.cells.items j)) i)
-    ∙ sym (append_assoc gathers spreads (cell_bells s.cells.items))
+    let cells = cell_bells s.cells.items in
+    let filters = filter_bells s.filters.items in
+    let looks = map named s.cells.items ++ map bare filters in
+    map-append (λ (b : ℕ × ℕ). b.0) (map bare gathers) (map bare spreads ++ looks)
+    ∙ (λ i. bare_bells gathers i ++ (map-append (λ (b : ℕ × ℕ). b.0) (map bare spreads) looks ∙ (λ j. bare_bells spreads j ++ looking j)) i)
+    ∙ sym (append_assoc gathers spreads (cells ++ filters)) ∙ sym (append_assoc (gathers ++ spreads) cells filters)
+  where
+    looking : map (λ (b : ℕ × ℕ). b.0) (map named s.cells.items ++ map bare (filter_bells s.filters.items)) ≡ cell_bells s.cells.items ++ filter_bells s.filters.items
+    looking =
+        map-append (λ (b : ℕ × ℕ). b.0) (map named s.cells.items) (map bare (filter_bells s.filters.items))
+        ∙ (λ i. bells_named s.cells.items i ++ bare_bells (filter_bells s.filters.items) i)
 
 every_bell : (pipes : List Shared) → map (λ (b : ℕ × ℕ). b.0) (all_bells pipes) ≡ flat_map bells_of pipes
 every_bell [] = refl
@@ -172,8 +182,10 @@ cell_in (s ∷ pipes) zero task cell there =
     let spreads = map bare (flat_map spread_bells s.spreads.items) in
     let cells = map named s.cells.items in
     let mapped : slice_get cells task ≡ Some (named cell) = slice_get-map named s.cells.items task ∙ ap (option_map named) there in
-    let first = at_right spreads cells task (named cell) mapped in
-    let second = at_right gathers (spreads ++ cells) first.place (named cell) first.there in
+    let filters = map bare (filter_bells s.filters.items) in
+    let looks = cells ++ filters in
+    let first = at_right spreads looks task (named cell) (at_left cells filters task (named cell) mapped) in
+    let second = at_right gathers (spreads ++ looks) first.place (named cell) first.there in
     record { place = second.place; there = at_left (named_bells s) (all_bells pipes) second.place (named cell) second.there }
 cell_in (s ∷ pipes) (suc at) task cell there =
     let below = cell_in pipes at task cell there in at_right (named_bells s) (all_bells pipes) below.place (named cell) below.there

@@ -5,7 +5,7 @@ ghost use Rattle.output_buffer.specs.Seats.{GatherPutState, new_gather_put};
 ghost use Rattle.driver_ends.specs.Targets.{FitsKind};
 ghost use Rattle.driver_loop.specs.Ends.{target_made};
 ghost use Rattle.plan_layout.specs.Pipes as form;
-ghost use Rattle.plan_layout.specs.Pipes.{cell, pipe_view, readers, side, takers, target_view};
+ghost use Rattle.plan_layout.specs.Pipes.{build_view, cell, pipe_view, readers, side, takers, target_view};
 ghost use Rattle.plan_spreads.specs.Runs.{output_view};
 ghost use Rattle.source_laws.specs.Edges.{output_of};
 ghost use Rattle.driver_net_laws.specs.Nets.{IsTargetFor, NetForm, right_columns, tasks_at};
@@ -21,7 +21,7 @@ use hash_join::LookupBuilder;
 use output_buffer::{GatherPut, Partitioner};
 use pipe_stages::given_at;
 use plan_docs::{Output, Pair};
-use plan_layout::{Pipe, PipeTarget};
+use plan_layout::{BuildSide, Pipe, PipeTarget};
 use plan_trees::copy_types;
 use seat_stocks::Stock;
 use sql_values::Memory;
@@ -43,7 +43,7 @@ pub(crate) fn target_of<'w>(
 {
     match target {
         PipeTarget::Result => result_target(making, own),
-        PipeTarget::Cell(on) => build_target(making, own, task, on.as_slice()),
+        PipeTarget::Cell(build) => build_target(making, own, task, build),
         PipeTarget::Side(at) => side_target(making, stock, at, task),
         PipeTarget::Readers(output, at) => readers_target(making, stock, output, at),
         PipeTarget::Takers(at) => deal_target(making, stock, at, task),
@@ -64,11 +64,11 @@ fn build_target<'w>(
     making: &Making<'_, 'w>,
     own: usize,
     task: u32,
-    on: &[Pair],
+    build: BuildSide<'_>,
 ) -> Result<Target<'w>, Memory>
     ensures fresh { IfOk result (λ target. target_made target ≡ target) }
     ensures is { IfOk result (λ target. (labels : Labels) (net : NetForm) → IsNetFor making.now labels net
-        → IsTargetFor net own task (cell on.now) target) }
+        → IsTargetFor net own task (cell (build_view build.entry)) target) }
 {
     let Some(cell) = making.cells.get(own, task) else {
         return Err(Memory);
@@ -77,9 +77,9 @@ fn build_target<'w>(
     if types.is_empty() {
         return Err(Memory);
     }
-    let keys = right_columns(making.alloc, on)?;
+    let keys = right_columns(making.alloc, build.on.as_slice())?;
     let builder = LookupBuilder::new(making.alloc, keys, types)?;
-    Ok(Target::Build(BuildTarget::new(builder, cell)))
+    Ok(Target::Build(BuildTarget::new(builder, cell, Vec::new(making.alloc))))
 }
 
 /// The right columns of pairs.

@@ -20,7 +20,7 @@ pub Coming-untold : (told : Bool) (Z : List Row) → told ≡ false → Coming t
 Coming-untold true Z e = cc
 Coming-untold false Z e = tt
 
--- who was told only where its giver has finished gets no more than that giver still gives
+-- a stage that was told to finish only where its giver has finished gets no more than that giver still gives
 pub Coming-weaker : (strong weak : Bool) (Z : List Row) → (weak ≡ true → strong ≡ true) → Coming strong Z → Coming weak Z
 Coming-weaker strong true Z so coming = Coming-told strong Z (so refl) coming
 Coming-weaker strong false Z so coming = tt
@@ -91,7 +91,7 @@ module _ {S : Type 0} (g : Ghosts S) where
   pub Steps-looked : (old new : S) (X Y : List Row) → Looked g old new → Steps g old X Y → Steps g new X Y
   Steps-looked old new X Y t s = looked-at old new X Y t s (g.knows old) (g.knows new) refl refl
 
-  -- a finished operator was told, gives nothing more, and fails on nothing
+  -- a finished operator was told to finish, gives nothing more, and fails on nothing
   pub finished-told : IsLawful g → (s : S) → g.is_finished s ≡ true → g.is_told s ≡ true
   finished-told laws s e = ((laws.finished s).0 e).0
 

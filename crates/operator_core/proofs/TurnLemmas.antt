@@ -10,7 +10,7 @@ module _ {S : Type 0} (g : Ghosts S) where
   Turns-later old new [] so t = tt
   Turns-later old new (s ∷ ss) so t = ((λ told. so (t.0 told)), t.1)
 
-  -- a stage changed, was not told by it, and stays finished where it was
+  -- a stage changed, was not told to finish by it, and stays finished where it was
   pub Turns-set : (ended : Bool) (ss : List S) (i : ℕ) (s t : S) → i < length ss → s ≡ get_or ss i s → (g.is_told t ≡ true → g.is_told s ≡ true)
       → (g.is_finished s ≡ true → g.is_finished t ≡ true) → ToldInTurn g ended ss → ToldInTurn g ended (set ss i t)
   Turns-set ended [] i s t h e told over turns = absurd (omega arith)
@@ -18,7 +18,7 @@ module _ {S : Type 0} (g : Ghosts S) where
       ((λ x. turns.0 (ap g.is_told (sym e) ∙ told x)), Turns-later (g.is_finished k) (g.is_finished t) ss (λ x. over (ap g.is_finished e ∙ x)) turns.1)
   Turns-set ended (k ∷ ss) (suc i) s t h e told over turns = (turns.0, Turns-set (g.is_finished k) ss i s t (omega arith) e told over turns.1)
 
-  -- a stage was told whose giver is finished
+  -- a stage whose giver is finished was told to finish
   pub Turns-told : (ended : Bool) (ss : List S) (i : ℕ) (s t : S) → i < length ss → s ≡ get_or ss i s → giver_finished g ended ss i ≡ true
       → (g.is_finished s ≡ true → g.is_finished t ≡ true) → ToldInTurn g ended ss → ToldInTurn g ended (set ss i t)
   Turns-told ended [] i s t h e giver over turns = absurd (omega arith)
@@ -26,7 +26,7 @@ module _ {S : Type 0} (g : Ghosts S) where
       ((λ _. giver), Turns-later (g.is_finished k) (g.is_finished t) ss (λ x. over (ap g.is_finished e ∙ x)) turns.1)
   Turns-told ended (k ∷ ss) (suc i) s t h e giver over turns = (turns.0, Turns-told (g.is_finished k) ss i s t (omega arith) e giver over turns.1)
 
-  -- stages as they were made were not told
+  -- stages as they were made were not told to finish
   pub Turns-made : IsLawful g → (ended : Bool) (ss : List S) → map g.as_made ss ≡ ss → ToldInTurn g ended ss
   Turns-made laws ended [] e = tt
   Turns-made laws ended (s ∷ ss) e =
@@ -45,7 +45,7 @@ module _ {S : Type 0} (g : Ghosts S) where
   giver-last ended [] (suc i) = refl
   giver-last ended (s ∷ ss) (suc i) = giver-last (g.is_finished s) ss i
 
-  -- the giver of a stage that was told is finished
+  -- the giver of a stage that was told to finish is finished
   pub giver-told : (ended : Bool) (ss : List S) (i : ℕ) (s : S) → i < length ss → s ≡ get_or ss i s → ToldInTurn g ended ss → g.is_told s ≡ true → giver_finished g ended ss i ≡ true
   giver-told ended [] i s h e turns told = absurd (omega arith)
   giver-told ended (k ∷ ss) zero s h e turns told = turns.0 (ap g.is_told (sym e) ∙ told)

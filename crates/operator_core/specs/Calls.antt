@@ -84,7 +84,7 @@ pub record Looked {S : Type 0} (g : Ghosts S) (old new : S) : Type 0 where
 abbrev pub FailsNow : {S : Type 0} → Ghosts S → S → ℕ → Fail → Type 0
 FailsNow g s node kind = (Z : List Row) → Coming (g.is_told s) Z → g.may_still_fail s Z node kind
 
--- an operator that was just made: nothing was taken, given, told or looked for
+-- an operator that was just made: nothing was taken, given or looked for, and it was not told to finish
 pub record IsFresh {S : Type 0} (g : Ghosts S) (s : S) : Type 0 where
   pub made : g.as_made s ≡ s
   pub untold : g.is_told s ≡ false

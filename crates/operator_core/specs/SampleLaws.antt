@@ -7,7 +7,7 @@ pub has_row-none : (rows : List Row) → (has_row rows ≡ false) ↔ (rows ≡ 
 has_row-none [] = ((λ _. refl), (λ _. refl))
 has_row-none (row ∷ rows) = ((λ e. cc), (λ e. cc))
 
--- an operator needs input exactly where it was not told and holds nothing
+-- an operator needs input exactly where it was not told to finish and holds nothing
 pub needs-untold : (told held : Bool) → not (told || held) ≡ true → told ≡ false
 needs-untold true held e = cc
 needs-untold false held e = refl

@@ -20,7 +20,7 @@ Linked g (s ∷ ss) X Y = (M : List Row) × Steps g s X M × Linked g ss M Y
 abbrev pub MayBeTold : {S : Type 0} → Ghosts S → Bool → S → Type 0
 MayBeTold g ended s = ended ≡ true
 
--- each stage was told only where it might be; `ended` is the source's
+-- each stage was told to finish only where it might be; `ended` is the source's
 abbrev pub ToldInTurn : {S : Type 0} → Ghosts S → Bool → List S → Type 0
 ToldInTurn g ended [] = Unit {0}
 ToldInTurn g ended (s ∷ ss) = (g.is_told s ≡ true → MayBeTold g ended s) × ToldInTurn g (g.is_finished s) ss

@@ -20,11 +20,11 @@
 //! - a failure of an expression is answered only where it could come whatever rows follow, and what
 //!   the operator may give is kept as where all was well
 //! - for every state and `X` there is something that it may give
-//! - it is finished exactly where it was told to, holds nothing to give, and nothing may fail. It
+//! - it is finished exactly where it was told to finish, holds nothing to give, and nothing may fail. It
 //!   then gives nothing more
 //!
-//! `get_output` gives none exactly where it holds no row that it may give now and, once it was
-//! told, nothing of it may fail. It refuses input before `finish` only where it holds such a row,
+//! `get_output` gives none exactly where it holds no row that it may give now and, once it
+//! was told to finish, nothing of it may fail. It refuses input before `finish` only where it holds such a row,
 //! waits, or is full: what still comes changes nothing. It says that it must wait only where a look
 //! of the call found nothing, and names the bell that it then waits at with the count which this look
 //! was handed, and which that bell showed. A page that it gives has a row, and no more than its page
@@ -50,7 +50,7 @@
 //!
 //! The modules:
 //!
-//! - `operator`: the trait `Operator`. `specs/Rows.antt` and `specs/Answers.antt` have its words
+//! - `operator`: the trait `Operator`. `specs/Rows.antt` and `specs/Answers.antt` define what it cites
 //! - `stage`: its calls, each with one fact that says what it leaves (`specs/Calls.antt`). A driver
 //!   keeps `Linked` and `ToldInTurn` over these by the lemmas of `proofs/LinkLemmas.antt` and
 //!   `proofs/TurnLemmas.antt`

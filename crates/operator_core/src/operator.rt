@@ -195,29 +195,29 @@ pub trait Operator {
         → (B : List Row) × may_give s X B };
 
     // It holds a row that it may give exactly where it has any left to give for no more rows; one
-    // that gives late once it was told, and until then it holds none.
+    // that gives late once it was told to finish, and until then it holds none.
     ghost holds_rest: { (s : Self) (B : List Row) → (gives_late s ≡ true → is_told s ≡ true)
         → may_give s [] B → (holds_row s ≡ false) ↔ (B ≡ []) };
 
     ghost late_holds_none: { (s : Self) → gives_late s ≡ true → is_told s ≡ false
         → holds_row s ≡ false };
 
-    // It is finished exactly where it was told, holds nothing and nothing may fail.
+    // It is finished exactly where it was told to finish, holds nothing and nothing may fail.
     ghost finished: { (s : Self) → (is_finished s ≡ true) ↔ ((is_told s ≡ true)
         × (holds_row s ≡ false)
         × ((node : ℕ) (kind : Kind) → may_still_fail s [] node kind → ⊥)) };
 
-    // Once it was told, it needs no input.
+    // Once it was told to finish, it needs no input.
     ghost needs_untold: { (s : Self) → needs_input s ≡ true → is_told s ≡ false };
 
     // What holds where it is full.
     ghost full: { FullLaws may_give may_still_fail is_full needs_input };
 
-    // It refuses input only where it was told, holds a row to give, waits or is full.
+    // It refuses input only where it was told to finish, holds a row to give, waits or is full.
     ghost needs: { (s : Self) → is_told s ≡ false → holds_row s ≡ false
         → (waits s ≡ true → knows s ≡ true) → is_full s ≡ false → needs_input s ≡ true };
 
-    // As it was made, it was not told, and it was so made.
+    // As it was made, it was not told to finish, and it was so made.
     ghost made_untold: { (s : Self) → is_told (as_made s) ≡ false };
 
     ghost made_again: { (s : Self) → as_made (as_made s) ≡ as_made s };

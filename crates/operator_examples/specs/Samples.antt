@@ -18,7 +18,7 @@ abbrev pub has_null : ℕ → List Row → Bool
 has_null column [] = false
 has_null column (row ∷ rows) = is_null (cell row column) || has_null column rows
 
--- what a note tells: the bell that rings once its number is there, the number that it knows, how many looks
+-- what a note holds: the bell that rings once its number is there, the number that it knows, how many looks
 -- found nothing, and the count that the last of these was handed
 pub record NoteState : Type 0 where
   pub bell : ℕ

@@ -12,7 +12,7 @@ use std::alloc::Global;
 use std::sync::Wait;
 use std::thread::Threads;
 
-/// Keeps its rows, and gives them once it was told that no page comes any more.
+/// Keeps its rows, and gives them once `finish` was called.
 #[derive(Drop)]
 pub struct AtEnd {
     held: HeldPages,

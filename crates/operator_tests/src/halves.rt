@@ -152,7 +152,7 @@ fn show_outcome(
     }
 }
 
-/// Appends the rows of the first half, over rows of one column, and what is told of both halves.
+/// Appends the rows of the first half, over rows of one column, and what both halves give.
 fn tell_halves(
     alloc: Global,
     text: &mut String,
@@ -173,7 +173,7 @@ fn tell_halves(
     show_outcome(alloc, text, width, last)
 }
 
-/// The same, and what is told of the aggregate in one.
+/// The same, and what the aggregate in one gives.
 fn tell(
     alloc: Global,
     text: &mut String,
@@ -210,7 +210,7 @@ fn is_told(
     Ok(text.as_str() == wanted)
 }
 
-/// Whether of each case, rows of one column and what is to be told of them, just that is told.
+/// Whether each case, rows of one column and what is to come of them, gives just that.
 fn are_told(
     alloc: Global,
     kind: SqlType,

@@ -124,7 +124,7 @@ pub(crate) fn take_in<O: Operator>(op: &mut O, page: Page) -> Result<(), OpFault
     op.add_input(page)
 }
 
-/// The pages that an operator gives once it was told that no page comes any more.
+/// The pages that an operator gives once `finish` was called.
 pub(crate) fn drained<O: Operator>(alloc: Global, op: &mut O) -> Result<Vec<Page>, OpFault> {
     let mut pages = Vec::new(alloc);
     op.finish();

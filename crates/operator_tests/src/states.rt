@@ -73,7 +73,7 @@ fn show_outcome(text: &mut String, outcome: Result<Row, EvalFault>) -> Result<()
     }
 }
 
-/// Whether a group tells this partial row and these results.
+/// Whether a group gives this partial row and these results.
 fn tells(alloc: Global, group: &Accumulator, wanted: &str) -> Result<bool, Memory> {
     let mut text = String::new(alloc);
     show(&mut text, &group.part()?)?;
@@ -88,7 +88,7 @@ fn has_case(alloc: Global, kind: SqlType, calls: &[Call], case: &str) -> Result<
     tells(alloc, &group(alloc, kind, calls, cells)?, wanted)
 }
 
-/// Whether each line tells the partial row and the results of a group of its cells.
+/// Whether each line names the partial row and the results of a group of its cells.
 fn are_told(alloc: Global, kind: SqlType, calls: &[Call], cases: &str) -> Result<bool, Memory>
     requires { IsTrue (are_allowed (kind ∷ []) calls.now) }
 {

@@ -168,7 +168,7 @@ fn projected(alloc: Global, texts: &str) -> Result<Tree, Memory> {
     })
 }
 
-/// Whether each line tells what a filter of its rows gives.
+/// Whether each line says what a filter of its rows gives.
 fn are_filtered(alloc: Global, cases: &str) -> Result<bool, Memory> {
     for case in cases.lines() {
         let (rows, wanted) = case.split_once('=').unwrap_or((case, ""));
@@ -179,7 +179,7 @@ fn are_filtered(alloc: Global, cases: &str) -> Result<bool, Memory> {
     Ok(true)
 }
 
-/// Whether each line tells what a project of its rows gives.
+/// Whether each line says what a project of its rows gives.
 fn are_projected(alloc: Global, cases: &str) -> Result<bool, Memory> {
     for case in cases.lines() {
         let (rows, wanted) = case.split_once('=').unwrap_or((case, ""));

@@ -82,7 +82,7 @@ fn gives(alloc: Global, op: &mut ValuesOp, want: &str) -> Result<bool, Memory> {
     Ok(want.is_empty())
 }
 
-/// Whether three rows come in pages of two, and it is finished only once it was told and gave them.
+/// Whether three rows come in pages of two, and it is finished only once it was told to finish and gave them.
 fn give_three(alloc: Global, op: &mut ValuesOp) -> Result<bool, Memory> {
     let was_silent = !op.needs_input();
     let first = gives(alloc, op, "apple:0 null ")?;

@@ -27,7 +27,7 @@ module _ {X : Type 0} where
   set_at f g n b x below is others k d lt (inr ne) =
       get_or-set_other (map f (range_with_len 0 n)) b k x d ne ∙ get_or-map-range_with_len f 0 n k k d lt (omega arith) ∙ others k ne
 
-  -- one item changes of a list that is told by its places
+  -- one item changes of a list that is given by its places
   pub set-map_range : (f g : ℕ → X) (n b : ℕ) (x : X) → b < n → x ≡ g b → ((k : ℕ) → ¬ (k ≡ b) → f k ≡ g k)
       → set (map f (range_with_len 0 n)) b x ≡ map g (range_with_len 0 n)
   set-map_range f g n b x below is others =
@@ -76,11 +76,11 @@ module _ {X : Type 0} (items : X → List ℕ) (buckets : List ℕ) where
   pub none_placed : (lists : List X) → All (λ p. items p ≡ []) lists → map items lists ≡ map (places_before buckets 0) (range_with_len 0 (length lists))
   none_placed lists empty = empty_from 0 lists empty
 
--- a list of lists is told by its places, so it is as long
+-- a list of lists that is given by its places is as long as these
 pub length_told : {X : Type 0} (items : X → List ℕ) (f : ℕ → List ℕ) (lists : List X) (n : ℕ) → map items lists ≡ map f (range_with_len 0 n) → length lists ≡ n
 length_told items f lists n e = sym (length-map lists items) ∙ ap length e ∙ length-map-range_with_len f 0 n
 
--- the list that a place tells of
+-- the list at a place
 pub item_told : {X : Type 0} (items : X → List ℕ) (f : ℕ → List ℕ) (lists : List X) (n k : ℕ) (d : X) → map items lists ≡ map f (range_with_len 0 n) → k < n → items (get_or lists k d) ≡ f k
 item_told items f lists n k d e lt =
     sym (get_or_default-map items lists k d) ∙ ap (λ all. get_or all k (items d)) e ∙ get_or-map-range_with_len f 0 n k k (items d) lt (omega arith)

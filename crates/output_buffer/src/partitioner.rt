@@ -1,14 +1,12 @@
-ghost use Rattle.std.specs.Prelude.{◌≡◌, ℕ, ◌%◌, ◌<◌, ◌≤◌, [], All, IfOk, OnOk, count_by, length, map, slice_index_or, ◌==◌};
+ghost use Rattle.std.specs.Prelude.{◌≡◌, ◌%◌, ◌<◌, ◌≤◌, [], All, IfOk, OnOk, count_by, length, map, ◌==◌};
 ghost use Rattle.std.specs.List.{range_with_len};
-ghost use Rattle.sql_values.specs.Buckets.{bytes_of, hash_after};
-ghost use Rattle.sql_values.specs.Cells.{cell};
 ghost use Rattle.col_pages.specs.Pages.{most_rows};
 ghost use Rattle.bag_laws.specs.Buckets.{key_bucket};
 ghost use Rattle.bag_laws.specs.Weights.{SameWeights};
 ghost use Rattle.output_buffer.specs.Partitions.{all_rows, hash_of, parts_of, places_of, rows_at};
 
 use col_pages::Page;
-use sql_values::{EMPTY_HASH, Memory, bucket_hash};
+use sql_values::{EMPTY_HASH, Memory};
 use std::alloc::Global;
 use std::marker::Model;
 
@@ -67,24 +65,9 @@ fn hash_rows(alloc: Global, page: &Page, columns: &[u32]) -> Result<Vec<u64>, Me
 {
     let mut hashes = Vec::from_elem(alloc, EMPTY_HASH, page.len() as usize)?;
     for column in columns {
-        hash_column(page, *column, &mut hashes);
+        page.hash_column(*column, &mut hashes);
     }
     Ok(hashes)
-}
-
-/// Goes on in each row's hash by its value in a column.
-fn hash_column(page: &Page, column: u32, hashes: &mut Vec<u64>)
-    requires { length hashes.old.items ≡ length page.now.rows }
-    ensures len { length hashes.new.items ≡ length hashes.old.items }
-    ensures each { (k : ℕ) → k < length page.now.rows →
-        slice_index_or hashes.new.items k 0
-        ≡ hash_after (slice_index_or hashes.old.items k 0)
-        (bytes_of (cell (slice_index_or page.now.rows k []) column)) }
-{
-    for row in 0..page.len() {
-        let place = row as usize;
-        hashes[place] = bucket_hash(hashes[place], page.cell(row, column));
-    }
 }
 
 fn buckets_of(alloc: Global, hashes: &[u64], parts: u32) -> Result<Vec<u32>, Memory>

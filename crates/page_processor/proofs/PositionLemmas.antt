@@ -12,7 +12,7 @@ use Rattle.sql_values.specs.Blocks.{TypedCells}
 use Rattle.sql_exprs.specs.Meaning.{kind_of}
 use Rattle.page_processor.specs.Positions.{block_at, calm_positions, failure_in, index_of, value_or_null, values_at}
 
--- of outcomes that are told as one list, or as the first failure
+-- of outcomes that are given as one list, or as the first failure
 abbrev pub listed : (ℕ → Outcome) → List ℕ → Result (List Value) (ℕ × Fail)
 listed outcome [] = Ok []
 listed outcome (p ∷ ps) = cell_before p (outcome p) (listed outcome ps)

@@ -27,7 +27,7 @@ abbrev pub first_failure : (List Value → Verdict) → List (List Value) → Op
 first_failure judge [] = None
 first_failure judge (row ∷ rows) = failed_first (judge row) (first_failure judge rows)
 
--- a page of these types has what is kept before the first failure, which is told
+-- a page of these types has what is kept before the first failure, and that failure
 abbrev pub judged : (List Value → Verdict) → List SqlType → List (List Value) → Judged
 judged judge types rows = record { page = record { types = types; rows = rows_before judge rows }; failure = first_failure judge rows }
 

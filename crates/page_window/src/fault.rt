@@ -4,9 +4,9 @@ use sql_values::Memory;
 /// Why a fetch gave no reply.
 #[derive(Clone, Copy)]
 pub enum FetchFault {
-    /// The page was dropped: the token is below the base, which is told.
+    /// The page was dropped: the token is below `base`.
     TokenGone { base: u64 },
-    /// The token is past the end, which is told.
+    /// The token is past `end`.
     TokenAhead { end: u64 },
     Memory,
 }
@@ -22,7 +22,7 @@ impl From<Memory> for FetchFault {
     }
 }
 
-/// An acknowledgement of pages that were never put. The token behind the last page is told.
+/// An acknowledgement of pages that were never put. `end` is the token behind the last page.
 #[derive(Clone, Copy)]
 pub struct AckAhead {
     pub end: u64,

@@ -35,9 +35,9 @@ HasNotes (limit id count input) notes = HasNotes input notes
 HasNotes (limit_parts id source output tasks count input) notes = notes ≡ []
 HasNotes (union id left right) notes = notes ≡ []
 
--- A driver whose operators are the stages of the node's pipeline: they took and gave these rows, each was told in turn,
--- and the rows that it took have the types of its source. `ended` is whether its source has ended, and `done` whether
--- its last operator is finished.
+-- A driver whose operators are the stages of the node's pipeline: they took and gave these rows, each was told to
+-- finish in turn, and the rows that it took have the types of its source. `ended` is whether its source has ended, and
+-- `done` whether its last operator is finished.
 pub record IsLane {S : Type 0} (g : Ghosts S) (run : RunPlan) (notes : Noted) (all : List S) (took gave : List Row) (ended done : Bool) : Type 0 where
   pub given : List SqlType
   pub operate : Operate g run notes all given

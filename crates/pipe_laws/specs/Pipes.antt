@@ -1,6 +1,8 @@
 -- The pipes of a run as they stand, each at its place in the plan's layout.
 use Rattle.std.specs.Prelude.{◌≡◌, ◌⊎◌, ℕ, ◌<◌, List, ◌++◌, true, Some, get_or, length, take}
 use Rattle.sql_values.specs.declared.fail.Fail.{Fail}
+use Rattle.sql_values.specs.declared.types.SqlType.{SqlType}
+use Rattle.col_pages.specs.Fits.{AllFit}
 use Rattle.operator_core.specs.declared.operator.Operator.{Ghosts}
 use Rattle.operator_core.specs.Rows.{Row}
 use Rattle.operator_core.specs.Stages.{FailsAfter}
@@ -26,6 +28,13 @@ pub record PipeState (S : Type 0) : Type 0 where
   pub gave : Lanes
   pub ended : Flags
   pub done : Flags
+
+-- what the drivers of a pipe took, and what they gave, has these types
+abbrev pub TookTyped : {S : Type 0} → List SqlType → ℕ → PipeState S → Type 0
+TookTyped types n p = (k d : ℕ) → k < n → d < p.drivers → AllFit types (p.took k d)
+
+abbrev pub GaveTyped : {S : Type 0} → List SqlType → ℕ → PipeState S → Type 0
+GaveTyped types n p = (k d : ℕ) → k < n → d < p.drivers → AllFit types (p.gave k d)
 
 -- the pipe of a node in so many tasks
 pub record IsPipeOf {S : Type 0} (g : Ghosts S) (n : ℕ) (run : RunPlan) (p : PipeState S) : Type 0 where

@@ -1,5 +1,5 @@
 -- Stages as operators of a node.
-use Rattle.std.proofs.Common.{◌≡◌, ◌↔◌, ℕ, List, [], ◌∷◌, map, take, refl, ap}
+use Rattle.std.proofs.Common.{◌≡◌, ◌↔◌, ℕ, List, [], ◌∷◌, Bool, true, false, map, take, refl, ap}
 use Rattle.sql_values.specs.declared.types.SqlType.{SqlType}
 use Rattle.sql_values.specs.declared.fail.Fail.{Fail}
 use Rattle.sql_values.specs.declared.order.KeySpec.{KeySpec}
@@ -8,7 +8,7 @@ use Rattle.bag_laws.specs.Firsts.{IsTopOf}
 use Rattle.operator_core.specs.Rows.{Row}
 use Rattle.driver_loop.specs.declared.stage.Stage.{Stage}
 use Rattle.driver_loop.specs.contracts.stage.StageOperator.TheImpl.{ghosts}
-use Rattle.driver_loop.specs.declared.stage.Stage.TheVariants.{Filter, Final, Limit, Partial, Probe, Single, Sort, TopN}
+use Rattle.driver_loop.specs.declared.stage.Stage.TheVariants.{Dynamic, Filter, Final, Limit, Partial, Probe, Single, Sort, TopN}
 use Rattle.plan_trees.specs.declared.tree.Pair.{Pair}
 use Rattle.plan_trees.specs.TreeForms.{pair_view}
 use Rattle.aggregation.specs.declared.single.SingleAgg.{SingleAgg as SingleState}
@@ -33,8 +33,20 @@ use Rattle.stage_meanings.specs.Meanings.{ActsAs, Means}
 use Rattle.stage_meanings.proofs.ActLemmas.{acts_mean}
 use Rattle.stage_meanings.specs.Pipelines.{NodeStage, at_node}
 
--- an operator that looks into no cell never learns
-none_learned : (s m : Stage) → cell_of s ≡ [] → ghosts.may_learn s m → ⊥
+-- an operator that has no note
+abbrev pub has_no_note : Stage → Bool
+has_no_note (Filter op) = true
+has_no_note (Limit op types) = true
+has_no_note (Sort op) = true
+has_no_note (TopN op) = true
+has_no_note (Single op) = true
+has_no_note (Partial op) = true
+has_no_note (Final op) = true
+has_no_note (Probe op types) = false
+has_no_note (Dynamic op types) = false
+
+-- never learns
+none_learned : (s m : Stage) → has_no_note s ≡ true → ghosts.may_learn s m → ⊥
 none_learned (Filter op) m apart learned = learned.2
 none_learned (Limit op types) m apart learned = learned.2
 none_learned (Sort op) m apart learned = learned.2
@@ -43,13 +55,26 @@ none_learned (Single op) m apart learned = learned.2
 none_learned (Partial op) m apart learned = learned.2
 none_learned (Final op) m apart learned = learned.2
 none_learned (Probe op types) m apart learned = absurd cc
+none_learned (Dynamic op types) m apart learned = absurd cc
 
-pub never_learns : (stage : Stage) → cell_of stage ≡ [] → NeverLearns stage
+pub never_learns : (stage : Stage) → has_no_note stage ≡ true → NeverLearns stage
 never_learns stage apart = λ later. none_learned stage later apart
 
--- a stage that means a node's, and looks into no cell
-pub stage_is : (at : NodeStage) (between given : List SqlType) (stage : Stage) → cell_of stage ≡ [] → Means ghosts stage between (at ∷ []) given → IsStageOf at between given stage
-stage_is at between given stage apart means = record { means = means; fixed = never_learns stage apart; apart = apart }
+-- and looks into no cell
+no_cell : (s : Stage) → has_no_note s ≡ true → cell_of s ≡ []
+no_cell (Filter op) apart = refl
+no_cell (Limit op types) apart = refl
+no_cell (Sort op) apart = refl
+no_cell (TopN op) apart = refl
+no_cell (Single op) apart = refl
+no_cell (Partial op) apart = refl
+no_cell (Final op) apart = refl
+no_cell (Probe op types) apart = absurd cc
+no_cell (Dynamic op types) apart = absurd cc
+
+-- a stage that means a node's, and has no note
+pub stage_is : (at : NodeStage) (between given : List SqlType) (stage : Stage) → has_no_note stage ≡ true → Means ghosts stage between (at ∷ []) given → IsStageOf at between given stage
+stage_is at between given stage apart means = record { means = means; fixed = never_learns stage apart; apart = no_cell stage apart }
 
 -- One in the enum acts as the operator in it: nothing else comes to be it, and it means what that means.
 filter_untaught : (s : Stage) (op : FilterState) → ghosts.may_learn s (Filter op) → ⊥
@@ -60,6 +85,7 @@ filter_untaught (TopN k) op learned = learned.2
 filter_untaught (Single k) op learned = learned.2
 filter_untaught (Partial k) op learned = learned.2
 filter_untaught (Final k) op learned = learned.2
+filter_untaught (Dynamic d types) op learned = absurd (let clash : Filter op ≡ Dynamic learned.0 types = learned.1 in cc)
 filter_untaught (Probe p types) op learned = absurd (no_probe p types op learned)
   where
     no_probe : (p : ProbeState) (types : List SqlType) (op : FilterState) → ghosts.may_learn (Probe p types) (Filter op) → ⊥
@@ -85,6 +111,7 @@ single_untaught (TopN k) op learned = learned.2
 single_untaught (Single k) op learned = learned.2
 single_untaught (Partial k) op learned = learned.2
 single_untaught (Final k) op learned = learned.2
+single_untaught (Dynamic d types) op learned = absurd (let clash : Single op ≡ Dynamic learned.0 types = learned.1 in cc)
 single_untaught (Probe p types) op learned = absurd (no_probe p types op learned)
   where
     no_probe : (p : ProbeState) (types : List SqlType) (op : SingleState) → ghosts.may_learn (Probe p types) (Single op) → ⊥
@@ -110,6 +137,7 @@ partial_untaught (TopN k) op learned = learned.2
 partial_untaught (Single k) op learned = learned.2
 partial_untaught (Partial k) op learned = learned.2
 partial_untaught (Final k) op learned = learned.2
+partial_untaught (Dynamic d types) op learned = absurd (let clash : Partial op ≡ Dynamic learned.0 types = learned.1 in cc)
 partial_untaught (Probe p types) op learned = absurd (no_probe p types op learned)
   where
     no_probe : (p : ProbeState) (types : List SqlType) (op : PartialState) → ghosts.may_learn (Probe p types) (Partial op) → ⊥
@@ -135,6 +163,7 @@ final_untaught (TopN k) op learned = learned.2
 final_untaught (Single k) op learned = learned.2
 final_untaught (Partial k) op learned = learned.2
 final_untaught (Final k) op learned = learned.2
+final_untaught (Dynamic d types) op learned = absurd (let clash : Final op ≡ Dynamic learned.0 types = learned.1 in cc)
 final_untaught (Probe p types) op learned = absurd (no_probe p types op learned)
   where
     no_probe : (p : ProbeState) (types : List SqlType) (op : FinalState) → ghosts.may_learn (Probe p types) (Final op) → ⊥

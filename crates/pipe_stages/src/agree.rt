@@ -39,8 +39,8 @@ fn are_given(pipes: &[Pipe<'_>], table: &[PipeTypes], at: usize) -> bool
     true
 }
 
-/// Whether the types of the rows that came to a pipe's last step, if it gives to the one at a place, are those that this
-/// is told.
+/// Whether the types of the rows that came to a pipe's last step, if it gives to the one at a place, are the `halved`
+/// types of this one.
 fn is_halved(table: &[PipeTypes], at: usize, from: usize, pipe: &Pipe<'_>) -> bool
     ensures { IsTrue result → gives_to at (pipe_view pipe.now).target ≡ true
         → (types_in table.now from).before ≡ (types_in table.now at).halved }
@@ -48,7 +48,7 @@ fn is_halved(table: &[PipeTypes], at: usize, from: usize, pipe: &Pipe<'_>) -> bo
     !gives_to(at, pipe.target) || are_same(before_at(table, from), halved_at(table, at))
 }
 
-/// Whether the types of the rows that came to their last steps are those that it is told.
+/// Whether the types of the rows that came to their last steps are the `halved` types of the pipe at the place.
 fn are_halved(pipes: &[Pipe<'_>], table: &[PipeTypes], at: usize) -> bool
     ensures { IsTrue result → AreHalved (map pipe_view pipes.now) (types_in table.now) at }
 {

@@ -83,7 +83,7 @@ fn taken_of(alloc: Global, given: &[SqlType], source: PipeSource<'_>) -> Result<
     }
 }
 
-/// The types that a source is told, where rows of these came to the last step of others.
+/// The types that a source is given as `halved`, where rows of these came to the last step of others.
 fn halved_of(alloc: Global, before: &[SqlType], source: PipeSource<'_>) -> Result<Types, Memory> {
     match source {
         PipeSource::Fragment(_) => copy_types(alloc, before),

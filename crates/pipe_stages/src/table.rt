@@ -6,7 +6,7 @@ use sql_values::{SqlType, Types};
 use std::alloc::Global;
 
 /// The types of the rows of a pipe.
-#[derive(Debug, Drop)]
+#[derive(Drop)]
 pub struct PipeTypes {
     /// Of its source.
     pub taken: Types,

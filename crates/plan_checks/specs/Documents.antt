@@ -1,4 +1,4 @@
--- What bytes are as a plan document, as far as its own places tell: JSON at no place of which a
+-- What bytes are as a plan document, as far as its own places say: JSON at no place of which a
 -- check fails, or the first failing check with its place. The checks go by codes, and each goes
 -- through the document in the order of the walk.
 use Rattle.std.specs.Prelude.{◌≡◌, ◌⊎◌, ℕ, List, [], Option, Some, None, option_map}

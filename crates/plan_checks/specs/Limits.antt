@@ -54,7 +54,7 @@ exceeds (bound.Entries least most) s = not (is_within least most (entries_count 
 exceeds (bound.Below most) s = nat_le most (number_of s.value)
 exceeds (bound.Levels most) s = nat_lt most s.level
 
--- too many nodes or filters: told of the document's list of fragments
+-- too many nodes or filters: reported at the document's list of fragments
 abbrev pub is_crowded : ℕ → ℕ → Kind → Bool
 is_crowded nodes filters kind.Fragments = nat_lt 256 nodes || nat_lt 64 filters
 is_crowded nodes filters k = false
@@ -63,7 +63,7 @@ abbrev pub lacks_both : Kind → Data → Data → Bool
 lacks_both kind.AggregateCalls owner calls = (entries_count calls == 0) && (length (entries_under key.Keys owner) == 0)
 lacks_both k owner calls = false
 
--- neither keys nor calls: told of an aggregate's calls
+-- neither keys nor calls: reported at an aggregate's calls
 abbrev pub lacks_work : Spot → Bool
 lacks_work s = lacks_both s.kind s.owner s.value
 

@@ -39,13 +39,13 @@ has_column name (Some table) = list_any (has_name name) (entries_under key.Colum
 abbrev pub scan_has : List ℕ → Data → Data → Bool
 scan_has name scan document = has_column name (table_named (text_under key.Table scan) document)
 
-abbrev pub index_of : Option Step → ℕ
-index_of (Some (step.Index i)) = i
-index_of s = 0
+abbrev pub index_of_step : Option Step → ℕ
+index_of_step (Some (step.Index i)) = i
+index_of_step s = 0
 
 -- the index at a place of a path
 abbrev pub step_index : ℕ → List Step → ℕ
-step_index place path = index_of (slice_get path place)
+step_index place path = index_of_step (slice_get path place)
 
 -- the index of the table, or fragment, that a path leads into
 abbrev pub part_index : List Step → ℕ

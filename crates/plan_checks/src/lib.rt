@@ -1,4 +1,4 @@
-//! The checks of a plan document that its own places tell, each with its place and its code.
+//! The checks of a plan document that need only its own places, each with its place and its code.
 //!
 //! `specs/Documents.antt` has the one definition of the order: by codes, and for each code the
 //! first place of the walk at which the check fails.

@@ -160,7 +160,7 @@ fn is_within(least: usize, most: usize, n: usize) -> bool
     least <= n && n <= most
 }
 
-/// Whether the document has too many nodes or filters: this is told of its list of fragments.
+/// Whether the document has too many nodes or filters: this is reported at its list of fragments.
 fn is_crowded(nodes: usize, filters: usize, place: &Place<'_>) -> bool
     ensures { result ≡ is_crowded nodes filters place.now.kind }
 {
@@ -170,7 +170,7 @@ fn is_crowded(nodes: usize, filters: usize, place: &Place<'_>) -> bool
     }
 }
 
-/// Whether an aggregate has neither keys nor calls: this is told of its calls.
+/// Whether an aggregate has neither keys nor calls: this is reported at its calls.
 fn lacks_work(place: &Place<'_>) -> bool
     ensures { result ≡ lacks_work (spot_of place.now) }
 {

@@ -46,7 +46,7 @@ pub enum Output {
     Single,
     /// To every task.
     Broadcast,
-    /// Each to the task that the hash of these columns tells.
+    /// Each to the task that the hash of these columns names.
     Hash(Places),
 }
 

@@ -59,7 +59,7 @@ none_first : (i : ℕ) (o : Option ℕ) (later : Option (ℕ × ℕ)) → or_lat
 none_first i None later e = (refl, e)
 none_first i (Some j) later e = cc
 
--- where no cell is told of, each row fits
+-- where no cell is reported, each row fits
 pub rows_fit : (kinds : List SqlType) (i : ℕ) (rows : List (List Value)) → length kinds ≤ 256 → AreWide (length kinds) rows → misfit_from kinds i rows ≡ None → AllFit kinds rows
 rows_fit kinds i [] few wide e = All-nil (λ row. IsTrue (fits_row kinds row))
 rows_fit kinds i (row ∷ rows) few wide e =

@@ -68,7 +68,7 @@ when_same : (b : Bool) (columns : RowTypes) (path : Path) (t : RowTypes) → (if
 when_same true columns path t e = (refl, cc e)
 when_same false columns path t e = absurd cc
 
--- what the types of an aggregate's rows tell
+-- what follows from the types of an aggregate's rows
 record Grouped (step : NodeStep) (below : List SqlType) (keys : List ℕ) (calls : List Call) (types : RowTypes) : Type 0 where
   is : step_types step below keys calls ≡ types
   allowed : IsTrue (are_allowed below calls)

@@ -1,4 +1,4 @@
--- What the types of a node tell: of its expressions, its calls and its rows.
+-- What follows from the types of a node: of its expressions, its calls and its rows.
 use Rattle.std.proofs.Common.{◌≡◌, ℕ, ◌+◌, zero, suc, List, [], ◌∷◌, length, map, Bool, true, false, refl, ap, subst, arith}
 use Rattle.std.specs.Cmp.Derive.{both_true}
 use Rattle.std.specs.Prelude.{IsTrue, Option, Some, None, Result, Ok, Err, slice_get, if◌then◌else◌}
@@ -82,7 +82,7 @@ unless_fault (Some path) r types e = cc
 pub same_columns : (below types : RowTypes) → same_rows below ≡ Ok types → below.columns ≡ types.columns
 same_columns below types e = let same : plain below.columns ≡ types = cc e in ap (λ (t : RowTypes). t.columns) same
 
--- where no entry is told of, none is at fault
+-- where no entry is reported, none is at fault
 pub no_entry : (path : Path) (k : Key) (o : Option ℕ) → entry_fault path k o ≡ None → o ≡ None
 no_entry path k None e = refl
 no_entry path k (Some i) e = cc
@@ -111,7 +111,7 @@ taken_adds types (Min column) h = refl
 taken_adds types (Max column) h = refl
 taken_adds types (Avg column) h = few_average (type_at types column) column (second_true (has_column types column) (few.is_short (type_at types column)) h)
 
--- where no call is told of, all can be made
+-- where no call is reported, all can be made
 pub calls_allowed : (types : List SqlType) (i : ℕ) (calls : List Call) → position_from (takes_not types) i calls ≡ None → IsTrue (are_allowed types calls)
 calls_allowed types i [] e = refl
 calls_allowed types i (call ∷ calls) e =

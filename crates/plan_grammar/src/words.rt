@@ -6,7 +6,7 @@ use crate::json::{has_entry, text_under};
 use json_paths::Key;
 use serde_json::Value;
 
-/// The word that tells which operator a node is.
+/// The word that says which operator a node is.
 #[derive(Clone, Copy, PartialEq, Eq)]
 pub enum OpWord {
     Scan,
@@ -24,7 +24,7 @@ pub enum OpWord {
     Unknown,
 }
 
-/// The word that tells whether an operator is one of two halves, and which.
+/// The word that says whether an operator is one of two halves, and which.
 #[derive(Clone, Copy, PartialEq, Eq)]
 pub enum StepWord {
     Single,
@@ -34,7 +34,7 @@ pub enum StepWord {
     Unknown,
 }
 
-/// The word that tells to which tasks a fragment's rows go.
+/// The word that says to which tasks a fragment's rows go.
 #[derive(Clone, Copy, PartialEq, Eq)]
 pub enum OutputWord {
     Single,
@@ -44,7 +44,7 @@ pub enum OutputWord {
     Unknown,
 }
 
-/// The form of an expression, told by its first key.
+/// The form of an expression, which its first key says.
 #[derive(Clone, Copy)]
 pub enum FormWord {
     Lit,

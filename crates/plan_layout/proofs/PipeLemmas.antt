@@ -6,8 +6,8 @@ use Rattle.plan_docs.specs.Nodes as node
 use Rattle.plan_layout.specs.declared.pipe.Series.{Series}
 use Rattle.plan_layout.specs.Edges.{after, edge_numbers, fetch_of, fetches_of, reads_fragment}
 use Rattle.plan_layout.specs.Layouts.{driver_numbers, fragment_pipes, numbered, with_fetches}
-use Rattle.plan_layout.specs.Pipes.{PipeForm, TargetForm, cell, side}
-use Rattle.plan_layout.specs.Sides.{Site, pipe_of, pipes_of, sides_of}
+use Rattle.plan_layout.specs.Pipes.{PipeForm, TargetForm, side}
+use Rattle.plan_layout.specs.Sides.{Site, built_for, pipe_of, pipes_of, sides_of}
 use Rattle.plan_layout.specs.Steps.{side_count}
 use Rattle.plan_spreads.proofs.EachLemmas.{Each, each_join}
 
@@ -21,7 +21,7 @@ module _ (P : PipeForm → Type 0) where
     each_side own next (node.project id columns input) = each_side own next input
     each_side own next (node.join id kind on filters left right) =
         let at = next + side_count left in
-        each_join P (sides_of s own next left) (pipes_of s at (cell on) right) (each_side own next left) (one (at + 1) (cell on) right, each_side at (at + 1) right)
+        each_join P (sides_of s own next left) (pipes_of s at (built_for id on filters) right) (each_side own next left) (one (at + 1) (built_for id on filters) right, each_side at (at + 1) right)
     each_side own next (node.aggregate id step keys calls input) = each_side own next input
     each_side own next (node.aggregate_final id input) = each_side own next input
     each_side own next (node.sort id keys input) = each_side own next input

@@ -3,10 +3,10 @@ use Rattle.std.proofs.Common.{◌≡◌, ℕ, ◌+◌, ◌<◌, suc, zero, List,
 use Rattle.std.specs.Prelude.{option_map, slice_get}
 use Rattle.plan_docs.specs.Nodes.{NodeForm}
 use Rattle.plan_docs.specs.Nodes as node
-use Rattle.plan_layout.specs.Pipes.{PipeForm, TargetForm, cell, side}
-use Rattle.plan_layout.specs.Runs.{PipeAt, Runs, bare}
-use Rattle.plan_layout.specs.Sides.{Site, pipe_of, pipes_of, sides_of}
-use Rattle.plan_layout.specs.Steps.{side_count, source_of, steps_of}
+use Rattle.plan_layout.specs.Pipes.{PipeForm, TargetForm, side}
+use Rattle.plan_layout.specs.Runs.{HasScan, PipeAt, Runs, bare}
+use Rattle.plan_layout.specs.Sides.{Site, built_for, pipe_of, pipes_of, sides_of}
+use Rattle.plan_layout.specs.Steps.{scan_read, side_count, source_of, steps_of}
 
 pub length_append : {A : Type 0} (xs ys : List A) → length (xs ++ ys) ≡ length xs + length ys
 length_append [] ys = omega arith
@@ -22,7 +22,7 @@ side_length s own next (node.join id kind on filters left right) =
     let at = next + side_count left in
     omega (
       arith,
-      length_append (sides_of s own next left) (pipes_of s at (cell on) right),
+      length_append (sides_of s own next left) (pipes_of s at (built_for id on filters) right),
       side_length s own next left,
       side_length s at (at + 1) right,
     )
@@ -84,7 +84,7 @@ module _ (layout : List PipeForm) (s : Site) where
   abbrev RunsNode : ℕ → ℕ → NodeForm → Type 0
   RunsNode own next n = Runs layout s own n (source_of n) (steps_of s.fragments next n)
 
-  pipe_runs : (at : ℕ) (target : TargetForm) (n : NodeForm) → (Stand layout (at + 1) (sides_of s at (at + 1) n) → RunsNode at (at + 1) n)
+  pipe_runs : (at : ℕ) (target : TargetForm) (n : NodeForm) → (Stand layout (at + 1) (sides_of s at (at + 1) n) → HasScan layout at (scan_read n) → RunsNode at (at + 1) n)
       → Stand layout at (pipes_of s at target n) → PipeAt layout s target at (Runs layout s at n)
   pipe_runs at target n runs stand = record {
     pipe = pipe_of s (at + 1) target n;
@@ -93,31 +93,32 @@ module _ (layout : List PipeForm) (s : Site) where
     tasks = refl;
     drivers = refl;
     has = refl;
-    below = runs (stand_next layout at (pipe_of s (at + 1) target n) (sides_of s at (at + 1) n) stand);
+    below = runs (stand_next layout at (pipe_of s (at + 1) target n) (sides_of s at (at + 1) n) stand)
+        (record { pipe = pipe_of s (at + 1) target n; is = stand_first layout at (pipe_of s (at + 1) target n) (sides_of s at (at + 1) n) stand; scan = refl });
   }
 
-  nodes_run : (own next : ℕ) (n : NodeForm) → Stand layout next (sides_of s own next n) → RunsNode own next n
-  nodes_run own next (node.scan id place columns types) stand = (refl, refl)
-  nodes_run own next (node.values id types list) stand = (refl, refl)
-  nodes_run own next (node.remote id number) stand = (refl, refl)
-  nodes_run own next (node.filter id predicate input) stand = (steps_of s.fragments next input, refl, nodes_run own next input stand)
-  nodes_run own next (node.project id columns input) stand = (steps_of s.fragments next input, refl, nodes_run own next input stand)
-  nodes_run own next (node.join id kind on filters left right) stand =
+  nodes_run : (own next : ℕ) (n : NodeForm) → Stand layout next (sides_of s own next n) → HasScan layout own (scan_read n) → RunsNode own next n
+  nodes_run own next (node.scan id place columns types) stand reads = (refl, refl, reads)
+  nodes_run own next (node.values id types list) stand reads = (refl, refl)
+  nodes_run own next (node.remote id number) stand reads = (refl, refl)
+  nodes_run own next (node.filter id predicate input) stand reads = (steps_of s.fragments next input, refl, nodes_run own next input stand reads)
+  nodes_run own next (node.project id columns input) stand reads = (steps_of s.fragments next input, refl, nodes_run own next input stand reads)
+  nodes_run own next (node.join id kind on filters left right) stand reads =
       let at = next + side_count left in
       let before = sides_of s own next left in
-      let beside = pipes_of s at (cell on) right in (
+      let beside = pipes_of s at (built_for id on filters) right in (
         at,
-        pipe_runs at (cell on) right (nodes_run at (at + 1) right) (stand_right layout next before beside (side_count left) (side_length s own next left) stand),
-        (steps_of s.fragments next left, refl, nodes_run own next left (stand_left layout next before beside stand)),
+        pipe_runs at (built_for id on filters) right (nodes_run at (at + 1) right) (stand_right layout next before beside (side_count left) (side_length s own next left) stand),
+        (steps_of s.fragments next left, refl, nodes_run own next left (stand_left layout next before beside stand) reads),
       )
-  nodes_run own next (node.aggregate id step keys calls input) stand = (steps_of s.fragments next input, refl, nodes_run own next input stand)
-  nodes_run own next (node.aggregate_final id input) stand = (steps_of s.fragments next input, refl, nodes_run own next input stand)
-  nodes_run own next (node.sort id keys input) stand = (steps_of s.fragments next input, refl, nodes_run own next input stand)
-  nodes_run own next (node.top_n id step count keys input) stand = (steps_of s.fragments next input, refl, nodes_run own next input stand)
-  nodes_run own next (node.top_n_final id input) stand = (steps_of s.fragments next input, refl, nodes_run own next input stand)
-  nodes_run own next (node.limit id step count input) stand = (steps_of s.fragments next input, refl, nodes_run own next input stand)
-  nodes_run own next (node.limit_final id input) stand = (steps_of s.fragments next input, refl, nodes_run own next input stand)
-  nodes_run own next (node.union id left right) stand =
+  nodes_run own next (node.aggregate id step keys calls input) stand reads = (steps_of s.fragments next input, refl, nodes_run own next input stand reads)
+  nodes_run own next (node.aggregate_final id input) stand reads = (steps_of s.fragments next input, refl, nodes_run own next input stand reads)
+  nodes_run own next (node.sort id keys input) stand reads = (steps_of s.fragments next input, refl, nodes_run own next input stand reads)
+  nodes_run own next (node.top_n id step count keys input) stand reads = (steps_of s.fragments next input, refl, nodes_run own next input stand reads)
+  nodes_run own next (node.top_n_final id input) stand reads = (steps_of s.fragments next input, refl, nodes_run own next input stand reads)
+  nodes_run own next (node.limit id step count input) stand reads = (steps_of s.fragments next input, refl, nodes_run own next input stand reads)
+  nodes_run own next (node.limit_final id input) stand reads = (steps_of s.fragments next input, refl, nodes_run own next input stand reads)
+  nodes_run own next (node.union id left right) stand reads =
       let at = next + 1 + side_count left in
       let first = pipes_of s next (side own) left in
       let second = pipes_of s at (side own) right in

@@ -1,5 +1,5 @@
 -- The pipes that fetch what others read of other fragments.
-use Rattle.std.specs.Prelude.{ℕ, ◌+◌, List, [], ◌∷◌, Bool, true, false, ◌==◌, if◌then◌else◌, unwrap_or}
+use Rattle.std.specs.Prelude.{ℕ, ◌+◌, List, [], ◌∷◌, Bool, true, false, ◌==◌, if◌then◌else◌, None, unwrap_or}
 use Rattle.std.specs.List.{position_from}
 use Rattle.plan_docs.specs.declared.plan.Output.{Output}
 use Rattle.plan_layout.specs.declared.pipe.Series.{Series}
@@ -51,6 +51,7 @@ fetch_of pipe at numbers = record {
   drivers = 1;
   numbers = unnumbered;
   source = edge at numbers;
+  scan = None;
   steps = [];
   target = takers at;
 }

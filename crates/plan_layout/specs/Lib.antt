@@ -4,3 +4,4 @@ pub mod Sides
 pub mod Edges
 pub mod Layouts
 pub mod Runs
+pub mod Filters

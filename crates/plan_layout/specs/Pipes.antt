@@ -1,13 +1,15 @@
 -- The form of a pipe: what it says, without the memory that holds it.
-use Rattle.std.specs.Prelude.{ℕ, ◌+◌, ◌*◌, List, map}
+use Rattle.std.specs.Prelude.{ℕ, ◌+◌, ◌*◌, List, map, Option}
 use Rattle.sql_values.specs.declared.types.SqlType.{SqlType}
 use Rattle.sql_values.specs.declared.value.Value.{Value}
 use Rattle.sql_values.specs.declared.relational.Call.{Call}
 use Rattle.sql_values.specs.declared.relational.JoinKind.{JoinKind}
 use Rattle.sql_values.specs.declared.order.KeySpec.{KeySpec}
 use Rattle.sql_exprs.specs.Forms.{Form, form_view}
+use Rattle.plan_docs.specs.declared.node.DynamicFilter.{DynamicFilter}
 use Rattle.plan_docs.specs.declared.plan.Output.{Output}
 use Rattle.plan_trees.specs.declared.tree.Pair.{Pair}
+use Rattle.plan_layout.specs.declared.pipe.BuildSide.{BuildSide}
 use Rattle.plan_layout.specs.declared.pipe.Pipe.{Pipe}
 use Rattle.plan_layout.specs.declared.pipe.Series.{Series}
 use Rattle.plan_layout.specs.declared.pipe.PipeSource.{PipeSource}
@@ -42,11 +44,17 @@ pub data StepForm : Type 0 where
   top_n : ℕ → ℕ → List KeySpec → StepForm
   limit : ℕ → ℕ → StepForm
 
+-- the right side of a join: the join's number, its pairs of columns, and its dynamic filters
+pub record BuildForm : Type 0 where
+  pub join : ℕ
+  pub on : List Pair
+  pub filters : List DynamicFilter
+
 -- where the rows of a pipe go
 pub data TargetForm : Type 0 where
   result : TargetForm
-  -- into the cell of this pipe, for a join on these columns
-  cell : List Pair → TargetForm
+  -- into the cell of this pipe, as the right side of a join
+  cell : BuildForm → TargetForm
   -- to the pipe whose source is a union
   side : ℕ → TargetForm
   -- to the edge of the pipe that reads the fragment, in each of its tasks
@@ -61,6 +69,8 @@ pub record PipeForm : Type 0 where
   pub drivers : ℕ
   pub numbers : Series
   pub source : SourceForm
+  -- the number of the scan that reads the table, if it takes from one
+  pub scan : Option ℕ
   pub steps : List StepForm
   pub target : TargetForm
 
@@ -90,9 +100,12 @@ step_view (Sort id keys) = sort id keys.now
 step_view (TopN id count keys) = top_n id count keys.now
 step_view (Limit id count) = limit id count
 
+abbrev pub build_view : BuildSide → BuildForm
+build_view b = record { join = b.join; on = b.on.now; filters = b.filters.now }
+
 abbrev pub target_view : PipeTarget → TargetForm
 target_view Result = result
-target_view (Cell on) = cell on.now
+target_view (Cell build) = cell (build_view build)
 target_view (Side pipe) = side pipe
 target_view (Readers output pipe) = readers output.now pipe
 target_view (Takers pipe) = takers pipe
@@ -104,6 +117,7 @@ pipe_view p = record {
   drivers = p.drivers;
   numbers = p.numbers;
   source = source_view p.source;
+  scan = p.scan;
   steps = map step_view p.steps.items;
   target = target_view p.target;
 }

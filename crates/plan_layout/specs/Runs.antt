@@ -1,15 +1,15 @@
 -- What the pipes of a layout run: for each node of a fragment the pipe that it is in, and for each right side and each
 -- side of a union a pipe of its own.
-use Rattle.std.specs.Prelude.{◌≡◌, ◌<◌, ◌≤◌, ℕ, List, [], ◌∷◌, ◌++◌, length, map, slice_get, true, Some}
+use Rattle.std.specs.Prelude.{◌≡◌, ◌<◌, ◌≤◌, ℕ, List, [], ◌∷◌, ◌++◌, length, map, slice_get, true, Option, Some}
 use Rattle.plan_docs.specs.Nodes.{NodeForm}
 use Rattle.plan_docs.specs.Nodes as node
 use Rattle.plan_docs.specs.Plans.{FragmentForm}
 use Rattle.plan_layout.specs.declared.pipe.Parallelism.{Parallelism}
 use Rattle.plan_layout.specs.declared.pipe.Series.{Series}
 use Rattle.plan_layout.specs.Edges.{reads_fragment, target_of}
-use Rattle.plan_layout.specs.Pipes.{PipeForm, SourceForm, StepForm, TargetForm, table, rows, sides, fragment, edge, filter, project, probe, sort, top_n, limit, cell, side, takers}
+use Rattle.plan_layout.specs.Pipes.{PipeForm, SourceForm, StepForm, TargetForm, table, rows, sides, fragment, edge, filter, project, probe, sort, top_n, limit, side, takers}
 use Rattle.plan_layout.specs.Layouts.{site_of}
-use Rattle.plan_layout.specs.Sides.{Site, unnumbered}
+use Rattle.plan_layout.specs.Sides.{Site, built_for, unnumbered}
 use Rattle.plan_layout.specs.Steps.{aggregate_step, drivers_in_task, final_over}
 
 -- a pipe without the numbers of its drivers
@@ -19,8 +19,14 @@ bare pipe = record pipe { numbers = unnumbered }
 abbrev pub EndsWith : (List StepForm → Type 0) → List StepForm → List StepForm → Type 0
 EndsWith IsForInput last steps = (rest : List StepForm) × (steps ≡ rest ++ last) × IsForInput rest
 
+-- the pipe at the place reads a table by this scan, if by any
+pub record HasScan (layout : List PipeForm) (at : ℕ) (read : Option ℕ) : Type 0 where
+  pub pipe : PipeForm
+  pub is : slice_get layout at ≡ Some pipe
+  pub scan : pipe.scan ≡ read
+
 -- at a place of the layout is a pipe of the fragment, with the target, and so many drivers as may run it, whose source
--- and steps are as told
+-- and steps are as `Below` says
 pub record PipeAt (layout : List PipeForm) (s : Site) (target : TargetForm) (at : ℕ)
     (Below : SourceForm → List StepForm → Type 0) : Type 0 where
   pub pipe : PipeForm
@@ -35,7 +41,7 @@ pub record PipeAt (layout : List PipeForm) (s : Site) (target : TargetForm) (at 
 -- this one; and so do the pipes that begin below
 abbrev pub Runs : List PipeForm → Site → ℕ → NodeForm → SourceForm → List StepForm → Type 0
 Runs layout s own (node.scan id place columns types) source steps =
-    (source ≡ table place columns types) × (steps ≡ [])
+    (source ≡ table place columns types) × (steps ≡ []) × HasScan layout own (Some id)
 Runs layout s own (node.values id types list) source steps = (source ≡ rows types list) × (steps ≡ [])
 Runs layout s own (node.remote id number) source steps = (source ≡ fragment number) × (steps ≡ [])
 Runs layout s own (node.filter id predicate input) source steps =
@@ -43,7 +49,7 @@ Runs layout s own (node.filter id predicate input) source steps =
 Runs layout s own (node.project id columns input) source steps =
     EndsWith (Runs layout s own input source) (project id columns ∷ []) steps
 Runs layout s own (node.join id kind on filters left right) source steps =
-    (at : ℕ) × PipeAt layout s (cell on) at (Runs layout s at right)
+    (at : ℕ) × PipeAt layout s (built_for id on filters) at (Runs layout s at right)
     × EndsWith (Runs layout s own left source) (probe id kind on at ∷ []) steps
 Runs layout s own (node.aggregate id step keys calls input) source steps =
     EndsWith (Runs layout s own input source) (aggregate_step id step keys calls ∷ []) steps

@@ -1,12 +1,14 @@
 -- The pipes of one fragment without those that fetch: that of its root, and those that begin below, in the order in
 -- which a walk to each node, its input or left side and then its right side, meets their topmost nodes.
 use Rattle.std.specs.Prelude.{ℕ, ◌+◌, List, [], ◌∷◌, ◌++◌, map}
+use Rattle.plan_docs.specs.declared.node.DynamicFilter.{DynamicFilter}
 use Rattle.plan_docs.specs.Nodes.{NodeForm, scan, values, remote, filter, project, join, aggregate, aggregate_final, sort, top_n, top_n_final, limit, limit_final, union}
 use Rattle.plan_docs.specs.Plans.{FragmentForm, fragment_view}
+use Rattle.plan_trees.specs.declared.tree.Pair.{Pair}
 use Rattle.plan_layout.specs.declared.pipe.Series.{Series}
 use Rattle.plan_layout.specs.declared.sides.Site as declared
 use Rattle.plan_layout.specs.Pipes.{PipeForm, TargetForm, cell, side}
-use Rattle.plan_layout.specs.Steps.{drivers_in_task, side_count, source_of, steps_of}
+use Rattle.plan_layout.specs.Steps.{drivers_in_task, scan_read, side_count, source_of, steps_of}
 
 -- a fragment as it runs: its number among all, its tasks, and the drivers of a pipe in each
 pub record Site : Type 0 where
@@ -35,9 +37,14 @@ pipe_of s next target node = record {
   drivers = drivers_in_task s.drivers (source_of node) (steps_of s.fragments next node) target;
   numbers = unnumbered;
   source = source_of node;
+  scan = scan_read node;
   steps = steps_of s.fragments next node;
   target = target;
 }
+
+-- the target of a join's right side
+abbrev pub built_for : ℕ → List Pair → List DynamicFilter → TargetForm
+built_for id on filters = cell (record { join = id; on = on; filters = filters })
 
 -- those that begin below a node of the pipe `own`, from the place `next` on
 abbrev pub sides_of : Site → ℕ → ℕ → NodeForm → List PipeForm
@@ -48,7 +55,7 @@ sides_of s own next (filter id predicate input) = sides_of s own next input
 sides_of s own next (project id columns input) = sides_of s own next input
 sides_of s own next (join id kind on filters left right) =
     sides_of s own next left
-    ++ pipe_of s (next + side_count left + 1) (cell on) right
+    ++ pipe_of s (next + side_count left + 1) (built_for id on filters) right
     ∷ sides_of s (next + side_count left) (next + side_count left + 1) right
 sides_of s own next (aggregate id step keys calls input) = sides_of s own next input
 sides_of s own next (aggregate_final id input) = sides_of s own next input

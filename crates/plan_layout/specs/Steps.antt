@@ -26,6 +26,23 @@ source_of (node.limit id step count input) = source_of input
 source_of (node.limit_final id input) = source_of input
 source_of (node.union id left right) = sides
 
+-- the number of the scan that is the source
+abbrev pub scan_read : NodeForm → Option ℕ
+scan_read (node.scan id place columns types) = Some id
+scan_read (node.values id types list) = None
+scan_read (node.remote id number) = None
+scan_read (node.filter id predicate input) = scan_read input
+scan_read (node.project id columns input) = scan_read input
+scan_read (node.join id kind on filters left right) = scan_read left
+scan_read (node.aggregate id step keys calls input) = scan_read input
+scan_read (node.aggregate_final id input) = scan_read input
+scan_read (node.sort id keys input) = scan_read input
+scan_read (node.top_n id step count keys input) = scan_read input
+scan_read (node.top_n_final id input) = scan_read input
+scan_read (node.limit id step count input) = scan_read input
+scan_read (node.limit_final id input) = scan_read input
+scan_read (node.union id left right) = None
+
 -- how many pipes begin below a node, its own one apart: at the right side of each join, and at each side of a union
 abbrev pub side_count : NodeForm → ℕ
 side_count (node.scan id place columns types) = 0
@@ -107,7 +124,7 @@ groups_rows (final id keys calls) = true
 groups_rows step = false
 
 abbrev pub builds : TargetForm → Bool
-builds (cell on) = true
+builds (cell build) = true
 builds target = false
 
 -- so many drivers where several may run it, and else one

@@ -121,6 +121,7 @@ fn fetch_of<'p>(alloc: Global, pipe: &Pipe<'p>, at: usize, numbers: Series) -> P
         drivers: 1,
         numbers: UNNUMBERED,
         source: PipeSource::Edge(at, numbers),
+        scan: None,
         steps: Vec::new(alloc),
         target: PipeTarget::Takers(at),
     }

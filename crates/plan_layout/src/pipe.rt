@@ -3,7 +3,7 @@ ghost use Rattle.std.specs.Prelude.{◌≡◌, IfOk};
 ghost use Rattle.plan_layout.specs.Pipes.{driver_number, number_in_task, pipe_view};
 
 use crate::sums::{add, multiply};
-use plan_docs::Output;
+use plan_docs::{DynamicFilters, Output};
 use plan_trees::{CallList, KeyList, Pairs};
 use sql_exprs::{Expr, ExprList};
 use sql_values::{JoinKind, Memory, Places, RowList, Types};
@@ -41,6 +41,8 @@ pub struct Pipe<'p> {
     /// The numbers of the first driver of each task.
     pub numbers: Series,
     pub source: PipeSource<'p>,
+    /// The number of the scan that reads the table, if the pipe takes from one.
+    pub scan: Option<u32>,
     /// From the source on.
     pub steps: Vec<PipeStep<'p>>,
     pub target: PipeTarget<'p>,
@@ -85,12 +87,21 @@ pub enum PipeStep<'p> {
     Limit(u32, u32),
 }
 
+/// The right side of a join.
+#[derive(Clone, Copy)]
+pub struct BuildSide<'p> {
+    /// The join's number.
+    pub join: u32,
+    pub on: &'p Pairs,
+    pub filters: &'p DynamicFilters,
+}
+
 /// Where the rows of a pipe go.
 #[derive(Clone, Copy)]
 pub enum PipeTarget<'p> {
     Result,
-    /// The cell of this pipe, for a join on these columns.
-    Cell(&'p Pairs),
+    /// The cell of this pipe, as the right side of a join.
+    Cell(BuildSide<'p>),
     /// The pipe whose source is a union.
     Side(usize),
     /// The edge of the pipe that reads the fragment, in each of its tasks.

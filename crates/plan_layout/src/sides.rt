@@ -2,13 +2,14 @@
 ghost use Rattle.std.specs.Prelude.{◌≡◌, ◌+◌, ◌++◌, ◌∷◌, [], map, IfOk, OnOk};
 ghost use Rattle.plan_docs.specs.Nodes.{node_view};
 ghost use Rattle.plan_layout.specs.Pipes.{pipe_view, target_view};
-ghost use Rattle.plan_layout.specs.Sides.{pipe_of, pipes_of, sides_of, site_view};
+ghost use Rattle.plan_layout.specs.Sides.{built_for, pipe_of, pipes_of, sides_of, site_view};
 ghost use Rattle.plan_layout.specs.Steps.{side_count};
 
-use crate::pipe::{Pipe, PipeTarget, Series};
-use crate::steps::{drivers_in_task, side_count, source_of, steps_of};
+use crate::pipe::{BuildSide, Pipe, PipeTarget, Series};
+use crate::steps::{drivers_in_task, scan_read, side_count, source_of, steps_of};
 use crate::sums::sum_of;
-use plan_docs::{Fragment, Node};
+use plan_docs::{DynamicFilters, Fragment, Node};
+use plan_trees::Pairs;
 use sql_values::Memory;
 use std::alloc::Global;
 
@@ -45,6 +46,7 @@ fn pipe_of<'p>(
         drivers: drivers_in_task(site.drivers, source, steps.as_slice(), target),
         numbers: UNNUMBERED,
         source,
+        scan: scan_read(node),
         steps,
         target,
     })
@@ -74,6 +76,17 @@ fn place_behind(next: usize, node: &Node) -> Result<usize, Memory>
     sum_of(next, side_count(node)?)
 }
 
+/// The target of a join's right side.
+fn built_for<'p>(id: u32, on: &'p Pairs, filters: &'p DynamicFilters) -> PipeTarget<'p>
+    ensures { target_view result ≡ built_for id on.now filters.now }
+{
+    PipeTarget::Cell(BuildSide {
+        join: id,
+        on,
+        filters,
+    })
+}
+
 /// Those that begin below a node of the pipe `own`, from the place `next` on.
 fn push_sides<'p>(
     alloc: Global,
@@ -90,15 +103,18 @@ fn push_sides<'p>(
     match node {
         Node::Scan { .. } | Node::Values { .. } | Node::Remote { .. } => Ok(()),
         Node::Join {
+            id,
             on,
             left,
             right,
+            filters,
             ..
         } => {
+            let target = built_for(*id, on, filters);
             let at = place_behind(next, left)?;
             let below = sum_of(at, 1)?;
             push_sides(alloc, site, pipes, own, next, left)?;
-            push_pipe(alloc, site, pipes, below, PipeTarget::Cell(on), right)?;
+            push_pipe(alloc, site, pipes, below, target, right)?;
             push_sides(alloc, site, pipes, at, below, right)
         }
         Node::Union { left, right, .. } => {

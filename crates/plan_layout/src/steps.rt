@@ -4,7 +4,7 @@ ghost use Rattle.std.specs.List.{list_any};
 ghost use Rattle.plan_docs.specs.Nodes.{node_view};
 ghost use Rattle.plan_docs.specs.Plans.{fragment_view};
 ghost use Rattle.plan_layout.specs.Pipes.{probe, source_view, step_view, target_view};
-ghost use Rattle.plan_layout.specs.Steps.{aggregate_step, builds, drivers_in_task, final_in, final_of, final_over, groups_rows, is_shared, own_steps, side_count, source_of, steps_of};
+ghost use Rattle.plan_layout.specs.Steps.{aggregate_step, builds, drivers_in_task, final_in, final_of, final_over, groups_rows, is_shared, own_steps, scan_read, side_count, source_of, steps_of};
 
 use crate::pipe::{PipeSource, PipeStep, PipeTarget};
 use crate::sums::sum_of;
@@ -36,6 +36,26 @@ pub fn source_of(node: &Node) -> PipeSource<'_>
         | Node::TopNFinal { input, .. }
         | Node::Limit { input, .. }
         | Node::LimitFinal { input, .. } => source_of(input),
+    }
+}
+
+/// The number of the scan that is the source.
+pub fn scan_read(node: &Node) -> Option<u32>
+    ensures { result ≡ scan_read (node_view node.now) }
+{
+    match node {
+        Node::Scan { id, .. } => Some(*id),
+        Node::Values { .. } | Node::Remote { .. } | Node::Union { .. } => None,
+        Node::Join { left, .. } => scan_read(left),
+        Node::Filter { input, .. }
+        | Node::Project { input, .. }
+        | Node::Aggregate { input, .. }
+        | Node::AggregateFinal { input, .. }
+        | Node::Sort { input, .. }
+        | Node::TopN { input, .. }
+        | Node::TopNFinal { input, .. }
+        | Node::Limit { input, .. }
+        | Node::LimitFinal { input, .. } => scan_read(input),
     }
 }
 

@@ -1,4 +1,4 @@
--- What the checks tell of one place of a document, and of the fragments that stand in it.
+-- What follows from the checks for one place of a document, and for the fragments that stand in it.
 use Rattle.std.proofs.Common.{◌≡◌, ℕ, ◌<◌, ◌^◌, zero, suc, List, [], ◌∷◌, ◌++◌, length, Bool, true, false, Option, Some, None, refl, ap, ◌∙◌, subst, arith}
 use Rattle.std.specs.Prelude.{slice_get, ◌||◌, ◌==◌, not, nat_le, if◌then◌else◌, option_and_then, unwrap_or}
 use Rattle.std.specs.Option.{is_some}

@@ -33,7 +33,7 @@ pub fn halves_meet(plan: &Plan)
 
 /// The law that such a plan means the tree of the plan as it runs, with any number of tasks; that this tree, and that of
 /// each fragment, has the columns that its parts ask for; and that as it runs the plan is placed as a whole in the one
-/// task of fragment 0, and each fragment at the spread that is told for it, where its root is no PARTIAL node.
+/// task of fragment 0, and each fragment at the spread that is given for it, where its root is no PARTIAL node.
 pub fn consistent_plans_are_placed(plan: &Plan)
     ensures tree { IsConsistent (plan_view plan.now) → (tasks : ℕ)
         → tree_of (plan_view plan.now) ≡ tree_of_run (plan_run tasks (plan_view plan.now)) }

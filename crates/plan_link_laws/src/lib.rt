@@ -1,4 +1,4 @@
-//! What the checks of a document tell of its plan, in any number of fragments: as laws.
+//! What follows from the checks of a document for its plan, in any number of fragments: as laws.
 //!
 //! A plan is consistent where it is that of a document of which no check fails (`specs/Consistent.antt`). A plan that was
 //! read is.

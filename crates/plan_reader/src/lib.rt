@@ -1,4 +1,4 @@
-//! Plans: a document is read into a plan, or the first check that fails is told with its place.
+//! Plans: a document is read into a plan, or the first check that fails is reported with its place.
 //!
 //! `specs/Judgement.antt` has the order of the checks as one definition: those of the document's
 //! own places, then the types, then the placement (`plan_spreads`), then the paths of dynamic filters

@@ -8,7 +8,7 @@ use plan_docs::{Plan, read_plan_doc};
 use std::alloc::Global;
 
 /// The plan that the bytes write, where no check of the document fails. Else the first check that
-/// fails is told by its code and its place.
+/// fails is reported by its code and its place.
 #[tactic(auto, using(crate::proofs::JudgeLemmas::judged))]
 pub fn read_plan(alloc: Global, bytes: &[u8]) -> Result<Plan, PlanFault>
     ensures { MatchResult result (λ plan. IsPlan bytes.now (plan_view plan))

@@ -82,7 +82,7 @@ module _ (mode : Mode) (tables : List (List (List Value))) (id source m : ℕ) (
   same_parts =
       same-trans (same-gather all_parts.drivers (λ d. partials_of keys calls (all_parts.pieces d)) all_parts.gave all_parts.each) all_parts.together
 
-  -- they tell the groups of a list that the tree gives
+  -- they give the groups of a list that the tree gives
   same_merged : SameWeights (finals_of (types_of t) (length keys) calls (gather m parts)) (groups_of (types_of t) keys calls below.rows)
   same_merged = same-merged_pieces (types_of t) calls keys all_parts.drivers all_parts.pieces (same-trans all_parts.cut below.same) same_parts
 

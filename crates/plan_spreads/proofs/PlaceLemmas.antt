@@ -1,4 +1,4 @@
--- Columns by which rows sit, in the words of the placements of a run.
+-- Columns by which rows sit, by the definitions of the placements of a run.
 use Rattle.std.proofs.Common.{◌≡◌, ℕ, ◌+◌, ◌<◌, suc, List, [], ◌∷◌, length, map, get_or, Bool, true, false, cond, Option, Some, None, refl, ap, subst, arith}
 use Rattle.std.specs.Prelude.{All, Contains, ◌&&◌, ◌||◌, ◌==◌, nat_lt}
 use Rattle.std.specs.List.{list_all, list_any, position_from}

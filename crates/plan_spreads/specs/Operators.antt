@@ -24,7 +24,7 @@ remote_spread (output.Hash columns) = Some (By columns)
 remote_spread output.Broadcast = Some Every
 remote_spread o = None
 
--- a column that is computed, or left out, tells no bucket
+-- a column that is computed, or left out, gives no bucket
 abbrev pub by_or_any : Option (List ℕ) → RowSpread
 by_or_any (Some places) = By places
 by_or_any None = Any

@@ -56,7 +56,7 @@ plan_spreads plan =
     (or_fault (sources_fault 0 plan.fragments)
     (all_spreads 0 plan.fragments))
 
--- the fault tells the place as a pointer, or memory was wanting
+-- the fault names the place as a pointer, or memory was wanting
 abbrev pub RefusedFor : Result (List RowSpread) Path → SpreadFault → Type 0
 RefusedFor spreads (fault.Refused pointer) = (path : Path) × (spreads ≡ Err path) × (pointer ≡ pointer_text path)
 RefusedFor spreads fault.Memory = Unit {0}

@@ -32,7 +32,7 @@ pub fn remote_spread(alloc: Global, output: &Output) -> Result<Option<RowSpread>
     }
 }
 
-/// The spread of rows that are computed: a column that is computed, too, or left out, tells no bucket.
+/// The spread of rows that are computed: a column that is computed, too, or left out, gives no bucket.
 pub fn project_spread(
     alloc: Global,
     exprs: &[Expr],

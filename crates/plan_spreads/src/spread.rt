@@ -1,7 +1,7 @@
 use sql_values::Places;
 
 /// How the rows of a node are spread over the tasks of its fragment.
-#[derive(Debug, Drop)]
+#[derive(Drop)]
 pub enum RowSpread {
     /// There is one task.
     Whole,

@@ -1,5 +1,6 @@
 //! The layouts of plans: each line is tasks and drivers, the fragments of a document, and the pipes in their order.
 mod cases;
+mod filters;
 
 use crate::lines::{Case, case_of, unquoted};
 use cases::{DOCUMENT, LAYOUTS, NUMBERED, SCAN, VALUES};

@@ -15,7 +15,7 @@ abbrev pub or_fault : {A : Type 0} → Option Path → Result A Path → Result 
 or_fault None r = r
 or_fault (Some path) r = Err path
 
--- the fault tells the path, or memory was wanting
+-- the fault names the path, or memory was wanting
 abbrev pub StandsIn : Option Path → Misfit → Type 0
 StandsIn fault (misfit.At steps) = fault ≡ Some steps.items
 StandsIn fault misfit.Memory = Unit {0}

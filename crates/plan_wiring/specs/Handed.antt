@@ -3,6 +3,7 @@ use Rattle.std.specs.Prelude.{◌≡◌, List, [], ◌∷◌, Option, Some, None
 use Rattle.split_source.specs.Seats as claimed
 use Rattle.split_source.specs.Seats.{ClaimsState, SeatState}
 use Rattle.hash_join.specs.Cells.{CellState}
+use Rattle.dyn_filter.specs.Cells as filter
 use Rattle.output_buffer.specs.Seats.{AreGatherPutsOf, AreSpreadTakesOf, GatherPutState, GatherState, GatherTakeState, SpreadPutState, SpreadState, SpreadTakeState, new_gather_puts, new_gather_take, new_spread_put, new_spread_take}
 use Rattle.plan_wiring.specs.declared.seats.GatherSeats.{GatherSeats}
 use Rattle.plan_wiring.specs.declared.seats.SpreadSeats.{SpreadSeats}
@@ -20,12 +21,13 @@ pub record SpreadSeatsForm : Type 0 where
   pub put : SpreadPutState
   pub takes : List SpreadTakeState
 
--- those of what a pipe has, and its cells
+-- those of what a pipe has, and its cells: those of its join, and one of each dynamic filter
 pub record SeatsForm : Type 0 where
   pub claims : List SeatState
   pub gathers : List GatherSeatsForm
   pub spreads : List SpreadSeatsForm
   pub cells : List CellState
+  pub filters : List filter.CellState
 
 abbrev pub gather_seats_view : GatherSeats → GatherSeatsForm
 gather_seats_view seats = record { puts = seats.puts.items; take = seats.take }
@@ -39,6 +41,7 @@ seats_view seats = record {
   gathers = map gather_seats_view seats.gathers.items;
   spreads = map spread_seats_view seats.spreads.items;
   cells = seats.cells.now;
+  filters = seats.filters.now;
 }
 
 -- all seats of an edge, with which nothing was put or taken yet
@@ -58,6 +61,7 @@ new_seats shared = record {
   gathers = map new_gather_seats shared.gathers.items;
   spreads = map new_spread_seats shared.spreads.items;
   cells = shared.cells.items;
+  filters = shared.filters.items;
 }
 
 -- these are all seats of the edge

@@ -4,6 +4,7 @@ use Rattle.sql_values.specs.declared.table.Table.{Table}
 use Rattle.sql_values.specs.declared.value.Value.{Value}
 use Rattle.split_source.specs.Splits.{split_count}
 use Rattle.plan_layout.specs.Edges.{count_if}
+use Rattle.plan_layout.specs.Filters.{filters_built}
 use Rattle.plan_layout.specs.Pipes.{PipeForm, SourceForm, TargetForm, table, sides, fragment, edge, cell, side, readers}
 
 -- how many numbers of splits there are to claim, for how many seats, and whether these were handed out
@@ -25,6 +26,8 @@ pub record ShareForm : Type 0 where
   pub spreads : List EdgeForm
   -- how many there are
   pub cells : ℕ
+  -- how many parts each cell of a dynamic filter has
+  pub filters : List ℕ
 
 -- a seat is made also where no driver is there to have it
 abbrev pub new_claims : ℕ → ℕ → ClaimForm
@@ -73,8 +76,13 @@ spreads_of tasks drivers source = []
 
 -- a cell for each task
 abbrev pub cells_of : ℕ → TargetForm → ℕ
-cells_of tasks (cell on) = tasks
+cells_of tasks (cell build) = tasks
 cells_of tasks target = 0
+
+-- for each dynamic filter of a join one cell with a part for each task that builds. A part is made also where no task is
+-- there to have it
+abbrev pub filter_parts : ℕ → TargetForm → List ℕ
+filter_parts tasks target = replicate (length (filters_built target)) (max tasks 1)
 
 -- what the pipe at a place of the layout has
 abbrev pub share_of : List PipeForm → List Table → ℕ → ℕ → PipeForm → ShareForm
@@ -83,6 +91,7 @@ share_of layout tables split own pipe = record {
   gathers = gathers_of layout own pipe.tasks pipe.source;
   spreads = spreads_of pipe.tasks pipe.drivers pipe.source;
   cells = cells_of pipe.tasks pipe.target;
+  filters = filter_parts pipe.tasks pipe.target;
 }
 
 -- what these pipes have, of which the first is at a place

@@ -5,6 +5,7 @@ ghost use Rattle.plan_wiring.specs.Wirings.{claims_view, gather_view, share_view
 
 use crate::shared::Shared;
 use crate::wiring::Wiring;
+use dyn_filter::FilterCell;
 use hash_join::LookupCell;
 use output_buffer::{Gather, GatherPut, GatherTake, Spread, SpreadPut, SpreadTake};
 use split_source::{ClaimSeat, Claims};
@@ -35,6 +36,8 @@ pub struct Seats<'w> {
     pub spreads: Vec<SpreadSeats<'w>>,
     /// Task by task.
     pub cells: &'w [LookupCell],
+    /// Those of the dynamic filters of the join whose right side the pipe builds, each with a part for each task.
+    pub filters: &'w [FilterCell],
 }
 
 impl Wiring {
@@ -75,6 +78,7 @@ fn seats_of<'w>(alloc: Global, shared: &'w mut Shared) -> Result<Seats<'w>, Memo
         gathers,
         spreads,
         cells,
+        filters,
     } = shared;
     let claims = claim_seats(alloc, claims)?;
     let gathers = gather_seats(alloc, gathers.as_mut_slice())?;
@@ -84,6 +88,7 @@ fn seats_of<'w>(alloc: Global, shared: &'w mut Shared) -> Result<Seats<'w>, Memo
         gathers,
         spreads,
         cells: cells.as_slice(),
+        filters: filters.as_slice(),
     })
 }
 

@@ -1,12 +1,13 @@
 //! What the drivers of a pipe share.
-ghost use Rattle.std.specs.Prelude.{◌≡◌, ◌<◌, ◌*◌, IfOk, flat_map, length, map, option_map, replicate};
+ghost use Rattle.std.specs.Prelude.{◌≡◌, ◌<◌, ◌*◌, IfOk, flat_map, length, map, max, option_map, replicate};
 ghost use Rattle.plan_layout.specs.Pipes.{pipe_view};
 ghost use Rattle.plan_wiring.specs.Bells.{AreNumbers, gather_bells, spread_bells};
-ghost use Rattle.plan_wiring.specs.Shares.{cells_of, claims_of, gathers_of, new_edge, spreads_of};
-ghost use Rattle.plan_wiring.specs.Wirings.{cell_bells, claims_view, gather_view, spread_view};
+ghost use Rattle.plan_wiring.specs.Shares.{cells_of, claims_of, filter_parts, gathers_of, new_edge, spreads_of};
+ghost use Rattle.plan_wiring.specs.Wirings.{cell_bells, claims_view, filter_bells, gather_view, parts_of, spread_view};
 
 use crate::bells::Bells;
 use crate::counts::{drivers_of, fragment_putters, splits_of, union_putters};
+use dyn_filter::FilterCell;
 use hash_join::LookupCell;
 use output_buffer::{Gather, Spread};
 use plan_layout::{Pipe, PipeSource, PipeTarget};
@@ -28,6 +29,8 @@ pub struct Shared {
     pub spreads: Vec<Spread>,
     /// In which the pipe publishes, one for each task.
     pub cells: Vec<LookupCell>,
+    /// In which it publishes domains, one for each dynamic filter, with a part for each task.
+    pub filters: Vec<FilterCell>,
 }
 
 /// Claims of the splits of the table that a pipe reads, for its drivers in all tasks.
@@ -125,6 +128,26 @@ fn new_cells(alloc: Global, tasks: u32, bells: &mut Bells) -> Result<Vec<LookupC
     Ok(cells)
 }
 
+/// So many cells, each with a part for each of so many tasks.
+fn new_filters(
+    alloc: Global,
+    count: usize,
+    tasks: u32,
+    bells: &mut Bells,
+) -> Result<Vec<FilterCell>, Memory>
+    ensures are { IfOk result
+        (λ cells. map parts_of cells.items ≡ replicate count (max tasks 1)) }
+    ensures bells { IfOk result
+        (λ cells. AreNumbers bells.old.next (filter_bells cells.items) bells.new.next) }
+{
+    let mut cells = Vec::new(alloc);
+    for _filter in 0..count {
+        let bell = bells.take()?;
+        cells.push(FilterCell::new(alloc, tasks.max(1), bell)?)?;
+    }
+    Ok(cells)
+}
+
 /// An edge for each task, of many putters, to fetch from or to take a union from.
 pub fn gathers_of(
     alloc: Global,
@@ -186,5 +209,25 @@ pub fn cells_of(
         | PipeTarget::Side(_)
         | PipeTarget::Readers(..)
         | PipeTarget::Takers(_) => new_cells(alloc, 0, bells),
+    }
+}
+
+/// A cell for each dynamic filter of the join whose right side the pipe builds.
+pub fn filters_of(
+    alloc: Global,
+    pipe: &Pipe<'_>,
+    bells: &mut Bells,
+) -> Result<Vec<FilterCell>, Memory>
+    ensures are { IfOk result (λ cells. map parts_of cells.items
+        ≡ filter_parts (pipe_view pipe.now).tasks (pipe_view pipe.now).target) }
+    ensures bells { IfOk result
+        (λ cells. AreNumbers bells.old.next (filter_bells cells.items) bells.new.next) }
+{
+    match pipe.target {
+        PipeTarget::Cell(build) => new_filters(alloc, build.filters.len(), pipe.tasks, bells),
+        PipeTarget::Result
+        | PipeTarget::Side(_)
+        | PipeTarget::Readers(..)
+        | PipeTarget::Takers(_) => new_filters(alloc, 0, pipe.tasks, bells),
     }
 }

@@ -7,7 +7,7 @@ ghost use Rattle.plan_wiring.specs.Shares.{share_of, shares_of};
 ghost use Rattle.plan_wiring.specs.Wirings.{IsWiringOf, bells_of, share_view};
 
 use crate::bells::Bells;
-use crate::shared::{Shared, cells_of, claims_of, gathers_of, spreads_of};
+use crate::shared::{Shared, cells_of, claims_of, filters_of, gathers_of, spreads_of};
 use plan_layout::{Layout, Pipe};
 use sql_values::{Memory, Table};
 use std::alloc::Global;
@@ -84,10 +84,12 @@ fn share_of(
     let gathers = gathers_of(alloc, layout, own, pipe, bells)?;
     let spreads = spreads_of(alloc, pipe, bells)?;
     let cells = cells_of(alloc, pipe, bells)?;
+    let filters = filters_of(alloc, pipe, bells)?;
     Ok(Shared {
         claims,
         gathers,
         spreads,
         cells,
+        filters,
     })
 }

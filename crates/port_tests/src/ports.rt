@@ -56,7 +56,7 @@ fn files_in_memory_fail_as_told(rt: HostRuntime) -> Result<(), FileFault> {
 
 const TEXT: &[u8] = b"a\n3\n1\n\\N\n";
 
-/// Whether the sink takes the first bytes of the text, so many, and tells a fault where they are not
+/// Whether the sink takes the first bytes of the text, so many, and reports a fault where they are not
 /// all.
 fn takes(sink: &mut MemSink, count: usize) -> bool {
     let whole = write_whole(sink, TEXT).is_ok();

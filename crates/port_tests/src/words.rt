@@ -1,10 +1,10 @@
-//! Words and what they ask for, as lines.
+//! Arguments and what they ask for, as lines.
 use command_line::{Job, WordsFault, lend_words, read_words};
 use sql_values::Text;
 use std::alloc::Global;
 use std::test::Fail;
 
-/// The words of a line, in which two quotes stand for the word of no letter.
+/// The arguments of a line, in which two quotes stand for the empty argument.
 fn words_in(alloc: Global, line: &str) -> Result<Vec<Text>, Fail> {
     let mut words = Vec::new(alloc);
     for word in line.split_whitespace() {

@@ -14,7 +14,7 @@ use Rattle.command_line.specs.Words.{Job, file_of}
 abbrev pub row_limit : ℕ
 row_limit = 16000000
 
--- the bytes of a name, where the files tell
+-- the bytes of a name, where the files say it
 abbrev pub Contents : Type 0
 Contents = Option (List ℕ → Option (List ℕ))
 

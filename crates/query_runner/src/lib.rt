@@ -1,7 +1,7 @@
 //! `run`, the top call: what the arguments of a command line ask for, done over the files and the sinks that it is given.
 //!
-//! What `run` promises is its contract, in the words of `specs/Answers.antt`: for every command line
-//! and all that the files tell, status 0 means that what was written is the text of a list of rows
+//! What `run` promises is its contract, by the definitions of `specs/Answers.antt`: for every command line
+//! and all that the files say, status 0 means that what was written is the text of a list of rows
 //! that the plan's tree allows over its tables, and each other status but want of memory has its
 //! cause.
 //!

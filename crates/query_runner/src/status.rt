@@ -12,7 +12,7 @@ pub enum Status {
     Ok,
     /// Memory was wanting.
     Memory,
-    /// The words are no command line.
+    /// The arguments do not have the form of a command line.
     BadWords,
     /// A file could not be read: 0 is the plan's, and the others are counted from 1 in the order of
     /// the arguments.

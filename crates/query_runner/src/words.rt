@@ -3,7 +3,7 @@ use sql_values::Text;
 use std::rt::Env;
 use std::{env, io};
 
-/// The words after the program's name. Where one is not UTF-8 there are none, and so no command line.
+/// The arguments after the program's name. Where one is not UTF-8 there are none, and so no command line.
 pub fn words_of<R: Env + AllocGlobal>(rt: &R) -> Result<Vec<Text>, Status> {
     let args = match env::args(rt) {
         Ok(args) => args,

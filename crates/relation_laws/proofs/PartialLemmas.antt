@@ -1,4 +1,4 @@
--- The partial row of two lists of rows is the merge of theirs, and it tells the results.
+-- The partial row of two lists of rows is the merge of theirs, and the results follow from it.
 use Rattle.std.proofs.Common.{◌≡◌, ℕ, ◌+◌, ◌<◌, ◌≤◌, List, [], ◌∷◌, ◌++◌, refl, ap, sym, ◌∙◌, arith, length, drop, map}
 use Rattle.std.specs.Prelude.{◌^◌, filter, flat_map, pos, ◌+ℤ◌, if◌then◌else◌, Err}
 use Rattle.std.proofs.Common.{◌⊎◌, inl, inr}

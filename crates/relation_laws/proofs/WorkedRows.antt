@@ -83,7 +83,7 @@ over_no_values : aggregates_of (type.Bigint ∷ []) (CountAll ∷ Count 0 ∷ Mi
     ≡ Ok (Bigint (pos 1) ∷ Bigint (pos 0) ∷ Null ∷ Null ∷ Null ∷ [])
 over_no_values = refl
 
--- the partial row of two decimals, and what it tells
+-- the partial row of two decimals, and the results that it gives
 a_partial_row : partial_of (CountAll ∷ Count 0 ∷ Sum 0 ∷ Max 0 ∷ Avg 0 ∷ []) ((Decimal (pos 15) ∷ []) ∷ (Null ∷ []) ∷ (Decimal (pos 4) ∷ []) ∷ [])
     ≡ Decimal (pos 3) ∷ Bigint (pos 2) ∷ Decimal (pos 19) ∷ Decimal (pos 15) ∷ Decimal (pos 19) ∷ Bigint (pos 2) ∷ []
 a_partial_row = refl
@@ -93,7 +93,7 @@ what_it_tells : results_from (type.Decimal 3 1 ∷ []) (CountAll ∷ Count 0 ∷
     ≡ Ok (Bigint (pos 3) ∷ Bigint (pos 2) ∷ Decimal (pos 19) ∷ Decimal (pos 15) ∷ Decimal (pos 10) ∷ [])
 what_it_tells = refl
 
--- past 2^63 - 1 rows nothing is told but that
+-- past 2^63 - 1 rows nothing is known but that
 too_many_rows : merged (Count 0 ∷ Sum 0 ∷ [])
     (Decimal (pos (2 ^ 63 - 1)) ∷ Bigint (pos 1) ∷ Decimal (pos 7) ∷ []) (Decimal (pos 1) ∷ Bigint (pos 0) ∷ Null ∷ [])
     ≡ Decimal (pos (2 ^ 63)) ∷ Null ∷ Null ∷ []

@@ -1,5 +1,5 @@
 -- The partial row of a group, without its key: how many rows the group has, and then for each call the
--- columns from which its result can be told when more rows are known.
+-- columns from which its result can be found when more rows are known.
 use Rattle.std.specs.Prelude.{ℕ, ◌+◌, ◌^◌, List, [], ◌∷◌, ◌++◌, length, drop, flat_map, replicate, sum_by, nat_le, nat_abs, if◌then◌else◌, pos, ◌+ℤ◌, Result, Ok}
 use Rattle.sql_values.specs.declared.types.SqlType.{SqlType}
 use Rattle.sql_values.specs.declared.value.Value.{Value}
@@ -35,7 +35,7 @@ call_width (Min column) = 1
 call_width (Max column) = 1
 call_width (Avg column) = 2
 
--- the row of a group with too many rows: it tells no more than that
+-- the row of a group with too many rows: it says no more than that
 abbrev pub overfull : List Call → List Value
 overfull calls = Decimal (pos (2 ^ 63)) ∷ replicate (sum_by call_width calls) Null
 
@@ -99,6 +99,6 @@ calls_from types rows columns [] = []
 calls_from types rows columns (call ∷ calls) =
     within_rows rows (call_from types rows columns call) ∷ calls_from types rows (drop (call_width call) columns) calls
 
--- the results that a group's partial row tells
+-- the results that a group's partial row gives
 abbrev pub results_from : List SqlType → List Call → List Value → Result (List Value) Fail
 results_from types calls partial = all_values (calls_from types (rows_in partial) (drop 1 partial) calls)

@@ -61,7 +61,7 @@ pub fn partials_merge(calls: &[Call], rows: &RowList, others: &RowList)
     ensures { partial_of calls.now (rows.now ++ others.now) ≡ merged calls.now (partial_of calls.now rows.now) (partial_of calls.now others.now) }
 {}
 
-/// The law that a group's partial row tells its results.
+/// The law that a group's results follow from its partial row.
 #[tactic(auto, using(crate::proofs::LawRules::telling))]
 pub fn partials_tell_results(types: &[SqlType], calls: &[Call], rows: &RowList)
     ensures { results_from types.now calls.now (partial_of calls.now rows.now) ≡ aggregates_of types.now calls.now rows.now }

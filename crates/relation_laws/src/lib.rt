@@ -5,7 +5,7 @@
 //! - `specs/Joins.antt`: the rows of a join on the equality of columns
 //! - `specs/Aggregates.antt`, `specs/Groups.antt`: the results of calls over a group as a whole, and
 //!   the groups of a list of rows
-//! - `specs/Partials.antt`: the partial row of a group, how two are merged, and what one tells
+//! - `specs/Partials.antt`: the partial row of a group, how two are merged, and what results it gives
 //! - `specs/Sorts.antt`: the sorted lists of some rows
 //! - `specs/Verdicts.antt`: what an operator says of a row or of a group
 //! - `laws`: what follows from these definitions

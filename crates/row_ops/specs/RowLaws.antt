@@ -23,7 +23,7 @@ filter-rest failure rows B e =
     let h = none_held rows in
     ((λ f. same ∙ h.0 f), (λ f. h.1 (sym same ∙ f)))
 
--- it is finished where it was told, holds no row, and no row failed
+-- it is finished where it was told to finish, holds no row, and no row failed
 pub filter-finished : (told : Bool) (failure : Option Fail) (rows : List (List Value)) (own : ℕ) →
     ((told && not (is_some failure || has_row rows)) ≡ true) ↔ ((told ≡ true) × (has_row rows ≡ false)
     × ((node : ℕ) (kind : Fail) → (node ≡ own) × (option_or failure None ≡ Some kind) → ⊥))

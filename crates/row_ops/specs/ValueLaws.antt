@@ -16,7 +16,7 @@ none-left given rows = (
 pub values-rest : (given : ℕ) (rows B : List (List Value)) → B ≡ drop given rows → (nat_lt given (length rows) ≡ false) ↔ (B ≡ [])
 values-rest given rows B e = let none = none-left given rows in ((λ f. e ∙ none.0 f), (λ f. none.1 (sym e ∙ f)))
 
--- it is finished where it was told and has given its rows
+-- it is finished where it was told to finish and has given its rows
 pub values-finished : (told holds : Bool) → ((told && not holds) ≡ true) ↔ ((told ≡ true) × (holds ≡ false) × ((node : ℕ) (kind : Fail) → ⊥ → ⊥))
 values-finished true true = ((λ e. cc), (λ h. cc (h.1)))
 values-finished true false = ((λ _. (refl, refl, λ node kind fails. fails)), (λ _. refl))

@@ -1,4 +1,4 @@
--- A sink in memory, whose writes fail as they are told.
+-- A sink in memory, whose writes fail where they are told to.
 use Rattle.std.specs.Prelude.{◌≡◌, ℕ, ◌-◌, ◌||◌, ◌&&◌, List, length, Option, Some, None, Result, is_ok, [], min, nat_lt, ◌==◌, vec_len, if◌then◌else◌}
 use Rattle.std.specs.declared.alloc.Global.{Global}
 use Rattle.std.specs.declared.vec.Vec.{Vec}
@@ -38,7 +38,7 @@ pub record IsUnused (room most : ℕ) (failing : Vec ℕ Global) (sink : MemSink
   pub calls : sink.calls ≡ record { numbers = failing; made = 0 }
   pub faults : faults_of sink ≡ 0
 
--- a sink after a write with this answer: what it was told stays
+-- a sink after a write with this answer: what it was made with stays
 pub record FollowsWrite (old new : MemSink) (answer : Result ℕ SinkFailed) : Type 0 where
   pub room : new.held.room ≡ old.held.room
   pub most : new.held.most ≡ old.held.most

@@ -4,7 +4,7 @@ use Rattle.count_laws.specs.Counts.{next_count}
 use Rattle.run_ports.specs.declared.files.FileFault.{FileFault}
 use Rattle.run_ports.specs.declared.files.FileFault.TheVariants.{Failed, Memory}
 
--- the bytes that a name stands for; any bytes where nothing is told
+-- the bytes that a name stands for; any bytes where nothing is known
 abbrev pub AreBytesOf : Option (List ℕ → Option (List ℕ)) → List ℕ → List ℕ → Type 0
 AreBytesOf None name bytes = ⊤
 AreBytesOf (Some held) name bytes = held name ≡ Some bytes

@@ -12,7 +12,7 @@ const MOST_BYTES: usize = 2_000_000_000;
 /// How many bytes one call of the system is asked for.
 const CHUNK_BYTES: usize = 65_536;
 
-/// The files of a std runtime. It tells nothing of what they hold.
+/// The files of a std runtime. It says nothing of what they hold.
 #[derive(Drop)]
 pub struct DiskFiles<'a, R: rt::Files> {
     host: &'a R,

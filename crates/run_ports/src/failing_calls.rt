@@ -16,7 +16,7 @@ impl FailingCalls {
         FailingCalls { numbers, made: 0 }
     }
 
-    /// Counts one more call, and tells whether it is to fail.
+    /// Counts one more call, and answers whether it is to fail.
     pub(crate) fn count_one(&mut self) -> bool
         ensures fails { result ≡ fails_next self.old }
         ensures counted { self.new ≡ counted self.old }

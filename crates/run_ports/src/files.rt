@@ -57,7 +57,7 @@ impl<T: Drop> From<AllocFailed<T>> for FileFault {
 
 /// Files that are read by their names.
 pub trait Files {
-    // What each name stands for, where that is told: no call changes it.
+    // What each name stands for, where that is known: no call changes it.
     ghost holds: { Self → Option (List ℕ → Option (List ℕ)) };
 
     // How many reads were answered Failed, and the name of the latest.

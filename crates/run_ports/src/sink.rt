@@ -21,7 +21,7 @@ impl Error for SinkFailed {}
 
 /// What takes the bytes of a result.
 pub trait Sink {
-    // The bytes that were written so far, where that is told.
+    // The bytes that were written so far, where that is known.
     ghost written: { Self → Option (List ℕ) };
 
     // How many writes failed.

@@ -3,7 +3,7 @@ ghost use Rattle.std.specs.Prelude.{◌≡◌, None};
 use crate::sink::{Sink, SinkFailed};
 use std::io::Write;
 
-/// A writer of std as a sink. It tells nothing of what was written.
+/// A writer of std as a sink. It says nothing of what was written.
 #[derive(Drop)]
 pub struct StdSink<W: Write + Drop> {
     writer: W,

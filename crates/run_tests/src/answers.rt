@@ -12,7 +12,8 @@ use std::sync::Wait;
 use std::test::Fail;
 use std::thread::Threads;
 
-/// What a run is given: its words, its plan and the rows of its tables, and which read and which write fail (0: none).
+/// What a run is given: its arguments, its plan and the rows of its tables, and which read and which write fail
+/// (0: none).
 #[derive(Clone, Copy)]
 pub(crate) struct Given<'g> {
     pub words: &'g str,
@@ -61,7 +62,7 @@ fn number(digits: &str) -> u32 {
     digits.parse::<u32>().unwrap_or(0)
 }
 
-/// Whether a run on one worker, which gives records in an order that is fixed, answers a case as it tells.
+/// Whether a run on one worker, which gives records in an order that is fixed, answers a case as the case says.
 fn answers<R: Threads + Wait + Sync + RandomSource + AllocGlobal>(
     rt: &R,
     case: &str,

@@ -1,4 +1,4 @@
-//! A courier that counts its turns, one that always delivers the same, and one that tells who asked it.
+//! A courier that counts its turns, one that always delivers the same, and one that says who asked it.
 
 use once_cell::race::OnceBox;
 use run_ports::{Courier, Delivery};

@@ -6,7 +6,7 @@ use std::sync::Wait;
 use std::test::Fail;
 use std::thread::Threads;
 
-/// Words of a demo under several shapes.
+/// Arguments of a demo under several shapes.
 const SHAPES: &str = "\
 --demo 0
 --demo 0 --workers 4 --tasks 3 --page 100
@@ -39,7 +39,7 @@ const SHAPES: &str = "\
 const TOLD: &str = "0|region,orders,amount~\
 east,22500,101025.00~north,22500,100800.00~south,22500,101250.00~west,22500,101475.00~|";
 
-/// Words of demos that a larger number makes.
+/// Arguments of demos that a larger number makes.
 const OTHERS: &str = "\
 --demo 250
 --demo 18446744073709551250 --tasks 3 --page 100 --replay 5
@@ -49,7 +49,7 @@ const OTHERS: &str = "\
 const MOVED: &str = "0|region,orders,amount~\
 east,22500,107775.00~north,22500,107550.00~south,22500,107000.00~west,22500,107225.00~|";
 
-/// The first of these words that a run answers otherwise, if any. Its first read of a file would fail.
+/// The first of these arguments that a run answers otherwise, if any. Its first read of a file would fail.
 fn first_otherwise<'s, R: Threads + Wait + Sync + RandomSource + AllocGlobal>(
     rt: &R,
     shapes: &'s str,

@@ -270,7 +270,7 @@ where
     Ok(("", ""))
 }
 
-/// Whether a run in this shape answers a case as it tells.
+/// Whether a run in this shape answers a case as the case says.
 pub(crate) fn answers<R, C>(rt: &R, courier: &C, shape: &str, case: &str) -> Result<bool, Fail>
 where
     R: Threads + Wait + Sync + RandomSource + AllocGlobal,

@@ -8,7 +8,7 @@
 //!
 //! - `plans`: the plan of a case
 //! - `answers`: runs of `run`
-//! - `plain`: texts under given words and picks, and those of the plain evaluator
+//! - `plain`: texts under given arguments and picks, and those of the plain evaluator
 //! - `scans`, `orders`, `aggregates`, `joins`: the cases of one fragment
 //! - `demos`: runs of a demo
 //! - `fragments`: the cases of several, and `couriers`: couriers for them

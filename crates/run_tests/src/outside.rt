@@ -108,7 +108,7 @@ where
     Ok("")
 }
 
-/// Whether a run answers a case as it tells.
+/// Whether a run answers a case as the case says.
 fn answers<R>(rt: &R, case: &str) -> Result<bool, Fail>
 where
     R: Threads + Wait + Sync + RandomSource + AllocGlobal,

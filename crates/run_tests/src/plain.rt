@@ -1,4 +1,4 @@
-//! Texts under given words and picks, and those of the plain evaluator.
+//! Texts under given arguments and picks, and those of the plain evaluator.
 ghost use Rattle.command_line.specs.Words.{HasBounds, asked};
 ghost use Rattle.plan_docs.specs.Plans.{plan_view};
 ghost use Rattle.plan_fit_laws.specs.Tables.{HaveColumns, WasRead};

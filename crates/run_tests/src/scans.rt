@@ -1,4 +1,4 @@
-//! Scans, filters and projects; words, files, plans and tables that are refused; a result that can't be written.
+//! Scans, filters and projects; arguments, files, plans and tables that are refused; a result that can't be written.
 
 use crate::answers::{first_wrong, first_wrong_with_words};
 use crate::plain::gives_cut;
@@ -25,7 +25,7 @@ $a | 'a' | {'id':1,'op':'filter','predicate':{'col':0},'input':@a} | a~ | 4||tri
 $c | 'a','c' | @c | a,c~1,x~2 | 5||trinorun: table t refused 2 at row 2 column 1~
 $a | 'a' | @a | a~1x~ | 5||trinorun: table t refused 4 at row 1 column 0~";
 
-/// Words, the read and the write that fail, and a case.
+/// Arguments, the read and the write that fail, and a case.
 const WITH_WORDS: &str = "\
  | | | $a | 'a' | @a | a~ | 2||trinorun: bad command line~
 --plan p --plan q | | | $a | 'a' | @a | a~ | 2||trinorun: bad command line~

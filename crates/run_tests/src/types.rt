@@ -87,7 +87,7 @@ fn types_text(alloc: Global, plan: &Plan) -> Result<String, Memory> {
     Ok(text)
 }
 
-/// Whether the types are those that a line tells.
+/// Whether the types are those that a line names.
 fn is_told(alloc: Global, line: &str) -> Result<bool, Fail> {
     let (fragments, told) = line.rsplit_once('|').unwrap_or(("", ""));
     let plan = plan_of(alloc, fragments.trim())?;

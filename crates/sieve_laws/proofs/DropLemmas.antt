@@ -145,7 +145,7 @@ module _ {S : Type 0} (g : Ghosts S) (laws : IsLawful g) (sieves : List Sieve) (
       subst (LetThrough sieves types came took over) f.ended_is (all_drop f.filters stages f.drop f.among over f.turns came took f.linked (fitting types came f.fit))
 
   -- a filter that a driver failed at is none
-  calm_front : (filters : List FilterNoted) (stages rest : List S) → AllDrop g filters stages → (X Y : List Row) → Linked g stages X Y → (node : ℕ) (kind : Fail)
+  pub calm_front : (filters : List FilterNoted) (stages rest : List S) → AllDrop g filters stages → (X Y : List Row) → Linked g stages X Y → (node : ℕ) (kind : Fail)
       → (place : ℕ) (s : S) → place < length (stages ++ rest) → s ≡ get_or (stages ++ rest) place s → FailsNow g s node kind → (i : ℕ) × (i < length rest) × (s ≡ get_or rest i s)
   calm_front [] [] rest d X Y linked node kind place s lt is fails = (place, lt, is)
   calm_front [] (t ∷ stages) rest d X Y linked node kind place s lt is fails = absurd d

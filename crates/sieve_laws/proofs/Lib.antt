@@ -4,10 +4,10 @@ mod LaneFailLemmas
 pub mod FailLemmas
 pub mod DropLemmas
 pub mod SplitLemmas
-mod FilterOpLemmas
+pub mod FilterOpLemmas
 pub mod SureLemmas
 mod WithinLemmas
 pub mod ComingLemmas
 mod PlainLemmas
 mod WorkedPipes
-mod TypedLemmas
+pub mod TypedLemmas

@@ -1,8 +1,6 @@
 -- The pipes of a run as they stand, whose scans lost rows that have no partner in a join above.
 use Rattle.std.specs.Prelude.{◌≡◌, ◌⊎◌, ℕ, ◌<◌, List, [], ◌++◌, true, Some}
-use Rattle.sql_values.specs.declared.types.SqlType.{SqlType}
 use Rattle.sql_exprs.specs.Calm.{is_calm}
-use Rattle.col_pages.specs.Fits.{AllFit}
 use Rattle.operator_core.specs.declared.operator.Operator.{Ghosts}
 use Rattle.operator_core.specs.Rows.{Row}
 use Rattle.bag_laws.specs.Buckets.{Sits}
@@ -19,13 +17,9 @@ use Rattle.plan_run_laws.specs.Stops.{AllSet, Hop, PassedSoFar, TookOf}
 use Rattle.plan_run_laws.specs.Wholes.{longer}
 use Rattle.stage_meanings.specs.Pipelines.{at_node}
 use Rattle.pipe_laws.specs.Lanes.{Noted, first_note, other_notes}
-use Rattle.pipe_laws.specs.Pipes.{IsHalfPipeOf, IsPipeOf, PipeState, Stands, stopped}
+use Rattle.pipe_laws.specs.Pipes.{GaveTyped, IsHalfPipeOf, IsPipeOf, PipeState, Stands, stopped}
 use Rattle.lost_row_laws.specs.Sieves.{Sieve, if_calm, is_lost, over_input}
 use Rattle.lost_row_laws.specs.Stops.{AreSure}
-
--- what the drivers of a pipe gave has these types
-abbrev pub GaveTyped : {S : Type 0} → List SqlType → ℕ → PipeState S → Type 0
-GaveTyped types n p = (k d : ℕ) → k < n → d < p.drivers → AllFit types (p.gave k d)
 
 -- What the drivers of the pipe at a place took of the sources of a node, and how the pipes below stand, as `Stands` says it
 -- but for scans and the sieves of joins. Of a scan a driver took what its filters let through: what they lost fits its

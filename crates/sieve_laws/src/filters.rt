@@ -60,7 +60,7 @@ pub fn filters_never_fail<O: Operator>(_of: PhantomData<O>)
 }
 
 /// The law that of operators one after the other the first ones took what came and gave what the others took, and those
-/// gave the rest, each told in turn.
+/// gave the rest, each told to finish in turn.
 pub fn operators_are_cut_in_two<O: Operator>(_of: PhantomData<O>)
     ensures linked { (first rest : List O) (came gave : List Row)
         → Linked O.Operator (first ++ rest) came gave

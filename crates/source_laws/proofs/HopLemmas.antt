@@ -3,7 +3,7 @@ use Rattle.std.specs.Prelude.{List}
 use Rattle.sql_values.specs.declared.value.Value.{Value}
 use Rattle.plan_run_laws.specs.Stops.{Hop}
 
--- where something else tells that it is over
+-- where something else says that it is over
 pub hop_when : {put took : List (List Value)} {IsEnded IsOver HasClosed : Type 0} → (IsEnded → IsOver) → Hop put took IsOver HasClosed → Hop put took IsEnded HasClosed
 hop_when ends hop = record { left = hop.left; some = hop.some; all = λ ended. hop.all (ends ended); closed = λ ended. hop.closed (ends ended) }
 

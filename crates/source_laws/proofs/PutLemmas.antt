@@ -21,7 +21,7 @@ pub none_held_behind : (held : Option TypedPage) (ends : ℕ) → IfSome held (�
 none_held_behind None ends first some = refl
 none_held_behind (Some page) ends first some = absurd (omega (arith, first, some))
 
--- who put an End was told
+-- who put an End was told to finish
 pub told_by_end : (told : Bool) (ends : ℕ) → (told ≡ false → ends ≡ 0) → 0 < ends → told ≡ true
 told_by_end true ends early some = refl
 told_by_end false ends early some = absurd (omega (arith, early refl, some))

@@ -13,15 +13,14 @@ use Rattle.driver_ends.specs.Targets.{TargetState}
 use Rattle.plan_run_laws.specs.RunPlans.{Output, broadcast, hashed, single}
 use Rattle.plan_run_laws.specs.Runs.{sent}
 
--- an outlet of a target, what it is to get of the rows that wait there, and whether the target was told that no page
--- comes any more
+-- an outlet of a target, what it is to get of the rows that wait there, and whether the target was told to finish
 pub record Putter : Type 0 where
   pub outlet : OutletState
   pub waits : List (List Value)
   pub is_told : Bool
 
--- what a target keeps of each of its outlets: no End before it was told, nor while rows wait, nor before a page that is
--- held
+-- what a target keeps of each of its outlets: no End before it was told to finish, nor while rows wait, nor before a
+-- page that is held
 pub record KeepsPutter (p : Putter) : Type 0 where
   pub early : p.is_told ≡ false → end_count p.outlet.seat.put ≡ 0
   pub last : 0 < end_count p.outlet.seat.put → p.waits ≡ []

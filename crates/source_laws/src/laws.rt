@@ -28,7 +28,7 @@ pub fn scans_pass()
 {}
 
 /// The law that what the taker of an edge handed on is part of what its putters were given for it, and all of it
-/// where the taker has ended; each of them was then told that no page comes any more.
+/// where the taker has ended; each of them was then told to finish.
 pub fn local_edges_pass()
     ensures { (putters : List Putter) (taker : LocalState) → All KeepsPutter putters
         → GatherCameBack (putting_seats putters) taker.seat → HasLocalTaken taker (local_taken taker)
@@ -49,9 +49,9 @@ pub fn rows_pass()
         → (ended ≡ true → given ≡ rows) → Hop rows given (ended ≡ true) (Unit {0}) }
 {}
 
-/// The law of an edge of many takers, behind a driver that deals out what it took of other putters and was told no
-/// sooner than its source had ended: what the takers handed on is part of what the putters were given, and all of it
-/// where the takers have ended.
+/// The law of an edge of many takers, behind a driver that deals out what it took of other putters and was told to
+/// finish no sooner than its source had ended: what the takers handed on is part of what the putters were given, and
+/// all of it where the takers have ended.
 pub fn dealt_edges_pass()
     ensures { (putters : List Putter) (came : List (List Value)) (ended : Bool) (deal : DealState)
         (takers : List RemoteState) → Hop (rows_for putters) came (ended ≡ true) (AreTold putters)
@@ -62,8 +62,8 @@ pub fn dealt_edges_pass()
 {}
 
 /// The law that each outlet of a target was given, of the rows that the target was given, those that the plan sends to
-/// its task; that an outlet with what its target was told is a putter; and that what is sent of the rows of all tasks is
-/// what is sent of each task's.
+/// its task; that an outlet, with whether its target was told to finish, is a putter; and that what is sent
+/// of the rows of all tasks is what is sent of each task's.
 pub fn outlets_send()
     ensures sent { (target : TargetState) (given : List (List Value)) (n k : ℕ)
         (outlet : OutletState) → KeepsTarget target → HasSent target given

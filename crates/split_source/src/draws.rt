@@ -4,7 +4,7 @@ use std::alloc::Global;
 use std::collections::LinkedList;
 
 /// How many numbers there are to draw, and how many seats draw them.
-#[derive(Clone, Copy, Debug)]
+#[derive(Clone, Copy)]
 pub struct Counts {
     pub count: u32,
     pub seats: u32,

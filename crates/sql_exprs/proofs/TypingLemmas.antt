@@ -1,4 +1,4 @@
--- What the type of a form tells: it is the form's kind, and any type that shows in the form.
+-- What is known of the type of a form: it is the form's kind, and any type that shows in the form.
 use Rattle.std.proofs.Common.{◌≡◌, ℕ, ◌+◌, List, ◌∷◌, Bool, true, false, if◌then◌else◌, Option, Some, None, refl, ap, ◌∙◌}
 use Rattle.std.specs.Prelude.{Result, Ok, Err, slice_get, unwrap_or}
 use Rattle.std.specs.Option.{ok_or}

@@ -22,7 +22,7 @@ can_fail Concat = true
 can_fail AddDays = true
 can_fail name = false
 
--- the type that a call's name tells, or else that its arguments show
+-- the type that a call's name says, or else that its arguments show
 abbrev pub shown_by_call : CallName → Option SqlType → Option SqlType
 shown_by_call Add shown = None
 shown_by_call Subtract shown = None

@@ -1,4 +1,4 @@
--- Words of the laws.
+-- What the laws say.
 use Rattle.std.specs.Prelude.{List, [], ◌∷◌, Ok}
 use Rattle.sql_values.specs.declared.value.Value.{Value}
 use Rattle.sql_functions.specs.Outcomes.{Outcome}

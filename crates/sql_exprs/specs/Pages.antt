@@ -35,7 +35,7 @@ cells_at types form rows [] = Ok []
 cells_at types form rows (position ∷ positions) =
     cell_before position (cell_at types form rows position) (cells_at types form rows positions)
 
--- the fault tells the position and its failure, or memory was wanting
+-- the fault names the position and its failure, or memory was wanting
 abbrev pub FaultIsAt : Result (List Value) (ℕ × Fail) → PageFault → Type 0
 FaultIsAt cells (fault.At position kind) = cells ≡ Err (position, kind)
 FaultIsAt cells fault.Memory = Unit {0}

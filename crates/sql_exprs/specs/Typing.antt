@@ -98,17 +98,17 @@ branch_type columns path b =
     (λ t. typed_then (form_type columns (under path key.Then) (form_view b.result))
     (λ r. Ok (record { test = t; result = r })))
 
--- the fault tells the path, or memory was wanting
+-- the fault names the path, or memory was wanting
 abbrev pub MisfitAt : {A : Type 0} → Result A Path → Misfit → Type 0
 MisfitAt typing (misfit.At path) = typing ≡ Err path.items
 MisfitAt typing misfit.Memory = Unit {0}
 
--- the fault tells this path, or memory was wanting
+-- the fault names this path, or memory was wanting
 abbrev pub StandsAt : Path → Misfit → Type 0
 StandsAt path (misfit.At steps) = steps.items ≡ path
 StandsAt path misfit.Memory = Unit {0}
 
--- the fault tells the path as a pointer, or memory was wanting
+-- the fault names the path as a pointer, or memory was wanting
 abbrev pub RefusedFor : Result SqlType Path → TypeFault → Type 0
 RefusedFor typing (fault.Refused pointer) =
     (path : Path) × (typing ≡ Err path) × (pointer ≡ pointer_text path)

@@ -6,7 +6,7 @@ use crate::expr::{Branch, Expr};
 use sql_functions::{CallName, call_type, same_type};
 use sql_values::SqlType;
 
-/// Whether nothing in the expression can fail, as far as its form alone tells.
+/// Whether nothing in the expression can fail, as far as its form alone shows.
 pub fn is_calm(expr: &Expr) -> bool
     ensures { result ≡ is_calm [] (form_view expr.now) }
 {

@@ -1,4 +1,4 @@
--- A row of the matcher tells of each end of the text whether the pattern matches it.
+-- A row of the matcher says of each end of the text whether the pattern matches it.
 use Rattle.std.proofs.Common.{◌≡◌, ℕ, ◌+◌, ◌<◌, List, [], ◌∷◌, length, take, get_or, reverse, replicate, Bool, true, false, refl, ap, ◌∙◌, arith}
 use mathlib.Core.List.{reverse_aux}
 use Rattle.std.specs.Prelude.{◌||◌, ◌==◌, if◌then◌else◌}

@@ -8,12 +8,12 @@ abbrev pub ends_from : List ℕ → (List ℕ → Bool) → List ℕ → List Bo
 ends_from end passes [] = passes end ∷ []
 ends_from end passes (c ∷ rest) = passes end ∷ ends_from (c ∷ end) passes rest
 
--- each place tells whether it or one before it is set
+-- each place says whether it or one before it is set
 abbrev pub set_from : Bool → List Bool → List Bool
 set_from seen [] = []
 set_from seen (b ∷ bs) = (seen || b) ∷ set_from (seen || b) bs
 
--- each place tells whether the code point is taken and the place is set
+-- each place says whether the code point is taken and the place is set
 abbrev pub moved : ℕ → List ℕ → List Bool → List Bool
 moved p [] row = []
 moved p (c ∷ cs) [] = []

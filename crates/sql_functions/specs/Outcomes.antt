@@ -15,7 +15,7 @@ abbrev pub and_then : Outcome → (Value → Outcome) → Outcome
 and_then (Ok v) next = next v
 and_then (Err kind) next = Err kind
 
--- the fault tells this failure, or memory was wanting
+-- the fault names this failure, or memory was wanting
 abbrev pub FailsBy : Outcome → EvalFault → Type 0
 FailsBy outcome (fault.Fail kind) = outcome ≡ Err kind
 FailsBy outcome fault.Memory = Unit {0}

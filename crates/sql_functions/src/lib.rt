@@ -8,7 +8,7 @@
 //! - `truth`: three-valued logic, by `specs/Truth.antt`
 //! - `compare`: comparisons, by `specs/Comparison.antt`
 //! - `bigint`, `decimal`, `arithmetic`: numbers, by `specs/Bigints.antt`, `specs/DecimalNumbers.antt`
-//!   and `specs/Arithmetic.antt`; decimals cite the words of `decimals`
+//!   and `specs/Arithmetic.antt`; decimals cite the definitions of `decimals`
 //! - `texts`, `dates`, `like`, `casts`: by `specs/TextCalls.antt`, `specs/DateCalls.antt`,
 //!   `specs/Like.antt` and `specs/Casts.antt`
 //! - `calls`, `call_types`: calls by their names, and the types that they take and give

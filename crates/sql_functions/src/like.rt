@@ -19,7 +19,7 @@ fn takes(p: char, c: char, set: bool) -> bool
     (p == '_' || p == c) && set
 }
 
-/// Each place tells whether it or one before it was set.
+/// Each place says whether it or one before it was set.
 fn set_from(alloc: Global, row: &[bool]) -> Result<Vec<bool>, Memory>
     ensures { IfOk result (λ r. r.items ≡ set_from false row.now) }
 {
@@ -32,7 +32,7 @@ fn set_from(alloc: Global, row: &[bool]) -> Result<Vec<bool>, Memory>
     Ok(next)
 }
 
-/// Each place but the first tells whether its code point is taken and the place before was set.
+/// Each place but the first says whether its code point is taken and the place before was set.
 fn moved(alloc: Global, p: char, text: &[char], row: &[bool]) -> Result<Vec<bool>, Memory>
     requires { length row.now ≡ length text.now + 1 }
     ensures { IfOk result (λ r. r.items ≡ false ∷ moved p text.now row.now) }

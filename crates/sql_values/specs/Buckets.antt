@@ -1,5 +1,5 @@
 -- The bucket of some values: FNV-1a of 64 bits over their bytes.
-use Rattle.std.specs.Prelude.{ℕ, ◌*◌, ◌%◌, ◌^◌, List, [], ◌∷◌, ◌++◌, length, flat_map, bit_xor, ℤ, if◌then◌else◌}
+use Rattle.std.specs.Prelude.{◌≡◌, ℕ, ◌*◌, ◌%◌, ◌^◌, ◌<◌, List, [], ◌∷◌, ◌++◌, length, flat_map, bit_xor, slice_index_or, ℤ, if◌then◌else◌}
 use Rattle.std.specs.Int.{Width, w32, w64, w128, cast_unsigned, to_le_bytes}
 use Rattle.sql_values.specs.declared.value.Value.{Value}
 use Rattle.sql_values.specs.declared.value.Value.TheVariants.{Null, Boolean, Bigint, Decimal, Varchar, Date}
@@ -29,3 +29,8 @@ hash_after hash (b ∷ bs) = hash_after (hash_byte hash b) bs
 -- one of n buckets, from 0
 abbrev pub bucket_of : List Value → ℕ → ℕ
 bucket_of values n = hash_after 14695981039346656037 (flat_map bytes_of values) % n
+
+-- hashes, each of which goes on by the value at its place
+pub record GoOnBy (value : ℕ → Value) (old new : List ℕ) : Type 0 where
+  pub len : length new ≡ length old
+  pub each : (k : ℕ) → k < length old → slice_index_or new k 0 ≡ hash_after (slice_index_or old k 0) (bytes_of (value k))

@@ -3,12 +3,14 @@ ghost use Rattle.columns.specs.Present.{gather};
 ghost use Rattle.sql_values.specs.declared.value.Value.TheVariants as value_is;
 ghost use Rattle.sql_values.specs.Cells.{lent_value};
 ghost use Rattle.sql_values.specs.Blocks.{fits, offered, with_cells};
+ghost use Rattle.sql_values.specs.Buckets.{GoOnBy};
 ghost use Rattle.sql_values.specs.Types.{has_type};
 
 use crate::block_cells::{
     bigint_or_null, boolean_or_null, date_or_null, decimal_or_null, push_bigint, push_boolean,
     push_date, push_decimal, push_varchar, varchar_or_null,
 };
+use crate::hash::{bucket_hash, hash_bigints};
 use crate::memory::Memory;
 use crate::types::SqlType;
 use crate::value::{Value, ValueRef};
@@ -17,12 +19,12 @@ use std::alloc::Global;
 use std::marker::Model;
 
 /// One column of cells of a type, any of which may be NULL.
-#[derive(Debug, Drop)]
+#[derive(Drop)]
 pub struct Block {
     held: Held,
 }
 
-#[derive(Debug, Drop)]
+#[derive(Drop)]
 enum Held {
     Boolean(Nullable<bool>),
     Bigint(Nullable<i64>),
@@ -127,6 +129,26 @@ impl Block {
             Held::Decimal { numbers, .. } => decimal_or_null(numbers.get(place)),
             Held::Varchar(texts) => varchar_or_null(texts.get(place)),
             Held::Date(days) => date_or_null(days.get(place)),
+        }
+    }
+
+    /// Goes on in each bucket hash by the cell at its place.
+    pub fn hash_cells(&self, hashes: &mut [u64])
+        requires { length hashes.old ≤ length self.now.cells }
+        ensures { GoOnBy (λ k. slice_index_or self.now.cells k value_is.Null) hashes.old hashes.new }
+    {
+        match &self.held {
+            Held::Bigint(numbers) => hash_bigints(numbers, hashes),
+            _ => self.hash_each(hashes),
+        }
+    }
+
+    fn hash_each(&self, hashes: &mut [u64])
+        requires { length hashes.old ≤ length self.now.cells }
+        ensures { GoOnBy (λ k. slice_index_or self.now.cells k value_is.Null) hashes.old hashes.new }
+    {
+        for place in 0..hashes.len() {
+            hashes[place] = bucket_hash(hashes[place], self.cell(place));
         }
     }
 

@@ -9,7 +9,7 @@ use crate::memory::Memory;
 use crate::value::ValueRef;
 use columns::{Nullable, Texts};
 
-/// Appends an item, and tells that it was taken.
+/// Appends an item, and answers that it was taken.
 fn put<T: Copy + Default + Drop>(column: &mut Nullable<T>, item: Option<T>) -> Result<bool, Memory>
     ensures taken { IfOk result (λ taken. taken ≡ true) }
     ensures ok { IfOk result (λ _. column.new ≡ column.old ++ item ∷ []) }
@@ -19,7 +19,7 @@ fn put<T: Copy + Default + Drop>(column: &mut Nullable<T>, item: Option<T>) -> R
     Ok(true)
 }
 
-/// Appends a text, and tells that it was taken.
+/// Appends a text, and answers that it was taken.
 fn put_text(column: &mut Texts, text: Option<&str>) -> Result<bool, Memory>
     ensures taken { IfOk result (λ taken. taken ≡ true) }
     ensures ok { IfOk result (λ _. column.new ≡ column.old ++ option_copied text.entry ∷ []) }

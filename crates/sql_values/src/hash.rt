@@ -1,9 +1,12 @@
-ghost use Rattle.std.specs.Prelude.{◌≡◌, ◌≤◌, ◌++◌, length, flat_map};
+ghost use Rattle.std.specs.Prelude.{◌≡◌, ◌≤◌, ◌++◌, None, length, flat_map, slice_index_or};
 ghost use Rattle.std.specs.Int.{w32, w64, w128, to_le_bytes};
-ghost use Rattle.sql_values.specs.Buckets.{bucket_of, bytes_of, hash_after, hash_byte, number_bytes};
+ghost use Rattle.sql_values.specs.declared.value.Value.TheVariants as value_is;
+ghost use Rattle.sql_values.specs.Blocks.{or_null};
+ghost use Rattle.sql_values.specs.Buckets.{GoOnBy, bucket_of, bytes_of, hash_after, hash_byte, number_bytes};
 ghost use Rattle.sql_values.specs.Cells.{lent_value};
 
 use crate::value::{Value, ValueRef};
+use columns::Nullable;
 
 /// The bucket hash of no value, which `bucket_hash` goes on from.
 pub const EMPTY_HASH: u64 = 14_695_981_039_346_656_037;
@@ -31,7 +34,7 @@ fn hash_values(values: &[Value]) -> u64
 
 /// The bucket hash after one more value. The hash of some values, modulo `n`, is their bucket among `n`.
 #[tactic(auto, using(crate::proofs::HashLemmas::hashing))]
-pub fn bucket_hash(hash: u64, value: ValueRef<'_>) -> u64
+pub(crate) fn bucket_hash(hash: u64, value: ValueRef<'_>) -> u64
     ensures { result ≡ hash_after hash (bytes_of (lent_value value.entry)) }
 {
     match value {
@@ -41,6 +44,35 @@ pub fn bucket_hash(hash: u64, value: ValueRef<'_>) -> u64
         ValueRef::Decimal(unscaled) => hash_bytes(hash_byte(hash, 1), &decimal_bytes(unscaled)),
         ValueRef::Varchar(text) => hash_text(hash_byte(hash, 1), text.as_bytes()),
         ValueRef::Date(day) => hash_bytes(hash_byte(hash, 1), &date_bytes(day)),
+    }
+}
+
+/// Goes on in each hash by the number at its place.
+pub(crate) fn hash_bigints(numbers: &Nullable<i64>, hashes: &mut [u64])
+    requires { length hashes.old ≤ length numbers.now }
+    ensures { GoOnBy (λ k. or_null value_is.Bigint (slice_index_or numbers.now k None)) hashes.old hashes.new }
+{
+    for place in 0..hashes.len() {
+        hashes[place] = bigint_hash(hashes[place], numbers.get(place));
+    }
+}
+
+#[tactic(auto, using(crate::proofs::HashLemmas::hashing))]
+fn bigint_hash(hash: u64, number: Option<i64>) -> u64
+    ensures { result ≡ hash_after hash (bytes_of (or_null value_is.Bigint number)) }
+{
+    match number {
+        Some(n) => hash_bytes(hash_byte(hash, 1), &bigint_bytes(n)),
+        None => hash_byte(hash, 0),
+    }
+}
+
+/// Goes on in each hash by NULL.
+pub(crate) fn hash_nulls(hashes: &mut [u64])
+    ensures { GoOnBy (λ _. value_is.Null) hashes.old hashes.new }
+{
+    for place in 0..hashes.len() {
+        hashes[place] = bucket_hash(hashes[place], ValueRef::Null);
     }
 }
 

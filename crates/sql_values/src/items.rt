@@ -6,7 +6,7 @@ use std::marker::Model;
 
 /// A list of a crate's own, seen by contracts as that list. It is made from a `Vec` and gives it
 /// back without taking memory.
-#[derive(Debug, Drop)]
+#[derive(Drop)]
 pub struct Items<T> {
     held: Vec<T>,
 }

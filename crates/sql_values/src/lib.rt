@@ -14,7 +14,7 @@
 //!   `specs/TypeTexts.antt`; what is printed reads back as the value
 //! - `order`: rows by sort keys, by `specs/Order.antt`
 //! - `hash`: the bucket of a key, value by value where its values stand in columns, by `specs/Buckets.antt`
-//! - `relational`, `fail`, `memory`: words that the crates above share
+//! - `relational`, `fail`, `memory`: types that the crates above share
 #![tactic(auto)]
 
 mod block;
@@ -40,7 +40,7 @@ pub use block::{Block, typed_values_fit_blocks};
 pub use column_rows::ColumnRows;
 pub use decimals::{Decimal, OutOfRange};
 pub use fail::{EvalFault, Fail};
-pub use hash::{EMPTY_HASH, bucket, bucket_hash};
+pub use hash::{EMPTY_HASH, bucket};
 pub use items::Items;
 pub use memory::Memory;
 pub use order::{

@@ -12,7 +12,7 @@ use std::alloc::Global;
 use std::marker::Model;
 
 /// Makes a list of rows cell by cell, with no row between.
-#[derive(Debug, Drop)]
+#[derive(Drop)]
 pub struct RowBuilder {
     alloc: Global,
     held: ColumnRows,

@@ -12,14 +12,14 @@ use std::alloc::Global;
 use std::marker::Model;
 
 /// A list of rows. It lends cells and never a row, so that it may keep columns.
-#[derive(Debug, Drop)]
+#[derive(Drop)]
 pub struct RowList {
     alloc: Global,
     kept: Kept,
 }
 
 /// Columns while each row has had their types; from the first that has not, rows.
-#[derive(Debug, Drop)]
+#[derive(Drop)]
 enum Kept {
     Columns(ColumnRows),
     Rows(Vec<Row>),

@@ -2,7 +2,7 @@ use crate::row_list::RowList;
 use crate::types::Columns;
 
 /// A table: its columns and its rows.
-#[derive(Debug, Drop)]
+#[derive(Drop)]
 pub struct Table {
     pub columns: Columns,
     pub rows: RowList,

@@ -27,7 +27,7 @@ impl SqlType {
 }
 
 /// A column of a table: its name and its type.
-#[derive(Debug, Drop)]
+#[derive(Drop)]
 pub struct Column {
     pub name: Text,
     pub kind: SqlType,

@@ -6,7 +6,7 @@ use crate::text::Text;
 use std::alloc::Global;
 
 /// A value of a cell. NULL has every type.
-#[derive(Debug, Drop)]
+#[derive(Drop)]
 pub enum Value {
     Null,
     Boolean(bool),
@@ -19,7 +19,7 @@ pub enum Value {
 }
 
 /// A value that is lent: `Varchar` borrows its text.
-#[derive(Clone, Copy, Debug)]
+#[derive(Clone, Copy)]
 pub enum ValueRef<'a> {
     Null,
     Boolean(bool),

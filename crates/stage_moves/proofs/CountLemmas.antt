@@ -132,7 +132,7 @@ module _ {S : Type 0} (g : Ghosts S) where
             (λ A B steps. Steps-gave g s s' A B page.rows gave steps) (λ A B steps. Steps-took g t t' A B page took steps) l;
       }
 
-  -- a stage was told
+  -- a stage was told to finish
   pub Counted-told : (ss : List S) (i : ℕ) (s t : S) (X Y : List Row) → i < length ss → s ≡ get_or ss i s → WasTold g s t → Counted g ss (set ss i t) X X Y Y 0
   Counted-told ss i s t X Y h e told =
       record { entered = λ n l. none-more (set ss i t) X Y n (By-set ss i s t X Y n h e (λ A B steps. Steps-told g s t A B told steps) l) }

@@ -104,7 +104,7 @@ module _ {S : Type 0} (g : Ghosts S) where
         same = AllStay-then g ss (set ss i s') (set (set ss i s') j t') (AllStay-set g ss i s s' inside es gave.same) (AllStay-set g (set ss i s') j t t' inside' et' took.same);
       }
 
-  -- a stage was told whose giver is finished
+  -- a stage whose giver is finished was told to finish
   pub Told-links : (ss : List S) (i : ℕ) (s t : S) → i < length ss → s ≡ get_or ss i s → WasTold g s t
       → (X Y : List Row) → Linked g ss X Y → Linked g (set ss i t) X Y
   Told-links ss i s t h e told X Y l = Linked-set g ss i s t X Y h e (λ A B steps. Steps-told g s t A B told steps) l

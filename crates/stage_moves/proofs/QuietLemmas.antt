@@ -90,7 +90,7 @@ module _ {S : Type 0} (g : Ghosts S) where
       clash : g.needs_input t ≡ false → ⊥
       clash none = let both : false ≡ true = sym none ∙ needs in cc
 
-  -- one that was told takes no page
+  -- one that was told to finish takes no page
   told-needs : NeedsLaws g → (s t : S) → WasTold g s t → g.needs_input t ≡ true → g.needs_input s ≡ true
   told-needs more s t told needs = absurd (let clash : false ≡ true = sym (more.untold t needs) ∙ told.told in cc)
 
@@ -137,7 +137,7 @@ module _ {S : Type 0} (g : Ghosts S) where
       (λ k m inside ek em next. ap g.holds_row (same-item (set ss i t) i k t (omega (arith, inside)) ek here) ∙ gave-none_holds laws more s t gave empty)
       (Still-set ss i i s t h e (gave-none_needs laws more s t gave empty) (λ h. absurd (omega (arith, h))) still))
 
-  -- a stage was told
+  -- a stage was told to finish
   pub Still-told : NeedsLaws g → (ss : List S) (i : ℕ) (s t : S) → i < length ss → s ≡ get_or ss i s → WasTold g s t → AreStill g i ss → AreStill g i (set ss i t)
   Still-told more ss i s t h e told still = Still-set ss i i s t h e (told-needs more s t told) (λ h. absurd (omega (arith, h))) still
 

@@ -1,4 +1,4 @@
--- What an end of a driver tells of its looks.
+-- What is known of the looks of an end of a driver.
 use Rattle.std.specs.Prelude.{◌≡◌, ℕ, false}
 use Rattle.count_laws.specs.Counts.{Rose}
 use Rattle.blocked.specs.declared.blocked_on.BlockedOn.{BlockedOn}

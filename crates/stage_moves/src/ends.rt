@@ -31,7 +31,7 @@ pub trait PageSource {
     // It as it was made.
     ghost as_made: { Self → Self };
 
-    // What it tells of its looks.
+    // What is known of its looks.
     ghost looks: { Self → Looks } = { λ _. no_looks };
 
     // How often it asked in vain where nobody rings.
@@ -83,16 +83,16 @@ pub trait PageTarget {
     // It takes a page now.
     ghost wants: { Self → Bool };
 
-    // It was told that no page comes any more.
+    // It was told to finish.
     ghost is_told: { Self → Bool };
 
-    // It was told, and has nothing left to do.
+    // It was told to finish, and has nothing left to do.
     ghost is_finished: { Self → Bool };
 
     // It as it was made.
     ghost as_made: { Self → Self };
 
-    // What it tells of its looks.
+    // What is known of its looks.
     ghost looks: { Self → Looks } = { λ _. no_looks };
 
     // How often a bell was to be rung for what it did.
@@ -102,11 +102,11 @@ pub trait PageTarget {
     fn wants(&self) -> bool
         ensures { result ≡ wants self.now };
 
-    /// Whether it was told that no page comes any more.
+    /// Whether it was told to finish.
     fn is_told(&self) -> bool
         ensures { result ≡ is_told self.now };
 
-    /// Whether it was told, and has nothing left to do.
+    /// Whether it was told to finish, and has nothing left to do.
     fn is_finished(&self) -> bool
         ensures finished { result ≡ is_finished self.now }
         ensures told { is_finished self.now ≡ true → is_told self.now ≡ true };
@@ -129,9 +129,9 @@ pub trait PageTarget {
         ensures looks { (looks self.old).in_vain ≤ (looks self.new).in_vain }
         ensures dues { (bell : ℕ) → dues self.new bell ≡ dues self.old bell };
 
-    /// Does what is to be done with the pages that it took and, once it was told, what ends it, and rings for
-    /// it. Answers where it has to wait for that; where it need not, it takes a page now or, once it was told,
-    /// is finished.
+    /// Does what is to be done with the pages that it took and, once `finish` was called, what ends it, and rings
+    /// for it. Answers where it has to wait for that; where it need not, it takes a page now or, once `finish`
+    /// was called, is finished.
     fn ready<R: Threads + Wait + Sync, B: Bells>(
         &mut self,
         rt: &R,

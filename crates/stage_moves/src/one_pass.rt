@@ -112,7 +112,7 @@ fn serve_stage<S: TypedOperator>(
 }
 
 /// Moves pages from stage to stage, the first ones first, as long as fewer than `room` rows were moved. Each
-/// stage is told where its giver is finished. Nothing goes to the target.
+/// stage is told to finish where its giver is finished. Nothing goes to the target.
 pub fn move_pages<S: TypedOperator>(stages: &mut Vec<S>, ended: bool, room: u32) -> Passing
     ensures passed { NotMemory result.outcome → (X Y : List Row)
         → Passed S.Operator stages.old.items stages.new.items X X Y Y ended ended }

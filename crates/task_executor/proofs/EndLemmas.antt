@@ -28,7 +28,8 @@ use Rattle.net_laws.proofs.LaterLemmas.{drivers_on}
 use Rattle.net_making.specs.Slots.{IsNew}
 use Rattle.task_executor.specs.Nets.{FailsFor, IsNetOf, IsOverTables, NetState, layout_in, plan_in}
 use Rattle.task_executor.specs.declared.answer.RunDone.{RunDone}
-use Rattle.task_executor.specs.Turns.{AreFailing, AreFinished, AreUnfailed, AreWholeDrivers}
+use Rattle.net_closing.specs.Closing.{AreWholeDrivers}
+use Rattle.task_executor.specs.Turns.{AreFailing, AreFinished, AreUnfailed}
 
 -- what the laws of nets say of the plan
 abbrev GivesRows : PlanForm → Type 0

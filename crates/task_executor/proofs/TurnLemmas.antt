@@ -7,7 +7,8 @@ use Rattle.driver_loop.specs.declared.run_fault.RunFault.{RunFault}
 use Rattle.driver_loop.specs.declared.run_fault.RunFault.TheVariants.{ExprFailed, Memory}
 use Rattle.net_laws.specs.Later.{AreLater, IsLaterDriver}
 use Rattle.net_laws.proofs.LaterLemmas.{later_same}
-use Rattle.task_executor.specs.Turns.{AreFailing, AreUnfailed, AreWholeDrivers, IsFailing}
+use Rattle.net_closing.specs.Closing.{AreWholeDrivers}
+use Rattle.task_executor.specs.Turns.{AreFailing, AreUnfailed, IsFailing}
 use Rattle.task_executor.proofs.LaterLemmas.{all_same}
 
 pub later_at : (ds : List DriverState) (k : ℕ) (e d : DriverState) → k < length ds → e ≡ get_or ds k e → IsLaterDriver e d → AreLater ds (slice_set ds k d)

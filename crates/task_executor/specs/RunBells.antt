@@ -1,4 +1,4 @@
--- What bells tell that only count.
+-- What is known of bells that only count.
 use Rattle.std.specs.Prelude.{◌≡◌, ◌≤◌, ℕ, List, get_or, min}
 use Rattle.count_laws.specs.Counts.{most_count}
 

@@ -1,9 +1,10 @@
 -- What turns leave of drivers.
 use Rattle.std.specs.Prelude.{◌≡◌, List, All, Contains, Option, None, Some, is_some, true, false}
 use Rattle.std.proofs.Common.{refl}
-use Rattle.driver_loop.specs.Drivers.{DriverState, HasFailed, IsWhole}
+use Rattle.driver_loop.specs.Drivers.{DriverState, HasFailed}
 use Rattle.driver_loop.specs.declared.run_fault.RunFault.{RunFault}
 use Rattle.driver_loop.specs.declared.run_fault.RunFault.TheVariants.{ExprFailed, Memory}
+use Rattle.net_closing.specs.Closing.{AreWholeDrivers}
 
 -- none of them failed
 abbrev pub AreUnfailed : List DriverState → Type 0
@@ -11,9 +12,6 @@ AreUnfailed drivers = All (λ d. d.fault ≡ None) drivers
 
 abbrev pub AreFinished : List DriverState → Type 0
 AreFinished drivers = All (λ d. d.is_finished ≡ true) drivers
-
-abbrev pub AreWholeDrivers : List DriverState → Type 0
-AreWholeDrivers drivers = All (λ d. IsWhole d.fault) drivers
 
 -- the driver failed in this way in its last turn
 abbrev pub IsFailing : DriverState → RunFault → Type 0

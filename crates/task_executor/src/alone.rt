@@ -6,7 +6,8 @@ ghost use Rattle.plan_trees.specs.Allowed.{Allows};
 ghost use Rattle.operator_core.specs.Rows.{Row};
 ghost use Rattle.net_laws.specs.Later.{AreLater, IsLaterDriver};
 ghost use Rattle.task_executor.specs.Nets.{FailsFor, IsNetOf};
-ghost use Rattle.task_executor.specs.Turns.{AreFailing, AreFinished, AreUnfailed, AreWholeDrivers, IsFailing};
+ghost use Rattle.net_closing.specs.Closing.{AreWholeDrivers};
+ghost use Rattle.task_executor.specs.Turns.{AreFailing, AreFinished, AreUnfailed, IsFailing};
 
 use crate::answer::{RunDone, answer_of};
 use crate::net::Net;

@@ -8,7 +8,8 @@ ghost use Rattle.driver_loop.specs.Drivers.{DriverState};
 ghost use Rattle.driver_loop.specs.declared.run_fault.RunFault.{RunFault};
 ghost use Rattle.net_laws.specs.Later.{AreLater};
 ghost use Rattle.task_executor.specs.Nets.{FailsFor, IsNetOf, IsOverTables};
-ghost use Rattle.task_executor.specs.Turns.{AreFailing, AreFinished, AreWholeDrivers};
+ghost use Rattle.net_closing.specs.Closing.{AreWholeDrivers};
+ghost use Rattle.task_executor.specs.Turns.{AreFailing, AreFinished};
 
 use crate::result::rows_of;
 use driver_loop::{Driver, RunFault, Stage};

@@ -5,7 +5,7 @@ ghost use Rattle.task_executor.specs.Shapes.{parallelism_of};
 use plan_layout::Parallelism;
 
 /// How many tasks and drivers there are, and how many rows a split, a page and a turn have.
-#[derive(Clone, Copy, Debug)]
+#[derive(Clone, Copy)]
 pub struct Shape {
     /// The tasks of a fragment that may have several, at least 1.
     pub tasks: u32,

@@ -8,7 +8,8 @@ ghost use Rattle.operator_core.specs.Rows.{Row};
 ghost use Rattle.driver_loop.specs.Drivers.{DriverState, IsWhole};
 ghost use Rattle.net_laws.specs.Later.{AreLater};
 ghost use Rattle.task_executor.specs.Nets.{FailsFor, IsNetOf};
-ghost use Rattle.task_executor.specs.Turns.{AreFailing, AreFinished, AreWholeDrivers};
+ghost use Rattle.net_closing.specs.Closing.{AreWholeDrivers};
+ghost use Rattle.task_executor.specs.Turns.{AreFailing, AreFinished};
 
 use crate::answer::{RunDone, answer_of};
 use crate::net::Net;

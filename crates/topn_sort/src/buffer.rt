@@ -27,7 +27,7 @@ pub struct SortBuffer {
 }
 
 impl Model for SortBuffer {
-    ghost use Rattle.topn_sort.specs.Sorting.{BufferState, IsBuffer, rows_to_give};
+    ghost use Rattle.topn_sort.specs.Sorting.{BufferState, IsBuffer, buffered_rows};
 
     ghost Value = { BufferState };
 
@@ -35,7 +35,7 @@ impl Model for SortBuffer {
       keys = b.keys.items;
       types = b.rows.types;
       page = b.page;
-      rows = rows_to_give b.has_begun b.rows.rows b.order.items b.given;
+      rows = buffered_rows b.has_begun b.rows.rows b.order.items b.given;
       begun = b.has_begun;
     } };
 

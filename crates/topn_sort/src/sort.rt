@@ -16,7 +16,7 @@ use std::marker::Model;
 use std::sync::Wait;
 use std::thread::Threads;
 
-/// Gives all rows in the order of keys, once it was told that no page comes any more.
+/// Gives all rows in the order of keys, once `finish` was called.
 #[derive(Drop)]
 pub struct SortOp {
     buffer: SortBuffer,

@@ -17,7 +17,7 @@ use std::marker::Model;
 use std::sync::Wait;
 use std::thread::Threads;
 
-/// Gives the first rows in the order of keys, as many as its count, once it was told that no page comes any more.
+/// Gives the first rows in the order of keys, as many as its count, once `finish` was called.
 /// It holds no more rows than these beside the page that it takes in.
 #[derive(Drop)]
 pub struct TopNOp {

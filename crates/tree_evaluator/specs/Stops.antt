@@ -20,7 +20,7 @@ abbrev pub StopsFor : TreeForm → List (List (List Value)) → EvalStop → Typ
 StopsFor tree tables (stop.ExprFailed node kind) = MayFail tree tables node kind
 StopsFor tree tables stop.Memory = Unit {0}
 
--- this node failed so, or memory was wanting
+-- this node failed with this kind, or memory was wanting
 abbrev pub StopsHere : ℕ → Option Fail → EvalStop → Type 0
 StopsHere id failure (stop.ExprFailed node kind) = (id ≡ node) × (failure ≡ Some kind)
 StopsHere id failure stop.Memory = Unit {0}

@@ -18,7 +18,7 @@ use sql_values::{RowList, Table};
 use std::alloc::Global;
 
 /// A list of rows that the tree allows over the tables. The tree of a plan that was read fits the
-/// plan's tables; `fits_tables` tells it of any other.
+/// plan's tables; `fits_tables` says whether any other does.
 pub fn evaluate(alloc: Global, tree: &Tree, tables: &[Table]) -> Result<RowList, EvalStop>
     requires { FitsTables (tree_view tree.now) (map rows_of_table tables.now) }
     ensures { MatchResult result

@@ -8,7 +8,7 @@ use std::marker::Model;
 
 /// The rows of a node, seen as its types and its rows. They are kept as pages that have these types
 /// and a row each; a page is taken from the front.
-#[derive(Debug, Drop)]
+#[derive(Drop)]
 pub struct NodeRows {
     types: Types,
     pages: PageList,

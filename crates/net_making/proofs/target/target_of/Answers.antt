@@ -1,5 +1,5 @@
-use Rattle.std.proofs.Common.{◌∙◌, ap, subst, sym}
-use Rattle.plan_layout.specs.Pipes.{TargetForm, cell, target_view}
+use Rattle.std.proofs.Common.{ap, subst, sym}
+use Rattle.plan_layout.specs.Pipes.{TargetForm, target_view}
 use Rattle.driver_net_laws.specs.Nets.{IsTargetFor}
 use Rattle.net_making.proofs.LaneLemmas.{if_so}
 use Rattle.net_making.proofs.target.target_of.Goals as goal
@@ -11,8 +11,7 @@ returns-in-Result-clause-is c =
 
 pub returns-in-Cell-clause-is : goal.returns-in-Cell-clause-is
 returns-in-Cell-clause-is c =
-    let is = ap target_view c.in-Cell.is ∙ ap cell (sym c.as_slice.ensures) in
-    if_so c.build_target.result (λ made holds labels labelled net for. subst (λ (form : TargetForm). IsTargetFor net c.args.own c.args.task form made) (sym is)
+    if_so c.build_target.result (λ made holds labels labelled net for. subst (λ (form : TargetForm). IsTargetFor net c.args.own c.args.task form made) (sym (ap target_view c.in-Cell.is))
     (holds labels net for)) c.build_target.ensures.is
 
 pub returns-in-Side-clause-is : goal.returns-in-Side-clause-is

@@ -17,7 +17,7 @@ invariant_of-self g c =
           (going_on _ _ going) (not_none _ _ unfailed);
       built = λ w. built_on _ _ _ _ c.take_turn-turning.ensures.ends (c.take_turn-turning.ensures.target (subst NotMemory (sym c.in-Ok-Yield.is) tt)) (answer.2 ∙ sym going) (c.self.invariant.built w);
       none = c.self.invariant.none;
-      room = λ w. room_stays _ _ _ (c.take_turn-turning.ensures.later (subst NotMemory (sym c.in-Ok-Yield.is) tt)) (c.self.invariant.room w);
+      room = λ w. room_stays _ _ _ _ _ (c.take_turn-turning.ensures.later (subst NotMemory (sym c.in-Ok-Yield.is) tt)) (c.take_turn-turning.ensures.target (subst NotMemory (sym c.in-Ok-Yield.is) tt)) (c.self.invariant.room w);
     }
 
 pub invariant_of-self-in-Ok-Blocked : goal.invariant_of-self-in-Ok-Blocked
@@ -31,7 +31,7 @@ invariant_of-self-in-Ok-Blocked g c =
           (going_on _ _ going) (not_none _ _ unfailed);
       built = λ w. built_on _ _ _ _ c.take_turn-turning.ensures.ends (c.take_turn-turning.ensures.target (subst NotMemory (sym c.in-Ok-Blocked.is) tt)) (answer.1 ∙ sym going) (c.self.invariant.built w);
       none = c.self.invariant.none;
-      room = λ w. room_stays _ _ _ (c.take_turn-turning.ensures.later (subst NotMemory (sym c.in-Ok-Blocked.is) tt)) (c.self.invariant.room w);
+      room = λ w. room_stays _ _ _ _ _ (c.take_turn-turning.ensures.later (subst NotMemory (sym c.in-Ok-Blocked.is) tt)) (c.take_turn-turning.ensures.target (subst NotMemory (sym c.in-Ok-Blocked.is) tt)) (c.self.invariant.room w);
     }
 
 pub invariant_of-self-in-Ok-Finished : goal.invariant_of-self-in-Ok-Finished
@@ -46,7 +46,7 @@ invariant_of-self-in-Ok-Finished g c =
           (λ _. (unfailed, over)) (not_none _ _ unfailed);
       built = λ w. built_on _ _ _ _ c.take_turn-turning.ensures.ends (c.take_turn-turning.ensures.target (subst NotMemory (sym c.in-Ok-Finished.is) tt)) answer (c.self.invariant.built w);
       none = c.self.invariant.none;
-      room = λ w. room_stays _ _ _ (c.take_turn-turning.ensures.later (subst NotMemory (sym c.in-Ok-Finished.is) tt)) (c.self.invariant.room w);
+      room = λ w. room_stays _ _ _ _ _ (c.take_turn-turning.ensures.later (subst NotMemory (sym c.in-Ok-Finished.is) tt)) (c.take_turn-turning.ensures.target (subst NotMemory (sym c.in-Ok-Finished.is) tt)) (c.self.invariant.room w);
     }
 
 pub invariant_of-self-in-Err : goal.invariant_of-self-in-Err
@@ -62,7 +62,7 @@ invariant_of-self-in-Err g c =
       built = λ w. built_on _ _ _ _ c.take_turn-turning.ensures.ends (c.take_turn-turning.ensures.target (enough w))
           (c.take_turn-turning.ensures.unfinished (subst IsErr (sym c.in-Err.is) refl) (enough w) ∙ sym going) (c.self.invariant.built (whole _ unfailed));
       none = c.self.invariant.none;
-      room = λ w. room_stays _ _ _ (c.take_turn-turning.ensures.later (enough w)) (c.self.invariant.room (whole _ unfailed));
+      room = λ w. room_stays _ _ _ _ _ (c.take_turn-turning.ensures.later (enough w)) (c.take_turn-turning.ensures.target (enough w)) (c.self.invariant.room (whole _ unfailed));
     }
 
 pub returns-in-Ok-Finished-clause-over : goal.returns-in-Ok-Finished-clause-over

@@ -47,3 +47,9 @@ returns-in-Final-clause-fails c = rw c.in-Final.is c.add_input-in-Final.ensures.
 
 pub returns-in-Final-clause-fault : goal.returns-in-Final-clause-fault
 returns-in-Final-clause-fault c = rw c.in-Final.is c.add_input-in-Final.ensures.fault
+
+pub returns-in-Dynamic-clause-fails : goal.returns-in-Dynamic-clause-fails
+returns-in-Dynamic-clause-fails c = rw c.in-Dynamic.is c.add_input-in-Dynamic.ensures.fails
+
+pub returns-in-Dynamic-clause-fault : goal.returns-in-Dynamic-clause-fault
+returns-in-Dynamic-clause-fault c = rw c.in-Dynamic.is c.add_input-in-Dynamic.ensures.fault

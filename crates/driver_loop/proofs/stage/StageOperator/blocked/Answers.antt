@@ -71,3 +71,15 @@ returns-in-Final-clause-fails g c = rw c.in-Final.is c.blocked-in-Final.ensures.
 
 pub returns-in-Final-clause-takes : goal.returns-in-Final-clause-takes
 returns-in-Final-clause-takes g c = rw c.in-Final.is c.blocked-in-Final.ensures.takes
+
+pub returns-in-Dynamic-clause-gives : goal.returns-in-Dynamic-clause-gives
+returns-in-Dynamic-clause-gives g c = rw c.in-Dynamic.is c.blocked-in-Dynamic.ensures.gives
+
+pub returns-in-Dynamic-clause-fails : goal.returns-in-Dynamic-clause-fails
+returns-in-Dynamic-clause-fails g c = rw c.in-Dynamic.is c.blocked-in-Dynamic.ensures.fails
+
+pub returns-in-Dynamic-clause-takes : goal.returns-in-Dynamic-clause-takes
+returns-in-Dynamic-clause-takes g c = rw c.in-Dynamic.is c.blocked-in-Dynamic.ensures.takes
+
+pub returns-in-Dynamic-clause-went : goal.returns-in-Dynamic-clause-went
+returns-in-Dynamic-clause-went g c = rw c.in-Dynamic.is c.blocked-in-Dynamic.ensures.went

@@ -5,3 +5,6 @@ returns-in-Filter-clause-fails c = rw c.in-Filter.is c.finish.ensures.fails
 
 pub returns-in-Filter-clause-told : goal.returns-in-Filter-clause-told
 returns-in-Filter-clause-told c = c.finish.ensures.told
+
+pub returns-in-Dynamic-clause-went : goal.returns-in-Dynamic-clause-went
+returns-in-Dynamic-clause-went c = rw c.in-Dynamic.is c.finish-in-Dynamic.ensures.went

@@ -71,3 +71,12 @@ returns-in-Final-clause-none c = rw c.in-Final.is c.get_output-in-Final.ensures.
 
 pub returns-in-Final-clause-went : goal.returns-in-Final-clause-went
 returns-in-Final-clause-went c = rw c.in-Final.is c.get_output-in-Final.ensures.went
+
+pub returns-in-Dynamic-clause-fails : goal.returns-in-Dynamic-clause-fails
+returns-in-Dynamic-clause-fails c = rw c.in-Dynamic.is c.get_output-in-Dynamic.ensures.fails
+
+pub returns-in-Dynamic-clause-none : goal.returns-in-Dynamic-clause-none
+returns-in-Dynamic-clause-none c = rw c.in-Dynamic.is c.get_output-in-Dynamic.ensures.none
+
+pub returns-in-Dynamic-clause-went : goal.returns-in-Dynamic-clause-went
+returns-in-Dynamic-clause-went c = rw c.in-Dynamic.is c.get_output-in-Dynamic.ensures.went

@@ -1,10 +1,12 @@
 -- Notes and counts, put behind one another.
-use Rattle.std.proofs.Common.{◌≡◌, ℕ, suc, ◌+◌, ◌<◌, ◌≤◌, List, [], ◌∷◌, ◌++◌, length, ap, sym, ◌∙◌, arith, append_assoc}
+use Rattle.std.proofs.Common.{◌≡◌, ℕ, suc, ◌+◌, ◌<◌, ◌≤◌, List, [], ◌∷◌, ◌++◌, Option, Some, None, length, map, ap, sym, ◌∙◌, arith, append_assoc}
 use Rattle.std.specs.Prelude.{flat_map}
+use Rattle.std.specs.Option.{option_to_list}
 use Rattle.std.proofs.lemmas.List.{length-append}
+use Rattle.dyn_filter.specs.Filters.{FilterState}
 use Rattle.driver_loop.specs.declared.stage.Stage.{Stage}
 use Rattle.driver_loop.specs.declared.stage.Stage.TheVariants.{Filter, Limit, Sort, TopN, Single, Partial, Final, Probe, Dynamic}
-use Rattle.driver_loop.specs.Turns.{filter_note_of_stage, note_of_stage, passed_of_stage}
+use Rattle.driver_loop.specs.Turns.{filter_note_of_stage, filter_of_stage, look_note, note_of_stage, passed_of_stage}
 
 pub one_note : (s : Stage) → length (note_of_stage s) ≤ 1
 one_note (Filter op) = omega arith
@@ -17,27 +19,15 @@ one_note (Final op) = omega arith
 one_note (Probe op types) = omega arith
 one_note (Dynamic op types) = omega arith
 
+one_or_none : {X Y : Type 0} (f : X → Y) (x : Option X) → length (map f (option_to_list x)) ≤ 1
+one_or_none f None = omega arith
+one_or_none f (Some x) = omega arith
+
 pub one_filter_note : (s : Stage) → length (filter_note_of_stage s) ≤ 1
-one_filter_note (Filter op) = omega arith
-one_filter_note (Limit op types) = omega arith
-one_filter_note (Sort op) = omega arith
-one_filter_note (TopN op) = omega arith
-one_filter_note (Single op) = omega arith
-one_filter_note (Partial op) = omega arith
-one_filter_note (Final op) = omega arith
-one_filter_note (Probe op types) = omega arith
-one_filter_note (Dynamic op types) = omega arith
+one_filter_note s = one_or_none look_note (filter_of_stage s)
 
 pub one_count : (s : Stage) → length (passed_of_stage s) ≤ 1
-one_count (Filter op) = omega arith
-one_count (Limit op types) = omega arith
-one_count (Sort op) = omega arith
-one_count (TopN op) = omega arith
-one_count (Single op) = omega arith
-one_count (Partial op) = omega arith
-one_count (Final op) = omega arith
-one_count (Probe op types) = omega arith
-one_count (Dynamic op types) = omega arith
+one_count s = one_or_none (λ (op : FilterState). op.passed) (filter_of_stage s)
 
 -- stages have no more notes than they are
 pub few_notes : {X : Type 0} (f : Stage → List X) → ((s : Stage) → length (f s) ≤ 1) → (ss : List Stage) → length (flat_map f ss) ≤ length ss

@@ -19,7 +19,7 @@ Laws {S = S} g = record {
   needs : (s : S) → g.is_told s ≡ false → g.holds_row s ≡ false → (g.waits s ≡ true → g.knows s ≡ true) → g.is_full s ≡ false → g.needs_input s ≡ true;
   made_untold : (s : S) → g.is_told (g.as_made s) ≡ false;
   made_again : (s : S) → g.as_made (g.as_made s) ≡ g.as_made s;
-  note : NoteLaws g.may_give g.needs_input g.is_told g.is_finished g.waits g.knows g.went g.as_made g.may_learn;
+  note : NoteLaws g.may_give g.needs_input g.is_told g.is_finished g.waits g.knows g.went g.counted g.as_made g.may_learn;
 }
 
 -- what the ghosts are at one state, and as it was made
@@ -38,6 +38,7 @@ pub record Now : Type 1 where
   pub made_told : Bool
   pub made_knows : Bool
   pub made_went : List Row → List Row → Type 0
+  pub made_counted : ℕ → Type 0
 
 abbrev pub now : {S : Type 0} → Ghosts S → S → Now
 now g s = record {
@@ -55,6 +56,7 @@ now g s = record {
   made_told = g.is_told (g.as_made s);
   made_knows = g.knows (g.as_made s);
   made_went = g.went (g.as_made s);
+  made_counted = g.counted (g.as_made s);
 }
 
 -- the laws of one state
@@ -70,6 +72,7 @@ pub record LawsNow (n : Now) : Type 0 where
   pub made_untold : n.made_told ≡ false
   pub made_knows : n.made_knows ≡ n.knows
   pub made_went : n.made_went [] []
+  pub made_counted : n.made_counted 0
 
 pub laws_now : {S : Type 0} (g : Ghosts S) → Laws g → (s : S) → LawsNow (now g s)
 laws_now g laws s = record {
@@ -84,6 +87,7 @@ laws_now g laws s = record {
   made_untold = laws.made_untold s;
   made_knows = laws.note.made_knows s;
   made_went = laws.note.made_went s;
+  made_counted = laws.note.made_counted s;
 }
 
 -- the stage is one with what the operator may come to be made as

@@ -54,6 +54,7 @@ stage_ghosts = record {
   empty_looks = of_operator (λ _ g _ s. g.empty_looks s);
   looked_at = of_operator (λ _ g _ s. g.looked_at s);
   went = of_operator (λ _ g _ s. g.went s);
+  counted = of_operator (λ _ g _ s. g.counted s);
   as_made = of_operator (λ _ g stage s. stage (g.as_made s));
   may_learn = of_operator (λ _ g stage s. LearnsAs g stage s);
 }

@@ -1,7 +1,9 @@
 -- What a turn of a driver answers, and what a driver hands back.
-use Rattle.std.specs.Prelude.{◌≡◌, ◌+◌, ◌<◌, ◌≤◌, ℕ, List, [], ◌∷◌, ◌++◌, true, false, Some, None, flat_map, map}
+use Rattle.std.specs.Prelude.{◌≡◌, ◌+◌, ◌<◌, ◌≤◌, ℕ, List, [], ◌∷◌, ◌++◌, true, false, Option, Some, None, IfSome, flat_map, map}
+use Rattle.std.specs.Option.{option_to_list}
 use Rattle.std.specs.Vec.{vec_capacity}
 use Rattle.blocked.specs.declared.blocked_on.BlockedOn.{BlockedOn}
+use Rattle.dyn_filter.specs.Filters.{FilterState, IsFiltering}
 use Rattle.driver_turns.specs.Turns.{IsBlocked}
 use Rattle.driver_loop.specs.declared.turn.Turn.{Turn}
 use Rattle.driver_loop.specs.declared.turn.Turn.TheVariants.{Yield, Blocked, Finished, Failed}
@@ -61,28 +63,31 @@ note_of_target (Deal deal) = []
 abbrev pub notes_of : DriverState → List CellNote
 notes_of d = flat_map note_of_stage d.stages ++ note_of_target d.target
 
--- the note of a stage that drops rows by a dynamic filter, and how many rows it gave
+-- the dynamic filter by which a stage drops rows, if it does
+abbrev pub filter_of_stage : Stage → Option FilterState
+filter_of_stage (Filter op) = None
+filter_of_stage (Limit op types) = None
+filter_of_stage (Sort op) = None
+filter_of_stage (TopN op) = None
+filter_of_stage (Single op) = None
+filter_of_stage (Partial op) = None
+filter_of_stage (Final op) = None
+filter_of_stage (Probe op types) = None
+filter_of_stage (Dynamic op types) = Some op
+
+-- its note, and how many rows it gave
+abbrev pub look_note : FilterState → FilterCellNote
+look_note op = record { bell = op.bell; part = None; note = op.note }
+
 abbrev pub filter_note_of_stage : Stage → List FilterCellNote
-filter_note_of_stage (Filter op) = []
-filter_note_of_stage (Limit op types) = []
-filter_note_of_stage (Sort op) = []
-filter_note_of_stage (TopN op) = []
-filter_note_of_stage (Single op) = []
-filter_note_of_stage (Partial op) = []
-filter_note_of_stage (Final op) = []
-filter_note_of_stage (Probe op types) = []
-filter_note_of_stage (Dynamic op types) = record { bell = op.bell; note = op.note } ∷ []
+filter_note_of_stage s = map look_note (option_to_list (filter_of_stage s))
 
 abbrev pub passed_of_stage : Stage → List ℕ
-passed_of_stage (Filter op) = []
-passed_of_stage (Limit op types) = []
-passed_of_stage (Sort op) = []
-passed_of_stage (TopN op) = []
-passed_of_stage (Single op) = []
-passed_of_stage (Partial op) = []
-passed_of_stage (Final op) = []
-passed_of_stage (Probe op types) = []
-passed_of_stage (Dynamic op types) = op.passed ∷ []
+passed_of_stage s = map (λ (op : FilterState). op.passed) (option_to_list (filter_of_stage s))
+
+-- its note is one of its cell, and a domain that it knows is that of all parts, whose domains the note knows
+abbrev pub KnowsParts : Stage → Type 0
+KnowsParts s = IfSome (filter_of_stage s) (λ op. IsFiltering op.parts op.note op.known)
 
 -- the filters of a target that builds, and the note of each
 abbrev pub filters_of : Target → List BuildFilterState
@@ -92,7 +97,7 @@ filters_of (Put put) = []
 filters_of (Deal deal) = []
 
 abbrev pub note_of_build_filter : BuildFilterState → FilterCellNote
-note_of_build_filter f = record { bell = f.bell; note = f.note }
+note_of_build_filter f = record { bell = f.bell; part = Some f.part; note = f.note }
 
 -- the notes of dynamic filters: those of its stages in their order, and then those of its target
 abbrev pub filter_notes_of : DriverState → List FilterCellNote

@@ -1,5 +1,5 @@
 //! A driver: one source, stages in order, one target.
-ghost use Rattle.std.specs.Prelude.{◌≡◌, ◌+◌, ◌<◌, ◌≤◌, ℕ, [], true, false, IfOk, Some, None, length, map, min};
+ghost use Rattle.std.specs.Prelude.{◌≡◌, ◌+◌, ◌<◌, ◌≤◌, ℕ, [], All, true, false, IfOk, Some, None, length, map, min};
 ghost use Rattle.sql_values.specs.declared.fail.Fail.{Fail as Kind};
 ghost use Rattle.count_laws.specs.Counts.{most_count};
 ghost use Rattle.col_pages.specs.Pages.{most_rows};
@@ -10,7 +10,7 @@ ghost use Rattle.driver_loop.specs.Ends.{is_build, is_told, rows_taken, has_ende
 ghost use Rattle.driver_turns.specs.Turns.{RangDues};
 ghost use Rattle.driver_loop.specs.Drivers.{IsDriver, IsOver, HasFailed, HasWorked, CanGoOn, IsBuilt, IsBuiltAs, IsWhole, driver_dues};
 ghost use Rattle.driver_loop.specs.Seats.{KeepsEnds, PutAll};
-ghost use Rattle.driver_loop.specs.Turns.{IsLeftBy, IsWaiting, IfBlocked, ArePiecesOf, filter_notes_of, notes_of, passed_of};
+ghost use Rattle.driver_loop.specs.Turns.{IsLeftBy, IsWaiting, IfBlocked, ArePiecesOf, KnowsParts, filter_notes_of, notes_of, passed_of};
 
 use crate::notes::{NoteLists, put_notes, room_for_notes};
 use crate::pieces::Pieces;
@@ -226,6 +226,7 @@ impl<'w, C: Courier> Driver<'w, C> {
         ensures lookups { IsWhole self.entry.fault → result.lookups.items ≡ notes_of self.entry }
         ensures filters { IsWhole self.entry.fault → result.filters.items ≡ filter_notes_of self.entry }
         ensures passed { IsWhole self.entry.fault → result.passed.items ≡ passed_of self.entry }
+        ensures knows { All KnowsParts self.entry.stages }
         ensures built { IsBuilt self.entry }
         ensures all { PutAll self.entry.target result.puts.items result.deal }
         ensures over { IsOver self.entry }
@@ -241,6 +242,7 @@ impl<'w, C: Courier> Driver<'w, C> {
         ensures lookups { IsWhole self.entry.fault → result.lookups.items ≡ notes_of self.entry }
         ensures filters { IsWhole self.entry.fault → result.filters.items ≡ filter_notes_of self.entry }
         ensures passed { IsWhole self.entry.fault → result.passed.items ≡ passed_of self.entry }
+        ensures knows { All KnowsParts self.entry.stages }
         ensures built { IsWhole self.entry.fault → IsBuilt self.entry }
         ensures kept { IsDriver self.entry }
     {
@@ -253,6 +255,7 @@ impl<'w, C: Courier> Driver<'w, C> {
         ensures lookups { IsWhole self.entry.fault → result.lookups.items ≡ notes_of self.entry }
         ensures filters { IsWhole self.entry.fault → result.filters.items ≡ filter_notes_of self.entry }
         ensures passed { IsWhole self.entry.fault → result.passed.items ≡ passed_of self.entry }
+        ensures knows { All KnowsParts self.entry.stages }
         ensures all { IsBuiltAs true self.entry.target
             → PutAll self.entry.target result.puts.items result.deal }
     {

@@ -1,7 +1,8 @@
 //! The notes and counts that a driver hands over at its end.
-ghost use Rattle.std.specs.Prelude.{◌≡◌, ◌+◌, ◌<◌, ◌≤◌, ◌++◌, ◌∷◌, [], IfOk, length, flat_map, map};
+ghost use Rattle.std.specs.Prelude.{◌≡◌, ◌+◌, ◌<◌, ◌≤◌, ◌++◌, ◌∷◌, [], All, IfOk, length, flat_map, map};
 ghost use Rattle.std.specs.Vec.{vec_capacity};
-ghost use Rattle.driver_loop.specs.Turns.{AreEmpty, HaveRoomFor, HaveSameRoom, filter_note_of_stage, note_of_build_filter, note_of_stage, passed_of_stage};
+ghost use Rattle.dyn_filter.specs.Filters.{IsFiltering};
+ghost use Rattle.driver_loop.specs.Turns.{AreEmpty, HaveRoomFor, HaveSameRoom, KnowsParts, filter_note_of_stage, look_note, note_of_build_filter, note_of_stage, passed_of_stage};
 
 use crate::build_filter::BuildFilter;
 use crate::pieces::{CellNote, FilterCellNote};
@@ -60,11 +61,14 @@ fn note_of_probe(op: ProbeOp<'_>) -> CellNote
 }
 
 fn note_of_filter(op: FilterOp<'_>) -> FilterCellNote
-    ensures { result ≡ record { bell = op.entry.bell; note = op.entry.note } }
+    ensures note { result ≡ look_note op.entry }
+    ensures knows { IsFiltering op.entry.parts op.entry.note op.entry.known }
 {
+    op.knows_all();
     let bell = op.bell();
     FilterCellNote {
         bell,
+        part: None,
         note: op.into_note(),
     }
 }
@@ -77,6 +81,7 @@ fn put_notes_of(lists: &mut NoteLists, stage: Stage<'_>)
         → lists.new.filters.items ≡ lists.old.filters.items ++ filter_note_of_stage stage.entry }
     ensures passed { length lists.old.passed.items < vec_capacity lists.old.passed
         → lists.new.passed.items ≡ lists.old.passed.items ++ passed_of_stage stage.entry }
+    ensures knows { KnowsParts stage.entry }
     ensures room { HaveSameRoom lists.old lists.new }
 {
     match stage {
@@ -103,6 +108,7 @@ pub(crate) fn put_notes(lists: &mut NoteLists, stages: Vec<Stage<'_>>)
         → lists.new.filters.items ≡ lists.old.filters.items ++ flat_map filter_note_of_stage stages.entry.items }
     ensures passed { length lists.old.passed.items + length stages.entry.items ≤ vec_capacity lists.old.passed
         → lists.new.passed.items ≡ lists.old.passed.items ++ flat_map passed_of_stage stages.entry.items }
+    ensures knows { All KnowsParts stages.entry.items }
     ensures few { length lists.old.lookups.items + length stages.entry.items < vec_capacity lists.old.lookups
         → length lists.new.lookups.items < vec_capacity lists.new.lookups }
     ensures room { HaveSameRoom lists.old lists.new }

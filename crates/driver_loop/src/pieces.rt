@@ -39,5 +39,7 @@ pub struct CellNote {
 #[derive(Drop)]
 pub struct FilterCellNote {
     pub bell: u32,
+    /// The part of the cell in which the driver publishes; none where it only looks.
+    pub part: Option<u32>,
     pub note: FilterNote,
 }

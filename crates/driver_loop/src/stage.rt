@@ -69,6 +69,8 @@ impl<'w> Operator for Stage<'w> {
 
     ghost went = { stage_ghosts.went };
 
+    ghost counted = { stage_ghosts.counted };
+
     ghost as_made = { stage_ghosts.as_made };
 
     ghost may_learn = { stage_ghosts.may_learn };
@@ -184,6 +186,7 @@ impl<'w> Operator for Stage<'w> {
       waiting_went = λ t. (laws_of t).waiting_went;
       made_knows = λ t. (laws_of t).made_knows;
       made_went = λ t. (laws_of t).made_went;
+      made_counted = λ t. (laws_of t).made_counted;
       learns_as_made = λ t. (learns_of t).learns_as_made;
       learns_made = λ t. (learns_of t).learns_made;
       any_note = λ t. (learns_of t).any_note;

@@ -1,12 +1,14 @@
 -- What `FilterOp` may give after each of its calls.
-use Rattle.std.proofs.Common.{◌≡◌, ℕ, ◌<◌, List, [], ◌∷◌, ◌++◌, Bool, true, false, not, ◌&&◌, ◌||◌, Option, Some, None, Result, Ok, length, map, arith, refl, ap, sym, ◌∙◌, subst, append_assoc}
+use Rattle.std.proofs.Common.{◌≡◌, ℕ, ◌<◌, List, [], ◌∷◌, ◌++◌, Bool, true, false, not, ◌&&◌, ◌||◌, Option, Some, None, Result, Ok, length, map, min, ◌+◌, arith, refl, ap, sym, ◌∙◌, subst, append_assoc}
 use Rattle.std.specs.Prelude.{◌↔◌, MatchOption, filter, is_some}
 use Rattle.std.proofs.lemmas.Bool.{true≢false}
 use Rattle.std.proofs.lemmas.List.Elements.{filter-append}
 use Rattle.col_pages.specs.Pages.{TypedPage}
+use Rattle.count_laws.specs.Counts.{most_count}
 use Rattle.sql_values.specs.declared.fail.Fail.{Fail}
 use Rattle.set_once.specs.Notes.{NoteState, new_note}
 use Rattle.operator_core.specs.declared.fault.OpFault.{OpFault}
+use Rattle.operator_core.specs.Answers.{gave}
 use Rattle.operator_core.specs.Rows.{Row}
 use Rattle.operator_core.specs.Samples.{has_row}
 use Rattle.operator_core.specs.SampleLaws.{has_row-none}
@@ -99,6 +101,15 @@ pub gave_over : (r : Option TypedPage) (old new : FilterState) → IsGiven old n
     → (new.is_told && not (has_row new.held)) ≡ true
 gave_over None old new given e = subst (λ (s : FilterState). (s.is_told && not (has_row s.held)) ≡ true) (sym given.1) e
 gave_over (Some page) old new given e = absurd (still_over old.is_told old.held (has_more old.held page.rows new.held given.rows given.some) e)
+
+-- what is counted with more rows
+held_at_most : (n passed more now : ℕ) → passed ≡ min n most_count → now ≡ min (passed + more) most_count → now ≡ min (n + more) most_count
+held_at_most n passed more now was is = omega (arith, was, is)
+
+pub gave_counted : (r : Option TypedPage) (old new : FilterState) → IsGiven old new r → (n : ℕ) → old.passed ≡ min n most_count
+    → new.passed ≡ min (n + length (gave (Ok r))) most_count
+gave_counted None old new given n was = ap (λ (s : FilterState). s.passed) given.1 ∙ was ∙ ap (λ k. min k most_count) (omega arith)
+gave_counted (Some page) old new given n was = held_at_most n old.passed (length page.rows) new.passed was given.counted
 
 -- one that was just made
 pub new_filtering : (parts : List ℕ) (note : NotesState) → note ≡ new_notes parts → IsFiltering parts note None

@@ -35,6 +35,21 @@ impl FilterNote {
         self.parts[part as usize].knows()
     }
 
+    /// How many parts its cell has.
+    pub fn len(&self) -> usize
+        ensures { result ≡ length self.now.parts }
+    {
+        self.parts.len()
+    }
+
+    /// How often the part held another domain when one was published there with this note.
+    pub fn refused(&self, part: u32) -> u64
+        requires { part < length self.now.parts }
+        ensures { result ≡ (note_at self.now.parts part).refused }
+    {
+        self.parts[part as usize].refused()
+    }
+
     /// How often a look with this note found a part that has no domain.
     pub fn empties(&self) -> u64
         ensures { result ≡ self.now.empties }

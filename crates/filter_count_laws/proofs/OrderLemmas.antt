@@ -25,7 +25,7 @@ or_turned false true c = refl
 or_turned false false c = refl
 
 -- whether some value passes a test
-any_same : (p : Value → Bool) (xs ys : List Value) → SameWeights xs ys → list_any p xs ≡ list_any p ys
+pub any_same : (p : Value → Bool) (xs ys : List Value) → SameWeights xs ys → list_any p xs ≡ list_any p ys
 any_same p xs ys s =
     by_permutation same_value same_value_decides (list_any p) (λ x y zs. or_turned (p x) (p y) (list_any p zs)) (λ x zs ws e. ap (λ b. p x || b) e) xs ys
     (permutation_from_same same_value same_value_decides xs ys s)

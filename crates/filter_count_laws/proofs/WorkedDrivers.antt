@@ -2,7 +2,8 @@
 -- the first let 1, 2 and 3 through to the filter that is waited for, since nothing was known yet of the other one; those of
 -- the second took 3 and NULL when both knew their domains.
 use Rattle.std.proofs.Common.{◌≡◌, ℕ, zero, suc, List, [], ◌∷◌, ◌++◌, Bool, true, false, ◌||◌, Option, Some, None, refl, ap, sym, ◌∙◌, subst, arith, append-nil}
-use Rattle.std.specs.Prelude.{filter, is_some, pos}
+use Rattle.std.specs.Prelude.{filter, is_some, length, min, pos}
+use Rattle.count_laws.specs.Counts.{most_count}
 use Rattle.operator_core.specs.Rows.{Row}
 use Rattle.operator_core.specs.Calls.{IsLawful}
 use Rattle.operator_core.specs.Stages.{Steps}
@@ -73,25 +74,27 @@ done waits known passed =
 gives_no_more : (waits : Bool) (known : Option Domain) (Z B : List Row) → Z ≡ [] → FilterGives waits 0 known [] Z B → B ≡ []
 gives_no_more waits known Z B none (domain, is, kept, same, are, exact) = same ∙ subst (AreKept (row_passes domain 0) kept) none are
 
-steps : (waits : Bool) (known : Option Domain) (passed : ℕ) (X Y : List Row) → FilterGives waits 0 known [] X Y → (is_some known ≡ false → WentBy waits [] X Y)
+steps : (waits : Bool) (known : Option Domain) (passed : ℕ) (X Y : List Row) → passed ≡ min (length Y) most_count → FilterGives waits 0 known [] X Y → (is_some known ≡ false → WentBy waits [] X Y)
     → Steps ghosts (done waits known passed) X Y
-steps waits known passed X Y gives went = record {
+steps waits known passed X Y counted gives went = record {
   gives = λ Z B coming more.
       let came : X ≡ X ++ Z = sym (append-nil X) ∙ ap (λ (rows : List Row). X ++ rows) (sym coming) in
       let gave : Y ≡ Y ++ B = sym (append-nil Y) ∙ ap (λ (rows : List Row). Y ++ rows) (sym (gives_no_more waits known Z B coming more)) in
       subst (λ (rows : List Row). FilterGives waits 0 known [] rows (Y ++ B)) came (subst (λ (rows : List Row). FilterGives waits 0 known [] X rows) gave gives);
   fails = λ Z node kind coming. ((λ never. never), (λ never. never));
   idle = went;
+  counted = counted;
 }
 
 -- one that lets all through, and one that drops what does not pass
-let_through : (passed : ℕ) (X : List Row) → Steps ghosts (done false None passed) X X
-let_through passed X =
-    steps false None passed X X (Nothing, tt, X, refl, kept-all (row_passes Nothing 0) X, (λ w. cc w)) (λ unknown. (append-nil X, λ w. cc w))
+let_through : (passed : ℕ) (X : List Row) → passed ≡ min (length X) most_count → Steps ghosts (done false None passed) X X
+let_through passed X counted =
+    steps false None passed X X counted (Nothing, tt, X, refl, kept-all (row_passes Nothing 0) X, (λ w. cc w)) (λ unknown. (append-nil X, λ w. cc w))
 
-dropped : (waits : Bool) (domain : Domain) (passed : ℕ) (X : List Row) → Steps ghosts (done waits (Some domain) passed) X (filter (row_passes domain 0) X)
-dropped waits domain passed X =
-    steps waits (Some domain) passed X (filter (row_passes domain 0) X)
+dropped : (waits : Bool) (domain : Domain) (passed : ℕ) (X : List Row) → passed ≡ min (length (filter (row_passes domain 0) X)) most_count
+    → Steps ghosts (done waits (Some domain) passed) X (filter (row_passes domain 0) X)
+dropped waits domain passed X counted =
+    steps waits (Some domain) passed X (filter (row_passes domain 0) X) counted
     (domain, refl, filter (row_passes domain 0) X, refl, kept-filter (row_passes domain 0) X, λ w. refl) (λ unknown. cc unknown)
 
 -- what came to each driver, and what its last filter gave
@@ -121,7 +124,7 @@ module _ (drops : (s : FilterState) → Drops ghosts (record { column = s.column
     record {
       are = (filter_is_of (done false None 3) (drops (done false None 3)) hasty refl refl tt, (filter_is_of (done true (Some of_patient) 2) (drops (done true (Some of_patient) 2)) patient refl refl patient_domain, tt));
       turns = (λ told. refl, (λ told. refl, tt));
-      linked = (came k 0, let_through 3 (came k 0), (gave k 0, dropped true of_patient 2 (came k 0), refl));
+      linked = (came k 0, let_through 3 (came k 0) refl, (gave k 0, dropped true of_patient 2 (came k 0) refl, refl));
       finished = refl;
     },
     refl,
@@ -130,7 +133,7 @@ module _ (drops : (s : FilterState) → Drops ghosts (record { column = s.column
     record {
       are = (filter_is_of (done false (Some of_hasty) 1) (drops (done false (Some of_hasty) 1)) hasty refl refl hasty_domain, (filter_is_of (done true (Some of_patient) 1) (drops (done true (Some of_patient) 1)) patient refl refl patient_domain, tt));
       turns = (λ told. refl, (λ told. refl, tt));
-      linked = (gave k 1, dropped false of_hasty 1 (came k 1), (gave k 1, dropped true of_patient 1 (gave k 1), refl));
+      linked = (gave k 1, dropped false of_hasty 1 (came k 1) refl, (gave k 1, dropped true of_patient 1 (gave k 1) refl, refl));
       finished = refl;
     },
     refl,

@@ -1,5 +1,5 @@
 -- One stage: what each call leaves of what it took and gave, and what follows from it.
-use Rattle.std.proofs.Common.{◌≡◌, ◌↔◌, inl, inr, ℕ, List, [], ◌++◌, Bool, true, false, refl, sym, subst, ◌∙◌, append_assoc, append-nil}
+use Rattle.std.proofs.Common.{◌≡◌, ◌↔◌, inl, inr, ℕ, List, [], ◌++◌, length, length-append, Bool, true, false, refl, sym, subst, ◌∙◌, append_assoc, append-nil}
 use Rattle.sql_values.specs.declared.fail.Fail.{Fail}
 use Rattle.col_pages.specs.Pages.{TypedPage}
 use Rattle.operator_core.specs.declared.operator.Operator.{Ghosts}
@@ -35,6 +35,7 @@ module _ {S : Type 0} (g : Ghosts S) where
     gives = λ Z B coming gives. subst (λ (m : S). g.may_give m Z B) (sym e) gives;
     fails = λ Z node kind coming. subst (λ (m : S). g.may_still_fail s Z node kind ↔ g.may_still_fail m Z node kind) (sym e) ((λ f. f), (λ f. f));
     idle = λ knows. subst (λ (m : S). g.went m [] []) e (laws.note.made_went s);
+    counted = subst (λ (m : S). g.counted m 0) e (laws.note.made_counted s);
   }
 
   pub Steps-took : (old new : S) (X Y : List Row) (page : TypedPage) → Took g old new page → Steps g old X Y → Steps g new (X ++ page.rows) Y
@@ -42,6 +43,7 @@ module _ {S : Type 0} (g : Ghosts S) where
     gives = λ Z B coming gives. rw (t.same.as_made, append_assoc X page.rows Z) (s.gives (page.rows ++ Z) B (Coming-untold _ _ t.untold) (t.gives Z B gives));
     fails = λ Z node kind coming. rw (t.same.as_made, append_assoc X page.rows Z) (iff-trans (t.fails Z node kind) (s.fails (page.rows ++ Z) node kind (Coming-untold _ _ t.untold)));
     idle = λ knows. let k = sym t.same.knows ∙ knows in t.went k X Y (s.idle k);
+    counted = t.counted (length Y) s.counted;
   }
 
   pub Steps-gave : (old new : S) (X Y P : List Row) → Gave g old new P → Steps g old X Y → Steps g new X (Y ++ P)
@@ -51,6 +53,7 @@ module _ {S : Type 0} (g : Ghosts S) where
     fails = λ Z node kind coming. let c = subst (λ b. Coming b Z) t.told coming in
         rw t.same.as_made (iff-trans (t.fails Z node kind c) (s.fails Z node kind c));
     idle = λ knows. let k = sym t.same.knows ∙ knows in t.went k X Y (s.idle k);
+    counted = subst (λ n. g.counted new n) (sym (length-append Y P)) (t.counted (length Y) s.counted);
   }
 
   pub Steps-gave_none : (old new : S) (X Y : List Row) → Gave g old new [] → Steps g old X Y → Steps g new X Y
@@ -65,6 +68,7 @@ module _ {S : Type 0} (g : Ghosts S) where
         subst (λ (z : List Row). g.may_still_fail new z node kind ↔ g.may_still_fail (g.as_made new) (X ++ z) node kind) (sym z)
         (rw t.same.as_made (iff-trans (t.fails node kind) (s.fails [] node kind (Coming-none _))));
     idle = λ knows. let k = sym t.same.knows ∙ knows in t.went k X Y (s.idle k);
+    counted = t.counted (length Y) s.counted;
   }
 
   looked-same : (old new : S) (X Y : List Row) → Looked g old new → g.knows new ≡ g.knows old → Steps g old X Y → Steps g new X Y
@@ -74,6 +78,7 @@ module _ {S : Type 0} (g : Ghosts S) where
     fails = λ Z node kind coming. let c = subst (λ b. Coming b Z) t.told coming in
         rw (t.same e) (iff-trans (t.fails Z node kind c) (s.fails Z node kind c));
     idle = λ knows. t.went knows X Y (s.idle (sym e ∙ knows));
+    counted = t.counted (length Y) s.counted;
   }
 
   looked-learns : (old new : S) (X Y : List Row) → Looked g old new → g.knows old ≡ false → g.knows new ≡ true → Steps g old X Y → Steps g new X Y
@@ -81,6 +86,7 @@ module _ {S : Type 0} (g : Ghosts S) where
     gives = λ Z B coming gives. t.learns_gives before after X Y (s.idle before) Z B (subst (λ b. Coming b Z) t.told coming) gives;
     fails = λ Z node kind coming. t.learns_fails before after X Y (s.idle before) Z node kind (subst (λ b. Coming b Z) t.told coming);
     idle = λ knows. cc;
+    counted = t.counted (length Y) s.counted;
   }
 
   looked-at : (old new : S) (X Y : List Row) → Looked g old new → Steps g old X Y → (before after : Bool) → g.knows old ≡ before → g.knows new ≡ after → Steps g new X Y

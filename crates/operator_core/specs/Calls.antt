@@ -1,5 +1,5 @@
 -- What a call of an operator leaves, as the trait's clauses say it of a call that did not want memory.
-use Rattle.std.specs.Prelude.{◌≡◌, ◌↔◌, ℕ, List, [], ◌++◌, true, false}
+use Rattle.std.specs.Prelude.{◌≡◌, ◌↔◌, ℕ, ◌+◌, List, [], ◌++◌, length, true, false}
 use Rattle.sql_values.specs.declared.fail.Fail.{Fail}
 use Rattle.col_pages.specs.Pages.{TypedPage}
 use Rattle.operator_core.specs.declared.operator.Operator.{Ghosts}
@@ -15,7 +15,7 @@ pub record IsLawful {S : Type 0} (g : Ghosts S) : Type 0 where
       × ((node : ℕ) (kind : Fail) → g.may_still_fail s [] node kind → ⊥))
   pub full : FullLaws g.may_give g.may_still_fail g.is_full g.needs_input
   pub made_untold : (s : S) → g.is_told (g.as_made s) ≡ false
-  pub note : NoteLaws g.may_give g.needs_input g.is_told g.is_finished g.waits g.knows g.went g.as_made g.may_learn
+  pub note : NoteLaws g.may_give g.needs_input g.is_told g.is_finished g.waits g.knows g.went g.counted g.as_made g.may_learn
 
 -- what stays at each call
 pub record IsKept {S : Type 0} (g : Ghosts S) (old new : S) : Type 0 where
@@ -40,6 +40,7 @@ pub record Took {S : Type 0} (g : Ghosts S) (old new : S) (page : TypedPage) : T
   pub fails : (Z : List Row) (node : ℕ) (kind : Fail)
       → g.may_still_fail new Z node kind ↔ g.may_still_fail old (page.rows ++ Z) node kind
   pub went : g.knows old ≡ false → (T G : List Row) → g.went old T G → g.went new (T ++ page.rows) G
+  pub counted : (n : ℕ) → g.counted old n → g.counted new n
   pub same : Stays g old new
   pub takes : (p : TypedPage) → p.types ≡ page.types → g.takes old p → g.takes new p
   pub untold : g.is_told old ≡ false
@@ -50,6 +51,7 @@ pub record Gave {S : Type 0} (g : Ghosts S) (old new : S) (P : List Row) : Type 
   pub gives : (Z B : List Row) → Coming (g.is_told old) Z → g.may_give new Z B → g.may_give old Z (P ++ B)
   pub fails : (Z : List Row) (node : ℕ) (kind : Fail) → Coming (g.is_told old) Z → g.may_still_fail new Z node kind ↔ g.may_still_fail old Z node kind
   pub went : g.knows old ≡ false → (T G : List Row) → g.went old T G → g.went new T (G ++ P)
+  pub counted : (n : ℕ) → g.counted old n → g.counted new (n + length P)
   pub same : Stays g old new
   pub takes : (page : TypedPage) → g.takes old page → g.takes new page
   pub told : g.is_told new ≡ g.is_told old
@@ -59,6 +61,7 @@ pub record WasTold {S : Type 0} (g : Ghosts S) (old new : S) : Type 0 where
   pub gives : (B : List Row) → g.may_give new [] B → g.may_give old [] B
   pub fails : (node : ℕ) (kind : Fail) → g.may_still_fail new [] node kind ↔ g.may_still_fail old [] node kind
   pub went : g.knows old ≡ false → (T G : List Row) → g.went old T G → g.went new T G
+  pub counted : (n : ℕ) → g.counted old n → g.counted new n
   pub same : Stays g old new
   pub takes : (page : TypedPage) → g.takes old page → g.takes new page
   pub told : g.is_told new ≡ true
@@ -70,6 +73,7 @@ pub record Looked {S : Type 0} (g : Ghosts S) (old new : S) : Type 0 where
   pub known : g.knows old ≡ true → g.knows new ≡ true
   pub same : g.knows new ≡ g.knows old → g.as_made new ≡ g.as_made old
   pub went : g.knows new ≡ false → (T G : List Row) → g.went old T G → g.went new T G
+  pub counted : (n : ℕ) → g.counted old n → g.counted new n
   pub learns : g.knows old ≡ false → g.knows new ≡ true → g.may_learn old (g.as_made new)
   pub learns_gives : g.knows old ≡ false → g.knows new ≡ true → (T G : List Row) → g.went old T G
       → (Z B : List Row) → Coming (g.is_told old) Z → g.may_give new Z B → g.may_give (g.as_made new) (T ++ Z) (G ++ B)
@@ -84,10 +88,11 @@ pub record Looked {S : Type 0} (g : Ghosts S) (old new : S) : Type 0 where
 abbrev pub FailsNow : {S : Type 0} → Ghosts S → S → ℕ → Fail → Type 0
 FailsNow g s node kind = (Z : List Row) → Coming (g.is_told s) Z → g.may_still_fail s Z node kind
 
--- an operator that was just made: nothing was taken, given or looked for, and it was not told to finish
+-- an operator that was just made: nothing was taken, given, counted or looked for, and it was not told to finish
 pub record IsFresh {S : Type 0} (g : Ghosts S) (s : S) : Type 0 where
   pub made : g.as_made s ≡ s
   pub untold : g.is_told s ≡ false
   pub unfinished : g.is_finished s ≡ false
   pub unlooked : g.empty_looks s ≡ 0
   pub went : g.went s [] []
+  pub counted : g.counted s 0

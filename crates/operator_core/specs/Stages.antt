@@ -1,15 +1,17 @@
 -- Operators one after the other: what went into the first, what came out of the last, and who was told to finish.
-use Rattle.std.specs.Prelude.{◌≡◌, ◌↔◌, ◌⊎◌, ℕ, zero, suc, List, [], ◌∷◌, ◌++◌, Bool, true, false, map}
+use Rattle.std.specs.Prelude.{◌≡◌, ◌↔◌, ◌⊎◌, ℕ, zero, suc, List, [], ◌∷◌, ◌++◌, length, Bool, true, false, map}
 use Rattle.sql_values.specs.declared.fail.Fail.{Fail}
 use Rattle.operator_core.specs.declared.operator.Operator.{Ghosts}
 use Rattle.operator_core.specs.Rows.{Row, Coming}
 
--- a stage took the rows X and gave the rows Y: what it may still give or fail on continues what it, as it was made, may
+-- a stage took the rows X and gave the rows Y: what it may still give or fail on continues what it, as it was made, may, and
+-- it counted those that it gave
 pub record Steps {S : Type 0} (g : Ghosts S) (s : S) (X Y : List Row) : Type 0 where
   pub gives : (Z B : List Row) → Coming (g.is_told s) Z → g.may_give s Z B → g.may_give (g.as_made s) (X ++ Z) (Y ++ B)
   pub fails : (Z : List Row) (node : ℕ) (kind : Fail) → Coming (g.is_told s) Z
       → g.may_still_fail s Z node kind ↔ g.may_still_fail (g.as_made s) (X ++ Z) node kind
   pub idle : g.knows s ≡ false → g.went s X Y
+  pub counted : g.counted s (length Y)
 
 -- the stages took X and gave Y, and each took what the one before it gave
 abbrev pub Linked : {S : Type 0} → Ghosts S → List S → List Row → List Row → Type 0

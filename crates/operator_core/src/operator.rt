@@ -1,4 +1,4 @@
-ghost use Rattle.std.specs.Prelude.{◌≡◌, ℕ, ◌≤◌, List, [], ◌++◌, ◌↔◌, Bool, true, false, None, IfOk, IsOk, MatchOption};
+ghost use Rattle.std.specs.Prelude.{◌≡◌, ℕ, ◌+◌, ◌≤◌, List, [], ◌++◌, length, ◌↔◌, Bool, true, false, None, IfOk, IsOk, MatchOption};
 ghost use Rattle.sql_values.specs.declared.fail.Fail.{Fail as Kind};
 ghost use Rattle.col_pages.specs.Pages.{TypedPage};
 ghost use Rattle.count_laws.specs.Counts.{Rose};
@@ -62,6 +62,9 @@ pub trait Operator {
     // While its note knew nothing it took these rows and gave those.
     ghost went: { Self → List Row → List Row → Type 0 } = { λ _ _ _. Unit {0} };
 
+    // It counted so many rows that it gave; one that does not count says nothing.
+    ghost counted: { Self → ℕ → Type 0 } = { λ _ _. Unit {0} };
+
     // It as it was made, with what its note knows.
     ghost as_made: { Self → Self };
 
@@ -85,6 +88,7 @@ pub trait Operator {
             → (X : List Row) → may_still_fail self.old (page.rows ++ X) node kind }
         ensures went { NotMemory result → knows self.old ≡ false → (T G : List Row)
             → went self.old T G → went self.new (T ++ page.rows) G }
+        ensures counted { NotMemory result → (n : ℕ) → counted self.old n → counted self.new n }
         ensures as_made { as_made self.new ≡ as_made self.old }
         ensures told { is_told self.new ≡ is_told self.old }
         ensures knows { knows self.new ≡ knows self.old }
@@ -112,6 +116,8 @@ pub trait Operator {
         ensures size { IsFit result (page_size self.old) }
         ensures went { NotMemory result → knows self.old ≡ false → (T G : List Row)
             → went self.old T G → went self.new T (G ++ gave result) }
+        ensures counted { NotMemory result → (n : ℕ) → counted self.old n
+            → counted self.new (n + length (gave result)) }
         ensures as_made { as_made self.new ≡ as_made self.old }
         ensures told { is_told self.new ≡ is_told self.old }
         ensures ended { is_finished self.old ≡ true → is_finished self.new ≡ true }
@@ -132,6 +138,7 @@ pub trait Operator {
         ensures again { is_told self.old ≡ true → self.new ≡ self.old }
         ensures went { knows self.old ≡ false → (T G : List Row)
             → went self.old T G → went self.new T G }
+        ensures counted { (n : ℕ) → counted self.old n → counted self.new n }
         ensures as_made { as_made self.new ≡ as_made self.old }
         ensures told { is_told self.new ≡ true }
         ensures knows { knows self.new ≡ knows self.old }
@@ -169,6 +176,7 @@ pub trait Operator {
             → as_made self.new ≡ as_made self.old }
         ensures went { IsOk result → knows self.new ≡ false → (T G : List Row)
             → went self.old T G → went self.new T G }
+        ensures counted { IsOk result → (n : ℕ) → counted self.old n → counted self.new n }
         ensures learns { IsOk result → knows self.old ≡ false → knows self.new ≡ true
             → may_learn self.old (as_made self.new) }
         ensures learns_gives { IsOk result → knows self.old ≡ false → knows self.new ≡ true
@@ -222,7 +230,7 @@ pub trait Operator {
 
     ghost made_again: { (s : Self) → as_made (as_made s) ≡ as_made s };
 
-    // What holds of its note, and of what it took and gave while the note knew nothing.
-    ghost note: { NoteLaws may_give needs_input is_told is_finished waits knows went as_made
+    // What holds of its note, of what it took and gave while the note knew nothing, and of what it counted.
+    ghost note: { NoteLaws may_give needs_input is_told is_finished waits knows went counted as_made
         may_learn };
 }

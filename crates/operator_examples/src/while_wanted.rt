@@ -166,6 +166,7 @@ impl Operator for WhileWanted {
       waiting_went = λ s T G waits went. Prim.cc;
       made_knows = λ s. refl;
       made_went = λ s. refl;
+      made_counted = λ s. tt;
       learns_as_made = λ s m. ((λ e. e), (λ e. e));
       learns_made = λ s m e. Prim.rw e.1 (refl, refl, refl);
       any_note = λ s m T G Z knows went learns coming. Prim.rw learns.1

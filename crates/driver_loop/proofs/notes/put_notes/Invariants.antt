@@ -1,13 +1,14 @@
-use Rattle.std.proofs.Common.{◌≡◌, ◌+◌, ◌<◌, ◌≤◌, ◌++◌, length, flat_map}
+use Rattle.std.proofs.Common.{◌≡◌, ◌+◌, ◌<◌, ◌≤◌, ◌++◌, All, length, flat_map}
 use Rattle.std.specs.Vec.{vec_capacity}
 use Rattle.std.specs.Vec.Iter.{into_iter_items}
-use Rattle.driver_loop.specs.Turns.{HaveSameRoom, filter_note_of_stage, note_of_stage, passed_of_stage}
+use Rattle.driver_loop.specs.Turns.{HaveSameRoom, KnowsParts, filter_note_of_stage, note_of_stage, passed_of_stage}
 use Rattle.driver_loop.proofs.notes.put_notes.Given as goal
 
 -- what was put so far, with what the stages that are left have, is all of it, and there is room for these
 abbrev pub invariant-loop-stage : goal.invariant-loop-stage
 invariant-loop-stage l = record {
   same : HaveSameRoom l.fn.lists l.lists;
+  knows : All KnowsParts (into_iter_items l.stage-iterator) → All KnowsParts l.fn.stages.items;
   lookups_room : length l.fn.lists.lookups.items + length l.fn.stages.items < vec_capacity l.fn.lists.lookups
       → length l.lists.lookups.items + length (into_iter_items l.stage-iterator) < vec_capacity l.lists.lookups;
   lookups : length l.fn.lists.lookups.items + length l.fn.stages.items < vec_capacity l.fn.lists.lookups

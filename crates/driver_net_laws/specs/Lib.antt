@@ -1,4 +1,5 @@
 pub mod Cells
+pub mod FilterCells
 pub mod Stages
 pub mod Made
 pub mod Types

@@ -1,5 +1,5 @@
 -- The drivers of a layout: each has the parts of its pipe in its task.
-use Rattle.std.specs.Prelude.{◌≡◌, ℕ, ◌-◌, ◌<◌, List, [], ◌∷◌, drop, length, map, option_map, slice_get, take, Some, unwrap_or}
+use Rattle.std.specs.Prelude.{◌≡◌, ℕ, ◌+◌, ◌-◌, ◌<◌, List, [], ◌∷◌, drop, get_or, length, map, option_map, slice_get, take, Some, unwrap_or}
 use Rattle.std.specs.List.{range_with_len}
 use Rattle.sql_values.specs.declared.types.SqlType.{SqlType}
 use Rattle.sql_values.specs.declared.value.Value.{Value}
@@ -12,14 +12,19 @@ use Rattle.driver_ends.specs.Fetching.{FetchingState}
 use Rattle.driver_ends.specs.Outlets.{OutletState}
 use Rattle.driver_ends.specs.Sources.{LocalState, RemoteState}
 use Rattle.driver_ends.specs.Targets.{TargetState}
+use Rattle.dyn_filter.specs.Cells.{IsNoteOf}
+use Rattle.dyn_filter.specs.Filters.{FilterState}
+use Rattle.driver_loop.specs.BuildFilters.{BuildFilterState}
 use Rattle.driver_loop.specs.Builds.{BuildState}
 use Rattle.driver_loop.specs.Drivers.{DriverState}
 use Rattle.driver_loop.specs.RowsSources.{RowsState}
 use Rattle.driver_loop.specs.Sources.{Source, Scan, Rows, Local, Remote, Fetch}
 use Rattle.driver_loop.specs.declared.stage.Stage.{Stage}
+use Rattle.driver_loop.specs.declared.stage.Stage.TheVariants.{Dynamic}
 use Rattle.driver_loop.specs.declared.target.Target.{Target}
 use Rattle.driver_loop.specs.declared.target.Target.TheVariants.{Result, Build, Put, Deal}
 use Rattle.driver_loop.specs.contracts.stage.StageOperator.TheImpl.{ghosts}
+use Rattle.plan_docs.specs.declared.node.DynamicFilter.{DynamicFilter}
 use Rattle.plan_trees.specs.Allowed.{table_rows}
 use Rattle.plan_trees.specs.TreeForms.{pair_view}
 use Rattle.plan_trees.specs.declared.tree.Pair.{Pair}
@@ -32,19 +37,25 @@ use Rattle.source_laws.specs.Edges.{output_of}
 use Rattle.source_laws.specs.Scans.{IsScanOf}
 use Rattle.driver_net_laws.specs.Cells.{Names}
 use Rattle.driver_net_laws.specs.Stages.{IsProbeOf, IsStageOf}
+use Rattle.plan_layout.specs.declared.filters.PlacedFilter.{PlacedFilter}
+use Rattle.plan_layout.specs.Filters.{filters_built, scan_filters}
 use Rattle.plan_layout.specs.Layouts.{drivers_in}
-use Rattle.plan_layout.specs.Pipes.{PipeForm, SourceForm, StepForm, TargetForm, driver_number, table, rows, sides, fragment, edge, filter, project, probe, aggregate, partial, final, sort, top_n, limit, result, cell, side, readers, takers}
+use Rattle.plan_layout.specs.Pipes.{BuildForm, PipeForm, SourceForm, StepForm, TargetForm, driver_number, table, rows, sides, fragment, edge, filter, project, probe, aggregate, partial, final, sort, top_n, limit, result, cell, side, readers, takers}
 use Rattle.driver_net_laws.specs.Types.{PipesAreTyped, PipeTypes, types_after}
 
--- What drivers share, by the place of the pipe that has it: the claims of the table that it reads; and in each task the
--- edge into which others put for it, the edge from what fetches for it to its drivers, and the number of the bell of the
--- cell in which it publishes.
+-- What drivers share, by the place of the pipe that has it: the claims of the table that it reads; in each task the edge
+-- into which others put for it, the edge from what fetches for it to its drivers, and the number of the bell of the cell
+-- in which it publishes; and for each dynamic filter of the join whose right side it builds, by the filter's place there,
+-- the number of the bell of the filter's cell. The cells have names, and those of filters a name for each part, by the
+-- numbers of their bells.
 pub record Links : Type 0 where
   pub claims : ℕ → ClaimsId
   pub gathers : ℕ → ℕ → EdgeId
   pub spreads : ℕ → ℕ → EdgeId
   pub cells : ℕ → ℕ → ℕ
   pub names : Names
+  pub filters : ℕ → ℕ → ℕ
+  pub parts : ℕ → List ℕ
 
 -- what is fixed in a run: its pipes, the rows of its tables, how many rows of a table are claimed at a time, the types
 -- of each pipe, and what its drivers share
@@ -123,14 +134,49 @@ front_stages steps stages = take (length stages - length steps) stages
 abbrev pub step_stages : List StepForm → List Stage → List Stage
 step_stages steps stages = drop (length stages - length steps) stages
 
--- the target builds what is found by these columns, in the cell of this bell
-pub record IsBuildFor (names : Names) (bell : ℕ) (keys : List ℕ) (types : List SqlType) (target : Target) : Type 0 where
+-- the stage, as it was made, drops rows of these types by a dynamic filter, whose cell it looks into
+pub record IsFilterFor (net : NetForm) (types : List SqlType) (f : PlacedFilter) (made : Stage) : Type 0 where
+  pub op : FilterState
+  pub is : made ≡ Dynamic op types
+  pub column : op.column ≡ f.filter.column
+  pub waits : op.waits ≡ f.filter.wait
+  pub bell : op.bell ≡ net.links.filters f.pipe f.place
+  pub parts : op.parts ≡ net.links.parts op.bell
+
+-- a stage for each of these filters, in their order
+abbrev pub AreInFront : NetForm → List SqlType → List PlacedFilter → List Stage → Type 0
+AreInFront net types [] stages = stages ≡ []
+AreInFront net types (f ∷ fs) [] = ⊥
+AreInFront net types (f ∷ fs) (s ∷ stages) = IsFilterFor net types f (ghosts.as_made s) × AreInFront net types fs stages
+
+abbrev pub right_columns : List Pair → List ℕ
+right_columns on = map (λ (pair : Pair). pair.right) on
+
+-- Of the filter at a place among those of a join: the target keeps the values in the right column of its pair, and publishes
+-- their domain in the part of its task.
+pub record IsPartFor (net : NetForm) (at task : ℕ) (on : List Pair) (place : ℕ) (f : DynamicFilter) (own : BuildFilterState) : Type 0 where
+  pub pair : f.key < length on
+  pub column : own.column ≡ get_or (right_columns on) f.key 0
+  pub part : own.part ≡ task
+  pub bell : own.bell ≡ net.links.filters at place
+  pub cell : IsNoteOf (net.links.parts own.bell) own.note
+
+-- so it is of each of these, of which the first is at the place
+abbrev pub ArePartsFor : NetForm → ℕ → ℕ → List Pair → ℕ → List DynamicFilter → List BuildFilterState → Type 0
+ArePartsFor net at task on place [] [] = Unit {0}
+ArePartsFor net at task on place [] (own ∷ owns) = ⊥
+ArePartsFor net at task on place (f ∷ fs) [] = ⊥
+ArePartsFor net at task on place (f ∷ fs) (own ∷ owns) = IsPartFor net at task on place f own × ArePartsFor net at task on (place + 1) fs owns
+
+-- the target builds the right side of a join, of rows of these types, in the cell of its pipe and task
+pub record IsBuildFor (net : NetForm) (at task : ℕ) (side : BuildForm) (types : List SqlType) (target : Target) : Type 0 where
   pub build : BuildState
   pub is : target ≡ Build build
-  pub rings : build.bell ≡ bell
-  pub cell : build.note.cell ≡ names bell
-  pub by : build.source.keys ≡ keys
+  pub rings : build.bell ≡ net.links.cells at task
+  pub cell : build.note.cell ≡ net.links.names (net.links.cells at task)
+  pub by : build.source.keys ≡ right_columns side.on
   pub of : build.source.types ≡ types
+  pub filters : ArePartsFor net at task side.on 0 side.filters build.filters
 
 -- the target has an outlet to each of these edges, and spreads its rows over them as an output does
 pub record IsPutFor (output : plan.Output) (edges : List EdgeId) (target : Target) : Type 0 where
@@ -158,14 +204,10 @@ tasks_at layout at = unwrap_or (option_map (λ (pipe : PipeForm). pipe.tasks) (s
 abbrev pub edges_to : NetForm → ℕ → List EdgeId
 edges_to net at = map (net.links.gathers at) (range_with_len 0 (tasks_at net.layout at))
 
-abbrev pub right_columns : List Pair → List ℕ
-right_columns on = map (λ (pair : Pair). pair.right) on
-
 -- the target of a driver of the pipe at a place, in a task
 abbrev pub IsTargetFor : NetForm → ℕ → ℕ → TargetForm → Target → Type 0
 IsTargetFor net at task result target = IsResultTarget target
-IsTargetFor net at task (cell build) target =
-    IsBuildFor net.links.names (net.links.cells at task) (right_columns build.on) (net.types at).given target
+IsTargetFor net at task (cell build) target = IsBuildFor net at task build (net.types at).given target
 IsTargetFor net at task (side pipe) target = IsPutFor plan.single (net.links.gathers pipe task ∷ []) target
 IsTargetFor net at task (readers output pipe) target = IsPutFor (output_view output) (edges_to net pipe) target
 IsTargetFor net at task (takers pipe) target = IsDealFor (net.links.spreads pipe task) target
@@ -174,7 +216,8 @@ IsTargetFor net at task (takers pipe) target = IsDealFor (net.links.spreads pipe
 pub record IsDriverOf (net : NetForm) (at : ℕ) (pipe : PipeForm) (task lane : ℕ) (d : DriverState) : Type 0 where
   pub number : d.number ≡ driver_number pipe task lane
   pub source : IsSourceFor net at task pipe.source d.source
-  pub stages : AreStagesFor net task (net.types at).halved pipe.steps (net.types at).taken d.stages
+  pub front : AreInFront net (net.types at).taken (scan_filters net.layout pipe) (front_stages pipe.steps d.stages)
+  pub stages : AreStagesFor net task (net.types at).halved pipe.steps (net.types at).taken (step_stages pipe.steps d.stages)
   pub target : IsTargetFor net at task pipe.target d.target
 
 -- the driver of a number is that of its pipe, task and lane
@@ -183,9 +226,15 @@ pub record HasDriver (net : NetForm) (drivers : List DriverState) (at : ℕ) (pi
   pub there : slice_get drivers (driver_number pipe task lane) ≡ Some driver
   pub is : IsDriverOf net at pipe task lane driver
 
+-- the cell of each dynamic filter of a join has a part for each task
+abbrev pub HaveParts : NetForm → Type 0
+HaveParts net = (at : ℕ) (pipe : PipeForm) → slice_get net.layout at ≡ Some pipe → (place : ℕ) → place < length (filters_built pipe.target)
+    → length (net.links.parts (net.links.filters at place)) ≡ pipe.tasks
+
 -- these are all drivers of a layout, each at its number
 pub record AreDriversOf (net : NetForm) (drivers : List DriverState) : Type 0 where
   pub typed : PipesAreTyped net.layout net.types
+  pub parts : HaveParts net
   pub count : length drivers ≡ drivers_in net.layout
   pub each : (at : ℕ) (pipe : PipeForm) → slice_get net.layout at ≡ Some pipe
       → (task lane : ℕ) → task < pipe.tasks → lane < pipe.drivers → HasDriver net drivers at pipe task lane

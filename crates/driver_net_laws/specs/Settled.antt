@@ -1,5 +1,5 @@
 -- What is known of the drivers of a layout once all were taken apart and the seats of what they shared came back.
-use Rattle.std.specs.Prelude.{◌≡◌, ℕ, ◌<◌, List, [], ◌∷◌, All, ◌==◌, true, Option, Some, None, flat_map, option_map, slice_get, unwrap_or, if◌then◌else◌}
+use Rattle.std.specs.Prelude.{◌≡◌, ℕ, ◌<◌, List, [], ◌∷◌, All, ◌==◌, true, Option, Some, None, flat_map, map, option_map, slice_get, unwrap_or, if◌then◌else◌}
 use Rattle.bag_laws.specs.Gather.{gather}
 use Rattle.split_source.specs.Gathered.{AreDistinct, AreWhole}
 use Rattle.split_source.specs.Seats.{AreAllOf, SeatState}
@@ -7,10 +7,12 @@ use Rattle.output_buffer.specs.Seats.{GatherPutState, GatherTakeState, SpreadPut
 use Rattle.driver_loop.specs.Drivers.{DriverState, IsBuilt, IsDriver, IsOver, IsWhole}
 use Rattle.driver_loop.specs.Ends.{IsBegun, IsDrained, claim_of, has_ended}
 use Rattle.driver_loop.specs.Seats.{KeepsEnds, deal_of, gather_take_of, puts_of, spread_take_of}
-use Rattle.driver_loop.specs.Turns.{note_of_stage, note_of_target}
+use Rattle.driver_loop.specs.Turns.{KnowsParts, filter_note_of_stage, filters_of, note_of_build_filter, note_of_stage, note_of_target}
 use Rattle.driver_loop.specs.declared.pieces.CellNote.{CellNote}
+use Rattle.driver_loop.specs.declared.pieces.FilterCellNote.{FilterCellNote}
 use Rattle.source_laws.specs.Edges.{GatherCameBack, SpreadCameBack}
 use Rattle.driver_net_laws.specs.Cells.{AllLearnedFrom}
+use Rattle.driver_net_laws.specs.FilterCells.{AllPartsLearnedFrom}
 use Rattle.plan_layout.specs.Pipes.{PipeForm, SourceForm, TargetForm, driver_number, table, rows, sides, fragment, edge, result, cell, side, readers, takers}
 use Rattle.driver_net_laws.specs.Nets.{NetForm}
 
@@ -109,6 +111,7 @@ pub record WasTakenApart (d : DriverState) : Type 0 where
   pub over : d.is_finished ≡ true → IsOver d
   pub built : IsBuilt d
   pub ends : KeepsEnds d.target
+  pub knows : All KnowsParts d.stages
 
 -- the notes of all drivers that look into cells, and those of all that publish
 abbrev pub looks_of : List DriverState → List CellNote
@@ -117,7 +120,15 @@ looks_of drivers = flat_map (λ (d : DriverState). flat_map note_of_stage d.stag
 abbrev pub builds_of : List DriverState → List CellNote
 builds_of drivers = flat_map (λ (d : DriverState). note_of_target d.target) drivers
 
+-- the notes of dynamic filters: of all stages, which look into the cells, and of all targets, which publish
+abbrev pub filter_looks_of : List DriverState → List FilterCellNote
+filter_looks_of drivers = flat_map (λ (d : DriverState). flat_map filter_note_of_stage d.stages) drivers
+
+abbrev pub filter_builds_of : List DriverState → List FilterCellNote
+filter_builds_of drivers = flat_map (λ (d : DriverState). map note_of_build_filter (filters_of d.target)) drivers
+
 pub record AreSettled (net : NetForm) (drivers : List DriverState) : Type 0 where
   pub each : All WasTakenApart drivers
   pub back : (at : ℕ) (pipe : PipeForm) → slice_get net.layout at ≡ Some pipe → SourceIsBack net drivers at pipe pipe.source
   pub follow : AllLearnedFrom (looks_of drivers) (builds_of drivers)
+  pub parts : AllPartsLearnedFrom (filter_looks_of drivers) (filter_builds_of drivers)

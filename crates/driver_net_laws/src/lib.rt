@@ -2,6 +2,7 @@
 //! what is known of all of them once they were taken apart. Definitions and laws: no code and no thread.
 //!
 //! - `specs/Cells.antt`: the cells that drivers look into and publish in, by the numbers of their bells
+//! - `specs/FilterCells.antt`: so it is of the parts of the cells of dynamic filters
 //! - `specs/Stages.antt`, `specs/Made.antt`: the stages of a driver, each made for its node, and what the notes of its probes
 //!   know
 //! - `drivers`: such stages, wherever they stand, are a lane of the pipe (`IsLane` of `pipe_laws`), and what they gave has the

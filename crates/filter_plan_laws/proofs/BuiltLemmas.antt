@@ -11,7 +11,6 @@ use Rattle.plan_docs.specs.declared.plan.Output.{Output}
 use Rattle.plan_docs.specs.Nodes.{NodeForm}
 use Rattle.plan_docs.specs.Nodes as node
 use Rattle.plan_docs.specs.Plans.{FragmentForm, PlanForm}
-use Rattle.plan_run_laws.specs.RunPlans.{RunPlan}
 use Rattle.plan_spreads.specs.Runs.{plan_run}
 use Rattle.plan_spreads.proofs.EachLemmas.{Each, each_at, each_join}
 use Rattle.plan_layout.specs.declared.filters.PlacedFilter.{PlacedFilter}
@@ -30,15 +29,13 @@ use Rattle.filter_plan_laws.specs.BuiltFilters.{AreOfPlan, BuiltFiltersReach, Jo
 use Rattle.filter_plan_laws.specs.RunJoins.{EachJoin, JoinClaim, ReachesIn}
 use Rattle.filter_plan_laws.proofs.FilterLemmas.{plan_filters}
 
-module _ (run : RunPlan) where
+-- what is said of each join of a plan is said of what pipes build
+module _ (B : BuildForm → Type 0) where
   abbrev Reach : NodeForm → Type 0
-  Reach n = EachJoin (λ id kind on filters left. All (ReachesIn run id (map pair_view on)) filters) n
-
-  abbrev BuildReaches : BuildForm → Type 0
-  BuildReaches build = All (ReachesIn run build.join (map pair_view build.on)) build.filters
+  Reach n = EachJoin (λ id kind on filters left. B (record { join = id; on = on; filters = filters })) n
 
   abbrev PipeReaches : PipeForm → Type 0
-  PipeReaches pipe = (build : BuildForm) → pipe.target ≡ cell build → BuildReaches build
+  PipeReaches pipe = (build : BuildForm) → pipe.target ≡ cell build → B build
 
   sides_reach : (s : Site) (own next : ℕ) (n : NodeForm) → Reach n → Each PipeReaches (sides_of s own next n)
   sides_reach s own next (node.scan id place columns types) r = tt
@@ -50,7 +47,7 @@ module _ (run : RunPlan) where
       let at = next + side_count left in
       let build : BuildForm = record { join = id; on = on; filters = filters } in
       each_join PipeReaches (sides_of s own next left) (pipes_of s at (built_for id on filters) right) (sides_reach s own next left r.1)
-      ((λ other is. let same : build ≡ other = cc is in subst BuildReaches same r.0), sides_reach s at (at + 1) right r.2)
+      ((λ other is. let same : build ≡ other = cc is in subst B same r.0), sides_reach s at (at + 1) right r.2)
   sides_reach s own next (node.aggregate id step keys calls input) r = sides_reach s own next input r
   sides_reach s own next (node.aggregate_final id input) r = sides_reach s own next input r
   sides_reach s own next (node.sort id keys input) r = sides_reach s own next input r
@@ -88,10 +85,14 @@ module _ (run : RunPlan) where
       (each_join PipeReaches done (fragment_pipes s done target f.root) each
       (block_reaches s done target f.root (root_builds_none (number == 0) f.output (reader_of number done)) (All-head (λ (g : FragmentForm). Reach g.root) f fs r)))
 
+  pub builds_of_joins : (p : Parallelism) (plan : PlanForm) → All (λ (f : FragmentForm). Reach f.root) plan.fragments
+      → (at : ℕ) (build : BuildForm) → Builds (layout_of p plan) at build → B build
+  builds_of_joins p plan all at build b = each_at PipeReaches (layout_of p plan) at b.pipe b.is (all_reach p plan.fragments plan.fragments 0 [] all tt) build b.gives
+
 pub plan_builds_reach : (plan : PlanForm) → IsConsistent plan → (p : Parallelism) (tasks : ℕ) → BuiltFiltersReach (plan_run tasks plan) (layout_of p plan)
 plan_builds_reach plan c p tasks at build b =
     let run = plan_run tasks plan in
-    each_at (PipeReaches run) (layout_of p plan) at b.pipe b.is (all_reach run p plan.fragments plan.fragments 0 [] (plan_filters plan c tasks) tt) build b.gives
+    builds_of_joins (λ (built : BuildForm). All (ReachesIn run built.join (map pair_view built.on)) built.filters) p plan (plan_filters plan c tasks) at build b
 
 -- what is said of a pipe without its numbers
 record Real (layout : List PipeForm) (at : ℕ) (known : PipeForm) : Type 0 where

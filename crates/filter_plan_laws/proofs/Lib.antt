@@ -11,3 +11,5 @@ pub mod PairLemmas
 pub mod FilterLemmas
 pub mod BuiltLemmas
 pub mod ApartLemmas
+pub mod FilterCountLemmas
+pub mod FilterIdLemmas

@@ -8,7 +8,7 @@ use Rattle.plan_grammar.specs.Json.{entries_under}
 use Rattle.plan_grammar.specs.Spots.{Spot, places_of}
 use Rattle.plan_checks.specs.Documents.{at, first_malformed, first_refused, first_unjoined, refusal, refusal_of}
 use Rattle.plan_checks.specs.Limits.{first_beyond}
-use Rattle.plan_checks.specs.Names.{first_misnamed}
+use Rattle.plan_checks.specs.Names.{first_misnamed, numbers_node}
 use Rattle.plan_checks.specs.Shapes.{is_misshapen}
 use Rattle.plan_docs.specs.Documents.{fragment_of}
 use Rattle.plan_docs.specs.Plans.{PlanForm}
@@ -21,14 +21,14 @@ use Rattle.filter_plan_laws.specs.JoinIds.{JoinsApart}
 use Rattle.filter_plan_laws.proofs.CountLemmas.{AreNamedOnce, joins_apart, scans_apart}
 use Rattle.filter_plan_laws.proofs.DocumentCountLemmas.{document_given}
 use Rattle.filter_plan_laws.proofs.ReadCountLemmas.{run_held, ids_among}
-use Rattle.filter_plan_laws.proofs.SpotLemmas.{given_once}
+use Rattle.filter_plan_laws.proofs.SpotLemmas.{fresh_nodes, given_once}
 
 unmapped : {A B : Type 0} (f : A → B) (o : Option A) → option_map f o ≡ None → o ≡ None
 unmapped f None h = refl
 unmapped f (Some x) h = absurd cc
 
 -- no name of a document is wrong that passes the checks
-named : (d : Data) → refusal_of d ≡ None → first_misnamed d [] (places_of d) ≡ None
+pub named : (d : Data) → refusal_of d ≡ None → first_misnamed d [] (places_of d) ≡ None
 named d e =
     let all = places_of d in
     let shapes = at 2 (find is_misshapen all) in
@@ -39,7 +39,7 @@ named d e =
     unmapped (λ (s : Spot). (4, s)) (first_misnamed d [] all) (second_option limits names later)
 
 document_once : (n : ℕ) (d : Data) → refusal_of d ≡ None → ids_among n (map (fragment_of d) (entries_under key.Fragments d)) ≤ 1
-document_once n d e = omega (arith, document_given n d (places_of d) (document_checked d e), given_once n d [] (places_of d) (named d e))
+document_once n d e = omega (arith, document_given n d (places_of d) (document_checked d e), given_once (numbers_node n) (fresh_nodes n) d [] (places_of d) (named d e))
 
 pub plan_once : (n : ℕ) (plan : PlanForm) → IsConsistent plan → ids_among n plan.fragments ≤ 1
 plan_once n plan c =

@@ -1,5 +1,5 @@
--- How many places of a document are the id of a node: none is given twice where no name is wrong, and what stands under a
--- key of an object has no more than the object.
+-- How many places of a document pass a test, as that they are the id of this node, or of this filter: none is given twice where
+-- no name is wrong, and what stands under a key of an object has no more than the object.
 use Rattle.std.proofs.Common.{◌≡◌, ℕ, ◌+◌, ◌≤◌, zero, suc, List, [], ◌∷◌, ◌++◌, Bool, true, false, Option, Some, None, option_map, unwrap_or, refl, ap, ◌∙◌, subst, arith}
 use Rattle.std.specs.Prelude.{slice_get, ◌&&◌, ◌||◌, ◌==◌}
 use Rattle.std.specs.List.{flat_map, list_any}
@@ -18,7 +18,7 @@ use Rattle.plan_grammar.specs.Json.{number_of, under}
 use Rattle.plan_grammar.specs.Spots.{Spot, inner_of, part_spots, spot, spots}
 use Rattle.plan_grammar.specs.Tables.{part}
 use Rattle.plan_grammar.proofs.WalkLemmas.{spots_are}
-use Rattle.plan_checks.specs.Names.{first_misnamed, is_misnamed, is_node_id, misnames, numbers_node}
+use Rattle.plan_checks.specs.Names.{first_misnamed, is_filter_id, is_misnamed, is_node_id, misnames, numbers_filter, numbers_node}
 use Rattle.plan_spreads.proofs.EachLemmas.{first_false, rest_none}
 use Rattle.plan_link_laws.proofs.CountLemmas.{one_if}
 use Rattle.plan_link_laws.proofs.WalkLemmas.{no_array}
@@ -35,53 +35,70 @@ one_false : (b : Bool) → (b ≡ true → ⊥) → one_if b ≡ 0
 one_false true h = absurd (h refl)
 one_false false h = refl
 
+-- where no name is wrong, a place that passes is the first one that does
+abbrev pub Fresh : (Spot → Bool) → Type 0
+Fresh test = (document : Data) (before : List Spot) (s : Spot) → is_misnamed document before s ≡ false → test s ≡ true → list_any test before ≡ false
+
 module _ (n : ℕ) where
+  -- an id that is not wrong is new
+  node_is_new : (k : Kind) (document : Data) (before : List Spot) (path : List Step) (owner value : Data) → misnames k document before path owner value ≡ false
+      → is_node_id k && (number_of value == n) ≡ true → list_any (numbers_node n) before ≡ false
+  node_is_new kind.NodeId document before path owner value h is =
+      subst (λ (m : ℕ). list_any (numbers_node m) before ≡ false) (eqb-true (number_of value) n is) h
+  node_is_new k document before path owner value h is = absurd cc
+
+  filter_is_new : (k : Kind) (document : Data) (before : List Spot) (path : List Step) (owner value : Data) → misnames k document before path owner value ≡ false
+      → is_filter_id k && (number_of value == n) ≡ true → list_any (numbers_filter n) before ≡ false
+  filter_is_new kind.FilterId document before path owner value h is =
+      subst (λ (m : ℕ). list_any (numbers_filter m) before ≡ false) (eqb-true (number_of value) n is) h
+  filter_is_new k document before path owner value h is = absurd cc
+
+  pub fresh_nodes : Fresh (numbers_node n)
+  fresh_nodes document before s h is = node_is_new s.kind document before s.path s.owner s.value h is
+
+  pub fresh_filters : Fresh (numbers_filter n)
+  fresh_filters document before s h is = filter_is_new s.kind document before s.path s.owner s.value h is
+
+module _ (test : Spot → Bool) where
   abbrev pub ids_of : List Spot → ℕ
   ids_of [] = 0
-  ids_of (s ∷ all) = one_if (numbers_node n s) + ids_of all
+  ids_of (s ∷ all) = one_if (test s) + ids_of all
 
   pub ids_join : (xs ys : List Spot) → ids_of (xs ++ ys) ≡ ids_of xs + ids_of ys
   ids_join [] ys = omega arith
   ids_join (x ∷ xs) ys = omega (arith, ids_join xs ys)
 
-  -- an id that is not wrong is new
-  is_new : (k : Kind) (document : Data) (before : List Spot) (path : List Step) (owner value : Data) → misnames k document before path owner value ≡ false
-      → is_node_id k && (number_of value == n) ≡ true → list_any (numbers_node n) before ≡ false
-  is_new kind.NodeId document before path owner value h is =
-      subst (λ (m : ℕ). list_any (numbers_node m) before ≡ false) (eqb-true (number_of value) n is) h
-  is_new k document before path owner value h is = absurd cc
-
-  module _ (document : Data) where
+  module _ (fresh : Fresh test) (document : Data) where
     here_named : (before : List Spot) (s : Spot) (rest : List Spot) → first_misnamed document before (s ∷ rest) ≡ None → is_misnamed document before s ≡ false
     here_named before s rest e = first_false (is_misnamed document before s) s (first_misnamed document (before ++ s ∷ []) rest) e
 
     later_named : (before : List Spot) (s : Spot) (rest : List Spot) → first_misnamed document before (s ∷ rest) ≡ None → first_misnamed document (before ++ s ∷ []) rest ≡ None
     later_named before s rest e = rest_none (is_misnamed document before s) s (first_misnamed document (before ++ s ∷ []) rest) e
 
-    still_given : (before : List Spot) (s : Spot) → list_any (numbers_node n) before ≡ true → list_any (numbers_node n) (before ++ s ∷ []) ≡ true
+    still_given : (before : List Spot) (s : Spot) → list_any test before ≡ true → list_any test (before ++ s ∷ []) ≡ true
     still_given before s h =
-        list_any-append (numbers_node n) before (s ∷ []) ∙ or_first (list_any (numbers_node n) before) (list_any (numbers_node n) (s ∷ [])) h
+        list_any-append test before (s ∷ []) ∙ or_first (list_any test before) (list_any test (s ∷ [])) h
 
-    now_given : (before : List Spot) (s : Spot) → numbers_node n s ≡ true → list_any (numbers_node n) (before ++ s ∷ []) ≡ true
+    now_given : (before : List Spot) (s : Spot) → test s ≡ true → list_any test (before ++ s ∷ []) ≡ true
     now_given before s h =
-        list_any-append (numbers_node n) before (s ∷ [])
-        ∙ or_second (list_any (numbers_node n) before) (list_any (numbers_node n) (s ∷ [])) (or_first (numbers_node n s) false h)
+        list_any-append test before (s ∷ [])
+        ∙ or_second (list_any test before) (list_any test (s ∷ [])) (or_first (test s) false h)
 
-    none_again : (before all : List Spot) → first_misnamed document before all ≡ None → list_any (numbers_node n) before ≡ true → ids_of all ≡ 0
+    none_again : (before all : List Spot) → first_misnamed document before all ≡ None → list_any test before ≡ true → ids_of all ≡ 0
     none_again before [] e was = refl
     none_again before (s ∷ rest) e was =
-        let again : numbers_node n s ≡ true → ⊥ = λ is. let new = is_new s.kind document before s.path s.owner s.value (here_named before s rest e) is in absurd cc in
-        let here = one_false (numbers_node n s) again in
+        let again : test s ≡ true → ⊥ = λ is. let new = fresh document before s (here_named before s rest e) is in absurd cc in
+        let here = one_false (test s) again in
         let later = none_again (before ++ s ∷ []) rest (later_named before s rest e) (still_given before s was) in
         omega (arith, here, later)
 
     pub given_once : (before all : List Spot) → first_misnamed document before all ≡ None → ids_of all ≤ 1
     given_once before [] e = omega arith
     given_once before (s ∷ rest) e =
-        by (numbers_node n s) refl (λ is. none_again (before ++ s ∷ []) rest (later_named before s rest e) (now_given before s is))
+        by (test s) refl (λ is. none_again (before ++ s ∷ []) rest (later_named before s rest e) (now_given before s is))
         (given_once (before ++ s ∷ []) rest (later_named before s rest e))
       where
-        by : (b : Bool) → numbers_node n s ≡ b → (numbers_node n s ≡ true → ids_of rest ≡ 0) → ids_of rest ≤ 1 → ids_of (s ∷ rest) ≤ 1
+        by : (b : Bool) → test s ≡ b → (test s ≡ true → ids_of rest ≡ 0) → ids_of rest ≤ 1 → ids_of (s ∷ rest) ≤ 1
         by true is none later = let here = ap one_if is in let rest_none = none is in omega (arith, here, rest_none)
         by false is none later = let here = ap one_if is in omega (arith, here, later)
 
@@ -101,6 +118,15 @@ module _ (n : ℕ) where
       let this = ap (λ (x : Part). ids_of (f x)) same in
       omega (arith, this, one_part f parts 0 q next, ids_join (f r) (flat_map f parts))
   two_parts f (r ∷ parts) (suc i) p q at next = omega (arith, two_parts f parts i p q at next, ids_join (f r) (flat_map f parts))
+
+  row_parts : (f : Part → List Spot) (parts : List Part) (i : ℕ) (p q r : Part) → slice_get parts i ≡ Some p → slice_get parts (suc i) ≡ Some q
+      → slice_get parts (suc (suc i)) ≡ Some r → ids_of (f p) + ids_of (f q) + ids_of (f r) ≤ ids_of (flat_map f parts)
+  row_parts f [] i p q r at next last = absurd cc
+  row_parts f (x ∷ parts) zero p q r at next last =
+      let same : x ≡ p = cc at in
+      let this = ap (λ (y : Part). ids_of (f y)) same in
+      omega (arith, this, two_parts f parts 0 q r next last, ids_join (f x) (flat_map f parts))
+  row_parts f (x ∷ parts) (suc i) p q r at next last = omega (arith, row_parts f parts i p q r at next last, ids_join (f x) (flat_map f parts))
 
   three_parts : (f : Part → List Spot) (parts : List Part) (i : ℕ) (p q r : Part) → slice_get parts 0 ≡ Some p → slice_get parts (suc i) ≡ Some q
       → slice_get parts (suc (suc i)) ≡ Some r → ids_of (f p) + ids_of (f q) + ids_of (f r) ≤ ids_of (flat_map f parts)
@@ -140,6 +166,19 @@ module _ (n : ℕ) where
           under_part next inner f and_is,
           two_parts (part_spots (spot d path owner k level)) parts i (part name inner) (part next inner) at then_at,
           by_parts name e is,
+        )
+
+    pub under_row : (i : ℕ) (name next last : Key) (own inner final : Kind) (g e f : Data) → slice_get parts i ≡ Some (part name own) → slice_get parts (suc i) ≡ Some (part next inner)
+        → slice_get parts (suc (suc i)) ≡ Some (part last final) → under name d ≡ Some g → under next d ≡ Some e → under last d ≡ Some f
+        → inner_ids name own g + inner_ids next inner e + inner_ids last final f ≤ ids_of (spots d path owner k level)
+    under_row i name next last own inner final g e f at then_at last_at is and_is last_is =
+        omega (
+          arith,
+          under_part name own g is,
+          under_part next inner e and_is,
+          under_part last final f last_is,
+          row_parts (part_spots (spot d path owner k level)) parts i (part name own) (part next inner) (part last final) at then_at last_at,
+          by_parts name g is,
         )
 
     pub under_three : (i : ℕ) (first name next : Key) (own inner : Kind) (g e f : Data) → slice_get parts 0 ≡ Some (part first own)

@@ -1,5 +1,6 @@
 //! What follows from the definitions, of a plan as it runs with any number of tasks.
-ghost use Rattle.std.specs.Prelude.{◌≡◌, ℕ, List, Contains, Some};
+ghost use Rattle.std.specs.Prelude.{◌≡◌, ℕ, List, Contains, Some, map};
+ghost use Rattle.std.specs.List.Sorted.{IsStrictlyIncreasing};
 ghost use Rattle.plan_docs.specs.declared.node.DynamicFilter.{DynamicFilter};
 ghost use Rattle.plan_docs.specs.Plans.{plan_view};
 ghost use Rattle.plan_run_laws.specs.RunPlans.{RunPlan};
@@ -11,6 +12,7 @@ ghost use Rattle.plan_link_laws.specs.Consistent.{IsConsistent};
 ghost use Rattle.plan_spreads.specs.Runs.{plan_run};
 ghost use Rattle.sieve_laws.specs.ComingDown.{ScansApart};
 ghost use Rattle.sieve_laws.specs.KnownDomains.{JoinFilter, sieves_of};
+ghost use Rattle.plan_layout.specs.declared.filters.PlacedFilter.{PlacedFilter};
 ghost use Rattle.plan_layout.specs.declared.pipe.Parallelism.{Parallelism};
 ghost use Rattle.plan_layout.specs.Filters.{scan_filters};
 ghost use Rattle.plan_layout.specs.Layouts.{layout_of};
@@ -88,4 +90,10 @@ pub fn scan_filters_reach(plan: &Plan)
 pub fn pipes_are_apart(plan: &Plan)
     ensures { IsConsistent (plan_view plan.now) → (p : Parallelism)
         → PipesApart (layout_of p (plan_view plan.now)) }
+{}
+
+/// The law that the filters of a scan in such a layout have ids that rise: no two of the plan's filters have one id.
+pub fn filter_ids_rise(plan: &Plan)
+    ensures { IsConsistent (plan_view plan.now) → (p : Parallelism) (pipe : PipeForm)
+        → IsStrictlyIncreasing (map (λ (f : PlacedFilter). f.filter.id) (scan_filters (layout_of p (plan_view plan.now)) pipe)) }
 {}

@@ -10,12 +10,12 @@
 //!   column of the scan that the filter names (`specs/RunJoins.antt`); so `named_scans_are_reached`: the domain that is known
 //!   of it arrives there. `built_filters_reach`, `joins_are_built`, `pipes_are_apart`, `scan_filters_reach`: in the layout of such a plan a pipe
 //!   builds the right side of each join, one for each, and the filters of a scan are those of the joins' that reach it
-//!   (`specs/BuiltFilters.antt`)
+//!   (`specs/BuiltFilters.antt`). `filter_ids_rise`: the ids of a scan's filters are different ones, in ascending order
 #![tactic(auto)]
 
 mod laws;
 
 pub use laws::{
-    built_filters_reach, filters_reach_in_runs, joins_are_apart, joins_are_built,
+    built_filters_reach, filter_ids_rise, filters_reach_in_runs, joins_are_apart, joins_are_built,
     joins_are_in_runs, named_scans_are_reached, scan_filters_reach, scans_are_apart,
 };

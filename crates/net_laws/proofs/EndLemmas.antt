@@ -1,6 +1,6 @@
 -- What a run gives whose drivers are all finished, and of what it failed where one of them did.
-use Rattle.std.proofs.Common.{◌≡◌, ◌⊎◌, inl, inr, ℕ, ◌<◌, List, [], Bool, true, false, Option, Some, None, length, refl, ap, sym, subst, ◌∙◌, arith}
-use Rattle.std.specs.Prelude.{All, option_map, slice_get, unwrap_or}
+use Rattle.std.proofs.Common.{◌≡◌, ◌++◌, Bool, ◌⊎◌, inl, inr, ℕ, ◌<◌, List, [], true, false, Option, Some, None, length, refl, ap, sym, subst, ◌∙◌, arith}
+use Rattle.std.specs.Prelude.{All, get_or, option_map, slice_get, unwrap_or}
 use Rattle.std.proofs.lemmas.Bool.{cases_Bool}
 use Rattle.std.proofs.lemmas.List.Elements.{All-contains}
 use Rattle.std.proofs.lemmas.Option.{slice_get_within}
@@ -24,10 +24,13 @@ use Rattle.lost_row_laws.specs.Sieves.{Sieve}
 use Rattle.lost_row_laws.proofs.FailedLemmas.{failed}
 use Rattle.lost_row_laws.proofs.RestoreLemmas.{put_back}
 use Rattle.lost_row_laws.proofs.WireLemmas.{wired}
+use Rattle.sieve_laws.proofs.DropLemmas.{calm_front}
 use Rattle.sieve_laws.proofs.FailLemmas.{failed_in}
 use Rattle.sieve_laws.proofs.OverLemmas.{gave_root}
+use Rattle.sieve_laws.proofs.SplitLemmas.{fails_after}
 use Rattle.sieve_laws.proofs.TypedLemmas.{typed as run_typed}
 use Rattle.driver_loop.specs.Drivers.{DriverState, HasFailed}
+use Rattle.driver_loop.specs.declared.run_fault.RunFault.TheVariants.{ExprFailed}
 use Rattle.driver_loop.specs.Ends.{has_ended, rows_handed, rows_taken, was_given}
 use Rattle.driver_turns.specs.Turns.{StageFailed}
 use Rattle.driver_loop.specs.contracts.stage.StageOperator.TheImpl.{ghosts}
@@ -36,16 +39,20 @@ use Rattle.driver_loop.specs.declared.target.Target.{Target}
 use Rattle.driver_loop.specs.declared.target.Target.TheVariants.{Build, Deal, Put, Result}
 use Rattle.pipe_laws.specs.Lanes.{notes_of_lanes}
 use Rattle.pipe_laws.specs.Pipes.{AreOver, HasFailing, PipeState}
+use Rattle.plan_layout.specs.declared.filters.PlacedFilter.{PlacedFilter}
+use Rattle.plan_layout.specs.Filters.{scan_filters}
 use Rattle.plan_layout.specs.Layouts.{drivers_in}
 use Rattle.plan_layout.specs.Pipes.{PipeForm, StepForm, TargetForm, driver_number, result}
 use Rattle.layout_laws.specs.Numbers.{AreNumbered}
 use Rattle.layout_laws.specs.Reached.{AreReached, IsWithin, is_fetching}
 use Rattle.layout_laws.specs.RunPipes.{PipeIn, RunsAs}
-use Rattle.driver_net_laws.specs.Nets.{AreDriversOf, AreStagesFor, IsResultTarget, IsTargetFor, NetForm, front_stages, step_stages}
+use Rattle.driver_net_laws.specs.Nets.{AreDriversOf, AreInFront, AreStagesFor, IsResultTarget, IsTargetFor, NetForm, front_stages, step_stages}
 use Rattle.driver_net_laws.specs.Settled.{AreSettled}
 use Rattle.driver_net_laws.specs.States.{Flow, IsFlowOf, no_pipe, pipe_of, pipe_states_of}
 use Rattle.net_laws.proofs.DriverLemmas.{Known, all_known, done_is, front_ended, pipe_at, took_is}
-use Rattle.net_laws.proofs.FrontLemmas.{all_for_steps, front_finished, none_in_front}
+use Rattle.net_laws.proofs.FilterStageLemmas.{front_drops}
+use Rattle.net_laws.proofs.FrontLemmas.{cut, front_finished, told_behind}
+use Rattle.net_laws.proofs.ListLemmas.{same_some}
 use Rattle.net_laws.proofs.NoteLemmas.{contains_got}
 use Rattle.net_laws.specs.Sifted.{AreSiftedBy}
 use Rattle.net_laws.specs.Standing.{IsStanding}
@@ -83,41 +90,79 @@ module _ (net : NetForm) (drivers : List DriverState) (of : AreDriversOf net dri
   over_at finished at None is k d in_task in_lane = absurd (omega (arith, in_task))
   over_at finished at (Some pipe) is k d in_task in_lane = pipe_over finished at pipe is k d in_task in_lane
 
-  all_over : All (λ d. d.is_finished ≡ true) drivers → AreOver P
+  pub all_over : All (λ d. d.is_finished ≡ true) drivers → AreOver P
   all_over finished j k d in_task in_lane = over_at finished j (slice_get net.layout j) refl k d in_task in_lane
 
-  -- a failing driver of a pipe is a failing lane of it
-  failing_in : (at : ℕ) (pipe : PipeForm) (is : slice_get net.layout at ≡ Some pipe) (k d : ℕ) (in_task : k < pipe.tasks) (in_lane : d < pipe.drivers) (it : Known net drivers flow at pipe k d)
-      (node : ℕ) (kind : Fail) → HasFailed it.driver node kind → HasFailing ghosts (P at) node kind
-  failing_in at pipe is k d in_task in_lane it node kind fails =
-      let none = none_in_front net at pipe k d it.driver it.is in
-      let rows : rows_taken it.driver.source ≡ flow.came at k d = sym (took_is net drivers flow at pipe k d it none) in
-      let over = has_ended it.driver.source in
-      let behind = subst (λ (ss : List Stage). StageFailed ghosts ss over (rows_taken it.driver.source) node kind) (all_for_steps net at pipe k d it.driver it.is) fails in
-      let told = subst (λ (b : Bool). StageFailed ghosts (step_stages pipe.steps it.driver.stages) b (rows_taken it.driver.source) node kind)
-      (sym (ap (last_finished ghosts over) none)) behind in
-      let took = subst (λ (taken : List Row). StageFailed ghosts (step_stages pipe.steps it.driver.stages) (last_finished ghosts over (front_stages pipe.steps it.driver.stages)) taken node kind) rows told in
-      let f = subst (λ (o : Option DriverState). StageFailed ghosts (unwrap_or (option_map (λ (e : DriverState). step_stages pipe.steps e.stages) o) [])
-      (unwrap_or (option_map (λ (e : DriverState). last_finished ghosts (has_ended e.source) (front_stages pipe.steps e.stages)) o) false) (flow.came at k d) node kind) (sym it.there) took in
-      let here : HasFailing ghosts (pipe_of drivers flow at pipe) node kind = record {
-        task = k;
-        driver = d;
-        in_tasks = in_task;
-        in_drivers = in_lane;
-        place = f.place;
-        operator = f.stage;
-        there = f.there;
-        is = f.is;
-        fails = f.after;
-      } in
-      subst (λ (p : PipeState Stage). HasFailing ghosts p node kind) (sym (pipe_at net.layout drivers flow at pipe is)) here
+  -- the driver of a pipe, and what is known of it
+  module _ (at : ℕ) (pipe : PipeForm) (k d : ℕ) (it : Known net drivers flow at pipe k d) (node : ℕ) (kind : Fail) where
+    abbrev first : List Stage
+    first = front_stages pipe.steps it.driver.stages
 
-  -- what has no step has no stage that fails
-  never_fails : (at : ℕ) (pipe : PipeForm) (k d : ℕ) (it : Known net drivers flow at pipe k d) → pipe.steps ≡ [] → (node : ℕ) (kind : Fail) → HasFailed it.driver node kind → ⊥
-  never_fails at pipe k d it plain node kind fails =
-      let stages = subst (λ (ss : List StepForm). AreStagesFor net k (net.types at).halved ss (net.types at).taken it.driver.stages) plain it.is.stages in
-      let none : length it.driver.stages ≡ 0 = ap (λ (ss : List Stage). length ss) stages in
-      omega (arith, fails.there, none)
+    abbrev rest : List Stage
+    rest = step_stages pipe.steps it.driver.stages
+
+    abbrev over : Bool
+    over = has_ended it.driver.source
+
+    -- a stage for a step of its pipe fails
+    abbrev FailsBehind : Type 0
+    FailsBehind = StageFailed ghosts rest (last_finished ghosts over first) (flow.came at k d) node kind
+
+    -- where it failed: no filter in front ever fails
+    by_fault : it.driver.fault ≡ Some (ExprFailed node kind) → FailsBehind
+    by_fault fault =
+        let all = cut pipe.steps it.driver.stages in
+        let f = it.goes.failed node kind fault in
+        let drops = front_drops net (net.types at).taken (scan_filters net.layout pipe) first it.is.front in
+        let lt = subst (λ (ss : List Stage). f.place < length ss) all f.there in
+        let is = subst (λ (ss : List Stage). f.stage ≡ get_or ss f.place f.stage) all f.is in
+        let (i, within, same) = calm_front ghosts laws [] [] drops.0 first rest drops.1 (rows_taken it.driver.source) (flow.came at k d)
+        it.through.front node kind f.place f.stage lt is f.fails in
+        let turns = told_behind pipe.steps it.driver.stages over (it.goes.turns it.still.whole) in
+        record {
+          place = i;
+          stage = f.stage;
+          there = within;
+          is = same;
+          after = fails_after ghosts rest (last_finished ghosts over first) (flow.came at k d) (flow.gave (driver_number pipe k d)) node kind i f.stage
+              within same f.fails it.through.rest turns;
+        }
+
+    -- where its pipe has no filter, and a stage fails on what came to it
+    by_stage : scan_filters net.layout pipe ≡ [] → HasFailed it.driver node kind → FailsBehind
+    by_stage plain fails =
+        let none = subst (λ (fs : List PlacedFilter). AreInFront net (net.types at).taken fs first) plain it.is.front in
+        let all : it.driver.stages ≡ rest = cut pipe.steps it.driver.stages ∙ ap (λ (ss : List Stage). ss ++ rest) none in
+        let rows : rows_taken it.driver.source ≡ flow.came at k d = sym (took_is net drivers flow at pipe k d it none) in
+        let behind = subst (λ (ss : List Stage). StageFailed ghosts ss over (rows_taken it.driver.source) node kind) all fails in
+        let told = subst (λ (b : Bool). StageFailed ghosts rest b (rows_taken it.driver.source) node kind) (sym (ap (last_finished ghosts over) none)) behind in
+        subst (λ (taken : List Row). StageFailed ghosts rest (last_finished ghosts over first) taken node kind) rows told
+
+    -- so it is a failing lane of its pipe
+    failing_in : slice_get net.layout at ≡ Some pipe → k < pipe.tasks → d < pipe.drivers → FailsBehind → HasFailing ghosts (P at) node kind
+    failing_in is in_task in_lane fails =
+        let lane = subst (λ (o : Option DriverState). StageFailed ghosts (unwrap_or (option_map (λ (e : DriverState). step_stages pipe.steps e.stages) o) [])
+        (unwrap_or (option_map (λ (e : DriverState). last_finished ghosts (has_ended e.source) (front_stages pipe.steps e.stages)) o) false)
+        (flow.came at k d) node kind) (sym it.there) fails in
+        let here : HasFailing ghosts (pipe_of drivers flow at pipe) node kind = record {
+          task = k;
+          driver = d;
+          in_tasks = in_task;
+          in_drivers = in_lane;
+          place = lane.place;
+          operator = lane.stage;
+          there = lane.there;
+          is = lane.is;
+          fails = lane.after;
+        } in
+        subst (λ (p : PipeState Stage). HasFailing ghosts p node kind) (sym (pipe_at net.layout drivers flow at pipe is)) here
+
+    -- what has no step has no stage that fails
+    never_fails : pipe.steps ≡ [] → FailsBehind → ⊥
+    never_fails plain fails =
+        let stages = subst (λ (ss : List StepForm). AreStagesFor net k (net.types at).halved ss (net.types at).taken rest) plain it.is.stages in
+        let none : length rest ≡ 0 = ap (λ (ss : List Stage). length ss) stages in
+        omega (arith, fails.there, none)
 
   module _ (tidy : IsTidy net.layout) (passes : Passes net drivers flow) (of_join due : ℕ → List Sieve)
       (run : RunPlan) (fits_tables : FitsTables (tree_of_run run) net.tables) (placed : Placed 1 run whole) where
@@ -167,17 +212,31 @@ module _ (net : NetForm) (drivers : List DriverState) (of : AreDriversOf net dri
           failed net.tables node kind (omega arith) typed (fits_widths (tree_of_run run) net.tables fits_tables) placed 1 notes (P reached.at).took (P reached.at).ended
           (subst (λ (w : ℕ). FailedLosing net.tables 1 w run notes (P reached.at).took (P reached.at).ended node kind) (one reached.at reached.root lone sifted) all)
 
-      by_target : (at : ℕ) (pipe : PipeForm) (is : slice_get net.layout at ≡ Some pipe) (k d : ℕ) → k < pipe.tasks → d < pipe.drivers → (it : Known net drivers flow at pipe k d)
-          → HasFailed it.driver node kind → (is_fetching pipe.target ≡ true) ⊎ (is_fetching pipe.target ≡ false) → MayFail (tree_of_run run) net.tables node kind
-      by_target at pipe is k d in_task in_lane it fails (inl fetches) = absurd (never_fails at pipe k d it (tidy.plain at pipe is fetches) node kind fails)
-      by_target at pipe is k d in_task in_lane it fails (inr stays) = fails_in at (failing_in at pipe is k d in_task in_lane it node kind fails) (reached.each at pipe is stays)
+      by_target : (at : ℕ) (pipe : PipeForm) → slice_get net.layout at ≡ Some pipe → (k d : ℕ) → k < pipe.tasks → d < pipe.drivers
+          → (it : Known net drivers flow at pipe k d) → FailsBehind at pipe k d it node kind
+          → (is_fetching pipe.target ≡ true) ⊎ (is_fetching pipe.target ≡ false) → MayFail (tree_of_run run) net.tables node kind
+      by_target at pipe is k d in_task in_lane it fails (inl fetches) = absurd (never_fails at pipe k d it node kind (tidy.plain at pipe is fetches) fails)
+      by_target at pipe is k d in_task in_lane it fails (inr stays) =
+          fails_in at (failing_in at pipe k d it node kind is in_task in_lane fails) (reached.each at pipe is stays)
 
-      pub fails : AreNumbered (λ pipe. pipe.drivers) (λ pipe. pipe.numbers) net.layout (drivers_in net.layout) → (number : ℕ) (d : DriverState) → slice_get drivers number ≡ Some d
-          → HasFailed d node kind → MayFail (tree_of_run run) net.tables node kind
-      fails numbered number d there failed_it =
+      -- where a driver failed
+      pub fails : AreNumbered (λ pipe. pipe.drivers) (λ pipe. pipe.numbers) net.layout (drivers_in net.layout)
+          → (number : ℕ) (d : DriverState) → slice_get drivers number ≡ Some d → d.fault ≡ Some (ExprFailed node kind)
+          → MayFail (tree_of_run run) net.tables node kind
+      fails numbered number d there fault =
           let (seat, same) = numbered.some number (subst (λ (n : ℕ). number < n) of.count (slice_get_within drivers number d there)) in
           let it = known seat.at seat.pipe seat.is seat.task seat.lane seat.has_task seat.has_lane in
           let there_too = subst (λ (n : ℕ). slice_get drivers n ≡ Some it.driver) same it.there in
           let one_driver : d ≡ it.driver = cc (there, there_too) in
-          by_target seat.at seat.pipe seat.is seat.task seat.lane seat.has_task seat.has_lane it
-          (subst (λ (e : DriverState). HasFailed e node kind) one_driver failed_it) (cases_Bool (is_fetching seat.pipe.target))
+          let own = by_fault seat.at seat.pipe seat.task seat.lane it node kind (subst (λ (e : DriverState). e.fault ≡ Some (ExprFailed node kind)) one_driver fault) in
+          by_target seat.at seat.pipe seat.is seat.task seat.lane seat.has_task seat.has_lane it own (cases_Bool (is_fetching seat.pipe.target))
+
+      -- where one of a pipe of no filter has a stage that fails
+      pub fails_plainly : (at : ℕ) (pipe : PipeForm) → slice_get net.layout at ≡ Some pipe → scan_filters net.layout pipe ≡ []
+          → (task lane : ℕ) → task < pipe.tasks → lane < pipe.drivers → (d : DriverState) → slice_get drivers (driver_number pipe task lane) ≡ Some d
+          → HasFailed d node kind → MayFail (tree_of_run run) net.tables node kind
+      fails_plainly at pipe is plain task lane in_tasks in_lanes d there failed_it =
+          let it = known at pipe is task lane in_tasks in_lanes in
+          let one_driver : d ≡ it.driver = same_some (sym there ∙ it.there) in
+          let own = by_stage at pipe task lane it node kind plain (subst (λ (e : DriverState). HasFailed e node kind) one_driver failed_it) in
+          by_target at pipe is task lane in_tasks in_lanes it own (cases_Bool (is_fetching pipe.target))

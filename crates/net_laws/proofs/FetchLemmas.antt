@@ -1,5 +1,5 @@
 -- What passes a driver that fetches in a task: from the edge into which others put to those that take from it.
-use Rattle.std.proofs.Common.{◌≡◌, ℕ, ◌<◌, List, [], ◌∷◌, Bool, true, refl, subst, sym, ap, ◌∙◌, arith}
+use Rattle.std.proofs.Common.{◌≡◌, ℕ, ◌<◌, List, [], ◌∷◌, ◌++◌, Bool, true, refl, subst, sym, ap, ◌∙◌, arith}
 use Rattle.std.specs.Prelude.{All, if◌then◌else◌}
 use Rattle.std.proofs.lemmas.Bool.{eq-eqb}
 use Rattle.std.proofs.lemmas.List.Elements.{All-head}
@@ -20,12 +20,13 @@ use Rattle.source_laws.specs.Edges.{AreTold, GatherCameBack, KeepsPutter, Putter
 use Rattle.source_laws.proofs.HopLemmas.{hop_when}
 use Rattle.source_laws.proofs.TakeLemmas.{dealt_edge_hop, fetched_edge_hop}
 use Rattle.plan_layout.specs.Pipes.{PipeForm, driver_number}
-use Rattle.driver_net_laws.specs.Nets.{AreStagesFor, IsDealFor, IsFetchFor, IsSourceFor, IsTargetFor, NetForm}
+use Rattle.driver_net_laws.specs.Nets.{AreStagesFor, IsDealFor, IsFetchFor, IsSourceFor, IsTargetFor, NetForm, step_stages}
 use Rattle.driver_net_laws.specs.Settled.{GatherIsBack, SourceIsBack, deals_from, deals_in, deals_into, gather_takes_in, in_task, listed, puts_into}
 use Rattle.driver_net_laws.specs.States.{Flow}
 use Rattle.net_laws.specs.Giving.{IsPlainlyFetched}
 use Rattle.net_laws.proofs.ListLemmas.{All-flat_at, All-one, same_one}
 use Rattle.net_laws.proofs.DriverLemmas.{AllKnown, Known, alone_is, lane_is}
+use Rattle.net_laws.proofs.FrontLemmas.{cut, none_in_front}
 
 -- what one driver fetched from an edge of its own
 fetch_source_hop : (of : EdgeId) (source : Source) → IsFetchFor of source → IsBegun source → (has_ended source ≡ true → IsDrained source)
@@ -57,7 +58,11 @@ module _ (net : NetForm) (drivers : List DriverState) (flow : Flow) (at n : ℕ)
 
   no_stage : k.driver.stages ≡ []
   no_stage =
-      subst (λ steps. AreStagesFor net task (net.types is.fetched.place).halved steps (net.types is.fetched.place).taken k.driver.stages) is.plain k.is.stages
+      let none = none_in_front net is.fetched.place fetcher task 0 k.driver k.is is.unread in
+      let rest = step_stages fetcher.steps k.driver.stages in
+      let plain = subst (λ steps. AreStagesFor net task (net.types is.fetched.place).halved steps
+      (net.types is.fetched.place).taken rest) is.plain k.is.stages in
+      cut fetcher.steps k.driver.stages ∙ ap (λ (first : List Stage). first ++ rest) none ∙ plain
 
   is_back : GatherIsBack net.layout drivers at task (in_task gather_takes_in drivers fetcher task)
   is_back = (subst (SourceIsBack net drivers is.fetched.place fetcher) is.fetched.source back) task (omega (arith, is.fetched.tasks, in_tasks))

@@ -1,5 +1,5 @@
 -- What the drivers of a pipe took of a fragment together.
-use Rattle.std.proofs.Common.{◌≡◌, ℕ, ◌<◌, List, true, Option, length, subst, sym, ap, ◌∙◌, arith}
+use Rattle.std.proofs.Common.{◌≡◌, ℕ, ◌<◌, List, true, Option, None, length, subst, sym, ap, ◌∙◌, arith}
 use Rattle.std.specs.Prelude.{All, option_map, slice_get, unwrap_or, Some}
 use Rattle.std.proofs.lemmas.List.FromFn.{length-map-range_with_len}
 use Rattle.bag_laws.specs.Gather.{gather}
@@ -70,7 +70,8 @@ module _ (net : NetForm) (drivers : List DriverState) (flow : Flow) (output : Ou
   all_keep = root_puts.keeps
 
 module _ (net : NetForm) (drivers : List DriverState) (flow : Flow) (at : ℕ) (pipe : PipeForm) (is : slice_get net.layout at ≡ Some pipe)
-    (known : AllKnown net drivers flow at pipe) (number : ℕ) (reads : pipe.source ≡ fragment number) (back : SourceIsBack net drivers at pipe pipe.source)
+    (known : AllKnown net drivers flow at pipe) (number : ℕ) (reads : pipe.source ≡ fragment number) (unread : pipe.scan ≡ None)
+    (back : SourceIsBack net drivers at pipe pipe.source)
     (output : Output) (m j : ℕ) (root_is : IsRoot net.layout output m at j) (root_known : AllKnown net drivers flow j root_is.root.pipe)
     (by : IsPlainlyFetched net.layout at pipe.tasks) (by_known : AllKnown net drivers flow by.fetched.place by.fetched.pipe)
     (by_back : SourceIsBack net drivers by.fetched.place by.fetched.pipe by.fetched.pipe.source) (task : ℕ) (in_tasks : task < pipe.tasks) where
@@ -104,7 +105,7 @@ module _ (net : NetForm) (drivers : List DriverState) (flow : Flow) (at : ℕ) (
       (all_keep net drivers flow output m at j root_is root_known task within)
       (seats_in_pipe task drivers root_is.root.pipe ∙ sym (puts_of_root drivers at task net.layout output m j root_is))
       is_back.put is_back.one remotes (subst (SpreadCameBack is_back.put) (sym (remote_seats drivers pipe task)) is_back.back)
-      (remotes_taken net drivers flow at pipe known number reads task in_tasks)
+      (remotes_taken net drivers flow at pipe known number reads unread task in_tasks)
 
   were_sent : rows_for all_putters ≡ sent (output_view output) pipe.tasks task rows_given
   were_sent =
@@ -114,7 +115,7 @@ module _ (net : NetForm) (drivers : List DriverState) (flow : Flow) (at : ℕ) (
   pub fragment_took : TookOf pipe.drivers ((pipe_of drivers flow at pipe).took task) ((pipe_of drivers flow at pipe).ended task) (sent (output_view output) pipe.tasks task rows_given) IsRootOver
   fragment_took =
       hop_closed (all_done net drivers flow output m at j root_is root_known task within)
-      (hop_when (remotes_ended net drivers flow at pipe known number reads task in_tasks)
+      (hop_when (remotes_ended net drivers flow at pipe known number reads unread task in_tasks)
       (subst (λ put. Hop put (gather pipe.drivers ((pipe_of drivers flow at pipe).took task)) (All IsRemoteEnded remotes) (AreTold all_putters)) were_sent
       (subst (λ took. Hop (rows_for all_putters) took (All IsRemoteEnded remotes) (AreTold all_putters))
-      (remote_rows net drivers flow at pipe known number reads task in_tasks) from_root)))
+      (remote_rows net drivers flow at pipe known number reads unread task in_tasks) from_root)))

@@ -1,9 +1,8 @@
 -- The stages of a driver, cut in front of those for the steps of its pipe.
-use Rattle.std.proofs.Common.{◌≡◌, ◌-◌, ℕ, suc, List, [], ◌∷◌, ◌++◌, Bool, true, drop, length, ap, sym, subst, ◌∙◌, take, arith}
+use Rattle.std.proofs.Common.{◌≡◌, ◌-◌, ℕ, List, [], ◌∷◌, ◌++◌, Bool, true, Option, None, length, ap, sym, subst, ◌∙◌}
 use Rattle.std.specs.Prelude.{Contains}
 use Rattle.std.proofs.lemmas.List.{take-append-drop}
-use Rattle.std.proofs.lemmas.List.Elements.{Contains-append_right}
-use Rattle.sql_values.specs.declared.types.SqlType.{SqlType}
+use Rattle.std.proofs.lemmas.List.Elements.{Contains-append_left, Contains-append_right}
 use Rattle.operator_core.specs.Rows.{Row}
 use Rattle.operator_core.specs.Calls.{IsLawful}
 use Rattle.operator_core.specs.Stages.{Linked, ToldInTurn, last_finished}
@@ -12,11 +11,11 @@ use Rattle.driver_loop.specs.Drivers.{DriverState, IsDriverTo, IsWhole}
 use Rattle.driver_loop.specs.Ends.{rows_taken}
 use Rattle.driver_loop.specs.contracts.stage.StageOperator.TheImpl.{ghosts}
 use Rattle.driver_loop.specs.declared.stage.Stage.{Stage}
+use Rattle.plan_layout.specs.Filters.{filters_of_scan}
 use Rattle.plan_layout.specs.Pipes.{PipeForm, StepForm}
 use Rattle.sieve_laws.proofs.SplitLemmas.{finished_both, linked_both, told_both}
-use Rattle.driver_net_laws.specs.Nets.{AreStagesFor, IsDriverOf, NetForm, front_stages, step_stages}
+use Rattle.driver_net_laws.specs.Nets.{AreInFront, IsDriverOf, NetForm, front_stages, step_stages}
 use Rattle.driver_net_laws.specs.States.{CameThrough}
-use Rattle.driver_net_laws.specs.Types.{types_after}
 
 pub cut : (steps : List StepForm) (stages : List Stage) → stages ≡ front_stages steps stages ++ step_stages steps stages
 cut steps stages = sym (take-append-drop (length stages - length steps) stages)
@@ -24,6 +23,11 @@ cut steps stages = sym (take-append-drop (length stages - length steps) stages)
 pub behind : (steps : List StepForm) (stages : List Stage) (s : Stage) → Contains (step_stages steps stages) s → Contains stages s
 behind steps stages s there =
     subst (λ (all : List Stage). Contains all s) (sym (cut steps stages)) (Contains-append_right (front_stages steps stages) (step_stages steps stages) s there)
+
+pub in_front : (steps : List StepForm) (stages : List Stage) (s : Stage) → Contains (front_stages steps stages) s → Contains stages s
+in_front steps stages s there =
+    subst (λ (all : List Stage). Contains all s) (sym (cut steps stages))
+    (Contains-append_left (front_stages steps stages) (step_stages steps stages) s there)
 
 -- what a driver took of its source came through the first stages to the others
 pub came_through : (steps : List StepForm) (d : DriverState) (given : List Row) → IsWhole d.fault → IsDriverTo d given → (came : List Row) × CameThrough steps d came given
@@ -55,24 +59,9 @@ module _ (laws : IsLawful ghosts) where
   front_finished steps stages over turns done =
       ended_before (step_stages steps stages) (last_finished ghosts over (front_stages steps stages)) (told_behind steps stages over turns) (done_behind steps stages over ∙ done)
 
-module _ (net : NetForm) (task : ℕ) (halved : List SqlType) where
-  as_many : (steps : List StepForm) (between : List SqlType) (stages : List Stage) → AreStagesFor net task halved steps between stages → length stages ≡ length steps
-  as_many [] between stages are = ap length are
-  as_many (step ∷ steps) between [] are = absurd are
-  as_many (step ∷ steps) between (s ∷ stages) are = ap suc (as_many steps (types_after net.types halved step between) stages are.1)
-
--- the stages of a driver are those for the steps of its pipe: none stands in front
-module _ (net : NetForm) (at : ℕ) (pipe : PipeForm) (task lane : ℕ) (d : DriverState) (is : IsDriverOf net at pipe task lane d) where
-  none_more : length d.stages - length pipe.steps ≡ 0
-  none_more =
-      let same = as_many net task (net.types at).halved pipe.steps (net.types at).taken d.stages is.stages in
-      omega (arith, same)
-
+-- a pipe of no scan has no dynamic filter: the stages of its drivers are those for its steps
+module _ (net : NetForm) (at : ℕ) (pipe : PipeForm) (task lane : ℕ) (d : DriverState) (is : IsDriverOf net at pipe task lane d)
+    (unread : pipe.scan ≡ None) where
   pub none_in_front : front_stages pipe.steps d.stages ≡ []
-  none_in_front = ap (λ (n : ℕ). take n d.stages) none_more
-
-  pub all_for_steps : d.stages ≡ step_stages pipe.steps d.stages
-  all_for_steps = sym (ap (λ (n : ℕ). drop n d.stages) none_more)
-
-  pub are_for_steps : AreStagesFor net task (net.types at).halved pipe.steps (net.types at).taken (step_stages pipe.steps d.stages)
-  are_for_steps = subst (AreStagesFor net task (net.types at).halved pipe.steps (net.types at).taken) all_for_steps is.stages
+  none_in_front =
+      subst (λ (scan : Option ℕ). AreInFront net (net.types at).taken (filters_of_scan net.layout scan) (front_stages pipe.steps d.stages)) unread is.front

@@ -26,7 +26,7 @@ use Rattle.driver_net_laws.specs.Settled.{AreSettled}
 use Rattle.driver_net_laws.specs.States.{CameThrough, Flow, IsFlowOf, pipe_of}
 use Rattle.net_laws.specs.Along.{Along, BuiltTyped, Follows, bells_in}
 use Rattle.net_laws.specs.Halves.{Half, half_stage, half_step, half_types}
-use Rattle.net_laws.proofs.FrontLemmas.{are_for_steps, behind, cut, done_behind, told_behind}
+use Rattle.net_laws.proofs.FrontLemmas.{behind, cut, done_behind, told_behind}
 use Rattle.net_laws.proofs.TypeLemmas.{at_pipe}
 use Rattle.net_laws.proofs.StageLemmas.{are_made, halves_made}
 use Rattle.net_laws.proofs.NoteLemmas.{AlongLane, FollowsIn, P, along_all, contains_got, follow, knows, notes_behind, pipe_is, still}
@@ -92,7 +92,7 @@ module _ (net : NetForm) (drivers : List DriverState) (of : AreDriversOf net dri
   module _ (run : RunPlan) (r : RunsAs net.layout n run own pipe.drivers pipe.source pipe.steps) where
     made : (k d : ℕ) (h : HasDriver net drivers own pipe k d)
         → AreMadeFor net.links.names run (bells_in net.links k net.layout n run own pipe.drivers pipe.source pipe.steps r) (rest k d h) (types_of (tree_of_run run))
-    made k d h = are_made net k of.typed n run own pipe.drivers pipe.source pipe.steps (rest k d h) (at_pipe net.layout own pipe is) r (are_for_steps net own pipe k d h.driver h.is)
+    made k d h = are_made net k of.typed n run own pipe.drivers pipe.source pipe.steps (rest k d h) (at_pipe net.layout own pipe is) r h.is.stages
 
     follows_in : (k d : ℕ) → k < n → d < pipe.drivers
         → AlongLane (FollowsIn net drivers of settled flow flowed k) net.layout n run own pipe.drivers pipe.source pipe.steps r ((pipes own).notes k d)
@@ -142,7 +142,7 @@ module _ (net : NetForm) (drivers : List DriverState) (of : AreDriversOf net dri
 
     half_made : (k d : ℕ) (h : HasDriver net drivers own pipe k d)
         → Behind (AreMadeFor net.links.names run (bells_in net.links k net.layout n run own pipe.drivers pipe.source r.1.0 r.1.2)) at (rest k d h) (half_types half (types_of (tree_of_run run)))
-    half_made k d h = halves_made net k of.typed n run half own pipe.drivers pipe.source pipe.steps (rest k d h) (at_pipe net.layout own pipe is) r (are_for_steps net own pipe k d h.driver h.is)
+    half_made k d h = halves_made net k of.typed n run half own pipe.drivers pipe.source pipe.steps (rest k d h) (at_pipe net.layout own pipe is) r h.is.stages
 
     half_follows_in : (k d : ℕ) → k < n → d < pipe.drivers
         → AlongLane (FollowsIn net drivers of settled flow flowed k) net.layout n run own pipe.drivers pipe.source r.1.0 r.1.2 ((pipes own).notes k d)

@@ -1,5 +1,5 @@
 -- What turns keep of a driver: the parts of its pipe.
-use Rattle.std.proofs.Common.{◌≡◌, inl, inr, ℕ, zero, suc, List, [], ◌∷◌, Some, None, length, map, refl, ap, sym, subst, ◌∙◌}
+use Rattle.std.proofs.Common.{◌≡◌, ◌+◌, ◌-◌, inl, inr, ℕ, zero, suc, List, [], ◌∷◌, Some, None, drop, length, map, take, refl, ap, sym, subst, ◌∙◌}
 use Rattle.std.specs.Prelude.{All, slice_get}
 use Rattle.std.proofs.lemmas.Simd.{map-map}
 use Rattle.std.proofs.lemmas.List.Elements.{All-head, All-tail, length_all_zip}
@@ -8,6 +8,8 @@ use Rattle.sql_values.specs.declared.relational.JoinKind.{JoinKind}
 use Rattle.sql_values.specs.declared.value.Value.{Value}
 use Rattle.operator_core.specs.Stages.{AllCameFrom, CameFrom}
 use Rattle.hash_join.specs.Probing.{ProbeState}
+use Rattle.dyn_filter.specs.Cells.{IsNoteOf, new_notes}
+use Rattle.dyn_filter.specs.Filters.{FilterState}
 use Rattle.split_source.specs.Scans.{ScanState}
 use Rattle.split_source.specs.Seats.{ClaimsId}
 use Rattle.output_buffer.specs.Seats.{EdgeId}
@@ -17,6 +19,7 @@ use Rattle.driver_ends.specs.Fetching.{FetchingState}
 use Rattle.driver_ends.specs.Outlets.{OutletState}
 use Rattle.driver_ends.specs.Sources.{LocalState, RemoteState}
 use Rattle.driver_ends.specs.Targets.{TargetState}
+use Rattle.driver_loop.specs.BuildFilters.{BuildFilterState, build_filter_made}
 use Rattle.driver_loop.specs.Builds.{BuildState}
 use Rattle.driver_loop.specs.Drivers.{DriverState, IsWhole}
 use Rattle.driver_loop.specs.Ends.{source_made, target_made}
@@ -26,18 +29,22 @@ use Rattle.driver_loop.specs.contracts.stage.StageOperator.TheImpl.{ghosts}
 use Rattle.driver_loop.specs.declared.stage.Stage.{Stage}
 use Rattle.driver_loop.specs.declared.target.Target.{Target}
 use Rattle.driver_loop.specs.declared.target.Target.TheVariants.{Build, Deal, Put, Result}
+use Rattle.plan_docs.specs.declared.node.DynamicFilter.{DynamicFilter}
 use Rattle.plan_run_laws.specs.Nets as stage
 use Rattle.plan_run_laws.specs.RunPlans as plan
 use Rattle.plan_trees.specs.Allowed.{table_rows}
+use Rattle.plan_trees.specs.declared.tree.Pair.{Pair}
 use Rattle.plan_trees.specs.TreeForms.{pair_view}
 use Rattle.plan_spreads.specs.Runs.{output_view}
 use Rattle.pipe_laws.specs.Pipelines.{NodeStage, at_node}
 use Rattle.source_laws.specs.Edges.{output_of}
 use Rattle.driver_net_laws.specs.Cells.{Names}
 use Rattle.driver_net_laws.specs.Stages.{IsProbeOf, IsStageOf}
+use Rattle.plan_layout.specs.declared.filters.PlacedFilter.{PlacedFilter}
+use Rattle.plan_layout.specs.Filters.{scan_filters}
 use Rattle.plan_layout.specs.Pipes.{PipeForm, SourceForm, StepForm, TargetForm, driver_number}
 use Rattle.plan_layout.specs.Pipes as form
-use Rattle.driver_net_laws.specs.Nets.{AreDriversOf, AreStagesFor, IsDriverOf, IsPutFor, IsResultTarget, IsScanFor, IsSourceFor, IsStageFor, IsTargetFor, NetForm, edges_to}
+use Rattle.driver_net_laws.specs.Nets.{AreDriversOf, AreInFront, ArePartsFor, AreStagesFor, IsDriverOf, IsFilterFor, IsPartFor, IsPutFor, IsResultTarget, IsScanFor, IsSourceFor, IsStageFor, IsTargetFor, NetForm, edges_to, front_stages, step_stages}
 use Rattle.driver_net_laws.specs.Types.{types_after}
 use Rattle.net_laws.specs.Later.{AreLater, IsLaterDriver}
 
@@ -205,6 +212,14 @@ result_on (Build t) now same is = absurd is
 result_on (Put t) now same is = absurd is
 result_on (Deal t) now same is = absurd is
 
+abbrev first_or : BuildFilterState → List BuildFilterState → BuildFilterState
+first_or none [] = none
+first_or none (f ∷ fs) = f
+
+abbrev rest_of : List BuildFilterState → List BuildFilterState
+rest_of [] = []
+rest_of (f ∷ fs) = fs
+
 abbrev build_or : BuildState → Target → BuildState
 build_or none (Build t) = t
 build_or none target = none
@@ -233,6 +248,38 @@ put_on output edges target now same t =
       of = sym (edges_made n.own) ∙ ap (λ (x : Target). edges_of (put_or t.put x)) n.made ∙ edges_made t.put ∙ t.of;
     }
 
+-- a note as it was made is one of its cell
+noted_names : (names : List ℕ) → IsNoteOf names (new_notes names)
+noted_names [] = refl
+noted_names (name ∷ names) = ap (λ (rest : List ℕ). name ∷ rest) (noted_names names)
+
+abbrev names_of : BuildFilterState → List ℕ
+names_of f = map (λ n. n.cell) f.note.parts
+
+part_on : (net : NetForm) (at task : ℕ) (on : List Pair) (place : ℕ) (f : DynamicFilter) (own now : BuildFilterState)
+    → build_filter_made now ≡ build_filter_made own
+    → IsPartFor net at task on place f own → IsPartFor net at task on place f now
+part_on net at task on place f own now same p = record {
+  pair = p.pair;
+  column = ap (λ (x : BuildFilterState). x.column) same ∙ p.column;
+  part = ap (λ (x : BuildFilterState). x.part) same ∙ p.part;
+  bell = ap (λ (x : BuildFilterState). x.bell) same ∙ p.bell;
+  cell = sym (noted_names (names_of now)) ∙ ap (λ (x : BuildFilterState). names_of x) same ∙ noted_names (names_of own) ∙ p.cell
+      ∙ ap (λ (x : BuildFilterState). net.links.parts x.bell) (sym same);
+}
+
+parts_on : (net : NetForm) (at task : ℕ) (on : List Pair) (place : ℕ) (fs : List DynamicFilter) (owns nows : List BuildFilterState)
+    → map build_filter_made nows ≡ map build_filter_made owns → ArePartsFor net at task on place fs owns → ArePartsFor net at task on place fs nows
+parts_on net at task on place [] [] [] same are = tt
+parts_on net at task on place [] [] (now ∷ nows) same are = absurd cc
+parts_on net at task on place [] (own ∷ owns) nows same are = absurd are
+parts_on net at task on place (f ∷ fs) [] nows same are = absurd are
+parts_on net at task on place (f ∷ fs) (own ∷ owns) [] same are = absurd cc
+parts_on net at task on place (f ∷ fs) (own ∷ owns) (now ∷ nows) same are = (
+  part_on net at task on place f own now (ap (first_or (build_filter_made own)) same) are.0,
+  parts_on net at task on (place + 1) fs owns nows (ap rest_of same) are.1,
+)
+
 target_on : (net : NetForm) (at task : ℕ) (kind : TargetForm) (target now : Target) → target_made now ≡ target_made target → IsTargetFor net at task kind target
     → IsTargetFor net at task kind now
 target_on net at task form.result target now same t = result_on target now same t
@@ -245,6 +292,7 @@ target_on net at task (form.cell on) target now same t =
       cell = ap (λ (x : Target). (build_or t.build x).note.cell) n.made ∙ t.cell;
       by = ap (λ (x : Target). (build_or t.build x).source.keys) n.made ∙ t.by;
       of = ap (λ (x : Target). (build_or t.build x).source.types) n.made ∙ t.of;
+      filters = parts_on net at task on.on 0 on.filters t.build.filters n.own.filters (ap (λ (x : Target). (build_or t.build x).filters) n.made) t.filters;
     }
 target_on net at task (form.side pipe) target now same t = put_on plan.single (net.links.gathers pipe task ∷ []) target now same t
 target_on net at task (form.readers output pipe) target now same t = put_on (output_view output) (edges_to net pipe) target now same t
@@ -278,13 +326,81 @@ module _ (net : NetForm) (task : ℕ) (halved : List SqlType) where
     stages_on steps (types_after net.types halved step between) all now are.1 came.1,
   )
 
+-- of a filter in front
+filter_on : (net : NetForm) (types : List SqlType) (f : PlacedFilter) (made now : Stage) → IsFilterFor net types f made → CameFrom ghosts made now
+    → IsFilterFor net types f (ghosts.as_made now)
+filter_on net types f made now is (inl same) = subst (IsFilterFor net types f) (sym same) is
+filter_on net types f made now is (inr learned) =
+    let l = subst (λ (m : Stage). ghosts.may_learn m (ghosts.as_made now)) is.is learned in
+    let (to, same, (domain, own)) = l in
+    record {
+      op = to;
+      is = same;
+      column = ap (λ (s : FilterState). s.column) own ∙ is.column;
+      waits = ap (λ (s : FilterState). s.waits) own ∙ is.waits;
+      bell = ap (λ (s : FilterState). s.bell) own ∙ is.bell;
+      parts = ap (λ (s : FilterState). s.parts) own ∙ is.parts ∙ ap (λ (s : FilterState). net.links.parts s.bell) (sym own);
+    }
+
+front_on : (net : NetForm) (types : List SqlType) (fs : List PlacedFilter) (all now : List Stage) → AreInFront net types fs all
+    → AllCameFrom ghosts (map ghosts.as_made all) now
+    → AreInFront net types fs now
+front_on net types [] [] [] are came = refl
+front_on net types [] [] (s ∷ now) are came = absurd came
+front_on net types [] (a ∷ all) now are came = absurd cc
+front_on net types (f ∷ fs) [] now are came = absurd are
+front_on net types (f ∷ fs) (a ∷ all) [] are came = absurd came
+front_on net types (f ∷ fs) (a ∷ all) (s ∷ now) are came =
+    (filter_on net types f (ghosts.as_made a) s are.0 came.0, front_on net types fs all now are.1 came.1)
+
+-- the stages up to a place, and those from there on
+came_many : (all now : List Stage) → AllCameFrom ghosts (map ghosts.as_made all) now → length now ≡ length all
+came_many [] [] came = refl
+came_many [] (s ∷ now) came = absurd came
+came_many (a ∷ all) [] came = absurd came
+came_many (a ∷ all) (s ∷ now) came = ap suc (came_many all now came.1)
+
+came_first : (n : ℕ) (all now : List Stage) → AllCameFrom ghosts (map ghosts.as_made all) now
+    → AllCameFrom ghosts (map ghosts.as_made (take n all)) (take n now)
+came_first zero all now came = tt
+came_first (suc n) [] [] came = tt
+came_first (suc n) [] (s ∷ now) came = absurd came
+came_first (suc n) (a ∷ all) [] came = absurd came
+came_first (suc n) (a ∷ all) (s ∷ now) came = (came.0, came_first n all now came.1)
+
+came_rest : (n : ℕ) (all now : List Stage) → AllCameFrom ghosts (map ghosts.as_made all) now
+    → AllCameFrom ghosts (map ghosts.as_made (drop n all)) (drop n now)
+came_rest zero all now came = came
+came_rest (suc n) [] [] came = tt
+came_rest (suc n) [] (s ∷ now) came = absurd came
+came_rest (suc n) (a ∷ all) [] came = absurd came
+came_rest (suc n) (a ∷ all) (s ∷ now) came = came_rest n all now came.1
+
+module _ (net : NetForm) (task : ℕ) where
+  front_later : (types : List SqlType) (fs : List PlacedFilter) (steps : List StepForm) (all now : List Stage)
+      → AreInFront net types fs (front_stages steps all)
+      → AllCameFrom ghosts (map ghosts.as_made all) now → AreInFront net types fs (front_stages steps now)
+  front_later types fs steps all now are came =
+      subst (λ (n : ℕ). AreInFront net types fs (take (n - length steps) now)) (sym (came_many all now came))
+      (front_on net types fs (front_stages steps all) (take (length all - length steps) now) are (came_first (length all - length steps) all now came))
+
+  steps_later : (halved between : List SqlType) (steps : List StepForm) (all now : List Stage)
+      → AreStagesFor net task halved steps between (step_stages steps all)
+      → AllCameFrom ghosts (map ghosts.as_made all) now → AreStagesFor net task halved steps between (step_stages steps now)
+  steps_later halved between steps all now are came =
+      subst (λ (n : ℕ). AreStagesFor net task halved steps between (drop (n - length steps) now)) (sym (came_many all now came))
+      (stages_on net task halved steps between (step_stages steps all) (drop (length all - length steps) now) are
+      (came_rest (length all - length steps) all now came))
+
 module _ (net : NetForm) where
   pub driver_on : (at : ℕ) (pipe : PipeForm) (task lane : ℕ) (before after : DriverState) → IsDriverOf net at pipe task lane before → IsLaterDriver before after → IsWhole after.fault
       → IsDriverOf net at pipe task lane after
   driver_on at pipe task lane before after is later whole = record {
     number = later.number ∙ is.number;
     source = source_on net at task pipe.source before.source after.source later.source is.source;
-    stages = stages_on net task (net.types at).halved pipe.steps (net.types at).taken before.stages after.stages is.stages
+    front = front_later net task (net.types at).taken (scan_filters net.layout pipe) pipe.steps before.stages after.stages is.front
+        (later.stages whole (map ghosts.as_made before.stages) (came_self before.stages));
+    stages = steps_later net task (net.types at).halved (net.types at).taken pipe.steps before.stages after.stages is.stages
         (later.stages whole (map ghosts.as_made before.stages) (came_self before.stages));
     target = target_on net at task pipe.target before.target after.target (later.target whole) is.target;
   }
@@ -308,6 +424,7 @@ module _ (net : NetForm) where
   pub drivers_on : (drivers now : List DriverState) → AreDriversOf net drivers → AreLater drivers now → All (λ e. IsWhole e.fault) now → AreDriversOf net now
   drivers_on drivers now are later whole = record {
     typed = are.typed;
+    parts = are.parts;
     count = sym (length_all_zip IsLaterDriver drivers now later) ∙ are.count;
     each = λ at pipe is task lane in_tasks in_lanes.
         let h = are.each at pipe is task lane in_tasks in_lanes in

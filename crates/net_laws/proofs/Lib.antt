@@ -16,10 +16,14 @@ pub mod LaneLemmas
 pub mod LaterLemmas
 pub mod FitLemmas
 pub mod SiftLemmas
-pub mod PlainFrontLemmas
+pub mod ThroughoutLemmas
+pub mod FilterStageLemmas
+pub mod KnownLemmas
+pub mod SieveLemmas
 pub mod StandLemmas
 pub mod EndLemmas
 pub mod PlainLemmas
+pub mod ScanLemmas
 pub mod PlanLemmas
 mod MakeLemmas
 mod LayoutLemmas

@@ -46,7 +46,7 @@ use Rattle.net_laws.proofs.TypeLemmas.{runs_typed}
 pub contains_got : {X : Type 0} (xs : List X) (i : ℕ) (x : X) → slice_get xs i ≡ Some x → Contains xs x
 contains_got xs i x is = subst (Contains xs) (get_or_from_slice_get xs i x x is) (Contains-get_or xs i x (slice_get_within xs i x is))
 
-contains_flat : {X Y : Type 0} (f : Y → List X) (ys : List Y) (y : Y) (x : X) → Contains ys y → Contains (f y) x → Contains (flat_map f ys) x
+pub contains_flat : {X Y : Type 0} (f : Y → List X) (ys : List Y) (y : Y) (x : X) → Contains ys y → Contains (f y) x → Contains (flat_map f ys) x
 contains_flat f [] y x (k, lt, same) own = absurd (omega (arith, lt))
 contains_flat f (z ∷ ys) y x (zero, lt, same) own = Contains-append_left (f z) (flat_map f ys) x (subst (λ w. Contains (f w) x) (sym same) own)
 contains_flat f (z ∷ ys) y x (suc k, lt, same) own = Contains-append_right (f z) (flat_map f ys) x (contains_flat f ys y x (k, omega (arith, lt), same) own)

@@ -1,5 +1,5 @@
 -- The drivers of a task that take from one edge together.
-use Rattle.std.proofs.Common.{◌≡◌, ℕ, ◌<◌, List, [], ◌∷◌, true, map, refl, subst, sym, ap, ◌∙◌}
+use Rattle.std.proofs.Common.{◌≡◌, ℕ, ◌<◌, List, [], ◌∷◌, true, None, map, refl, subst, sym, ap, ◌∙◌}
 use Rattle.std.specs.Prelude.{All, flat_map}
 use Rattle.std.proofs.lemmas.List.{append-nil}
 use Rattle.std.proofs.lemmas.List.Elements.{All-same}
@@ -41,7 +41,7 @@ pub remote_seats : (drivers : List DriverState) (pipe : PipeForm) (task : ℕ) �
 remote_seats drivers pipe task = map_in_task (λ (remote : RemoteState). remote.seat) remotes_in spread_takes_in (λ d. takes_seen d.source) drivers pipe task
 
 module _ (net : NetForm) (drivers : List DriverState) (flow : Flow) (at : ℕ) (pipe : PipeForm) (known : AllKnown net drivers flow at pipe)
-    (number : ℕ) (reads : pipe.source ≡ fragment number) (task : ℕ) (in_tasks : task < pipe.tasks) where
+    (number : ℕ) (reads : pipe.source ≡ fragment number) (unread : pipe.scan ≡ None) (task : ℕ) (in_tasks : task < pipe.tasks) where
   abbrev remotes : List RemoteState
   remotes = in_task remotes_in drivers pipe task
 
@@ -51,7 +51,7 @@ module _ (net : NetForm) (drivers : List DriverState) (flow : Flow) (at : ℕ) (
       subst (λ source. IsSourceFor net at task source k.driver.source) reads k.is.source
 
   no_front : (lane : ℕ) (in_lanes : lane < pipe.drivers) → front_stages pipe.steps (known task lane in_tasks in_lanes).driver.stages ≡ []
-  no_front lane in_lanes = let k = known task lane in_tasks in_lanes in none_in_front net at pipe task lane k.driver k.is
+  no_front lane in_lanes = let k = known task lane in_tasks in_lanes in none_in_front net at pipe task lane k.driver k.is unread
 
   lane_remote : (lane : ℕ) (in_lanes : lane < pipe.drivers) → of_lane remotes_in drivers pipe task lane ≡ (remote_at lane in_lanes).remote ∷ []
   lane_remote lane in_lanes =

@@ -1,5 +1,5 @@
 -- What a driver alone in its task took, and so what one took of rows of the plan.
-use Rattle.std.proofs.Common.{◌≡◌, ℕ, ◌<◌, List, [], true, subst, ap, sym, ◌∙◌, arith}
+use Rattle.std.proofs.Common.{◌≡◌, ℕ, ◌<◌, List, [], true, None, subst, ap, sym, ◌∙◌, arith}
 use Rattle.sql_values.specs.declared.types.SqlType.{SqlType}
 use Rattle.bag_laws.specs.Gather.{gather}
 use Rattle.operator_core.specs.Rows.{Row}
@@ -37,9 +37,9 @@ source_rows_hop list source are begun drained =
     (subst (λ all. Hop all are.own.given (are.own.is_ended ≡ true) (Unit {0})) are.of (rows_hop are.own.given are.own.rows are.own.is_ended own_begun own_drained))
 
 pub rows_took : (net : NetForm) (drivers : List DriverState) (flow : Flow) (at : ℕ) (pipe : PipeForm) → AllKnown net drivers flow at pipe
-    → (kinds : List SqlType) (list : List Row) → pipe.source ≡ rows kinds list → IsAlone pipe.drivers → (task : ℕ) → task < pipe.tasks
+    → (kinds : List SqlType) (list : List Row) → pipe.source ≡ rows kinds list → pipe.scan ≡ None → IsAlone pipe.drivers → (task : ℕ) → task < pipe.tasks
     → TookOf pipe.drivers ((pipe_of drivers flow at pipe).took task) ((pipe_of drivers flow at pipe).ended task) list (Unit {0})
-rows_took net drivers flow at pipe known kinds list reads alone task in_tasks =
+rows_took net drivers flow at pipe known kinds list reads unread alone task in_tasks =
     let k = known task 0 in_tasks (omega (arith, alone)) in
-    alone_took net drivers flow at pipe task alone k (none_in_front net at pipe task 0 k.driver k.is) list (Unit {0})
+    alone_took net drivers flow at pipe task alone k (none_in_front net at pipe task 0 k.driver k.is unread) list (Unit {0})
     (source_rows_hop list k.driver.source (subst (λ source. IsSourceFor net at task source k.driver.source) reads k.is.source) k.still.begun k.still.drained)

@@ -1,5 +1,5 @@
 -- The pipes of a layout that runs a plan, one below the other, stand as a net of pipes.
-use Rattle.std.proofs.Common.{◌≡◌, ◌⊎◌, inl, inr, ℕ, ◌<◌, List, [], ◌++◌, Some, true, refl, ap, sym, subst, ◌∙◌, arith}
+use Rattle.std.proofs.Common.{◌≡◌, ◌⊎◌, inl, inr, ℕ, ◌<◌, List, [], ◌++◌, None, Some, true, refl, ap, sym, subst, ◌∙◌, arith}
 use Rattle.std.specs.Prelude.{IsTrue, slice_get}
 use Rattle.std.proofs.lemmas.Bool.{eqb-true}
 use Rattle.sql_values.specs.declared.types.SqlType.{SqlType}
@@ -50,18 +50,18 @@ use Rattle.net_laws.specs.Throughout.{Throughout}
 use Rattle.net_laws.proofs.DriverLemmas.{all_known, pipe_at}
 use Rattle.net_laws.proofs.SiftLemmas.{scan_stands, scan_typed}
 use Rattle.net_laws.specs.Standing.{IsStanding, StandsOn}
-use Rattle.net_laws.specs.Tidy.{IsTidy}
+use Rattle.net_laws.specs.Tidy.{IsOwnScan, IsTidy}
 use Rattle.net_laws.proofs.FitLemmas.{gathered_fit, one_fits, sent_fits, took_fits}
 
 -- what is known of the sources of all pipes
 pub record Passes (net : NetForm) (drivers : List DriverState) (flow : Flow) : Type 0 where
   pub tables : (at : ℕ) (pipe : PipeForm) → slice_get net.layout at ≡ Some pipe → (place : ℕ) (columns : List ℕ) (kinds : List SqlType) → pipe.source ≡ form.table place columns kinds
       → TakesTable net.tables pipe.tasks pipe.drivers (rows_taken_by drivers pipe) (sources_ended drivers pipe) place columns
-  pub rows : (at : ℕ) (pipe : PipeForm) → slice_get net.layout at ≡ Some pipe → (kinds : List SqlType) (list : List Row) → pipe.source ≡ form.rows kinds list → IsAlone pipe.drivers
+  pub rows : (at : ℕ) (pipe : PipeForm) → slice_get net.layout at ≡ Some pipe → (kinds : List SqlType) (list : List Row) → pipe.source ≡ form.rows kinds list → pipe.scan ≡ None → IsAlone pipe.drivers
       → TakesRows pipe.tasks (pipe_states_of net.layout drivers flow at) list
-  pub sides : (at : ℕ) (pipe : PipeForm) → slice_get net.layout at ≡ Some pipe → pipe.source ≡ form.sides → IsAlone pipe.drivers → (i j : ℕ) → AreSides net.layout pipe.tasks at i j
+  pub sides : (at : ℕ) (pipe : PipeForm) → slice_get net.layout at ≡ Some pipe → pipe.source ≡ form.sides → pipe.scan ≡ None → IsAlone pipe.drivers → (i j : ℕ) → AreSides net.layout pipe.tasks at i j
       → TakesSides pipe.tasks (pipe_states_of net.layout drivers flow at) (pipe_states_of net.layout drivers flow i) (pipe_states_of net.layout drivers flow j)
-  pub roots : (at : ℕ) (pipe : PipeForm) → slice_get net.layout at ≡ Some pipe → (number : ℕ) → pipe.source ≡ form.fragment number
+  pub roots : (at : ℕ) (pipe : PipeForm) → slice_get net.layout at ≡ Some pipe → (number : ℕ) → pipe.source ≡ form.fragment number → pipe.scan ≡ None
       → (output : Output) (m j : ℕ) → IsRoot net.layout output m at j → IsPlainlyFetched net.layout at pipe.tasks → (run : RunPlan)
       → TakesRoot pipe.tasks (pipe_states_of net.layout drivers flow at) (output_view output) m run (pipe_states_of net.layout drivers flow j)
 
@@ -148,7 +148,11 @@ module _ (layout : List PipeForm) (tidy : IsTidy layout) where
   fetched : (own : ℕ) (pipe : PipeForm) → slice_get layout own ≡ Some pipe → (number : ℕ) → pipe.source ≡ form.fragment number → IsPlainlyFetched layout own pipe.tasks
   fetched own pipe is number reads =
       let f = tidy.fetched own pipe is (ap reads_fragment reads) in
-      record { fetched = f; plain = tidy.plain f.place f.pipe f.is (ap is_fetching f.target) }
+      record {
+        fetched = f;
+        plain = tidy.plain f.place f.pipe f.is (ap is_fetching f.target);
+        unread = subst (λ (s : SourceForm). IsOwnScan s f.pipe.scan) f.source (tidy.scans f.place f.pipe f.is);
+      }
 
 -- what a pipe took, task by task, of rows of some types
 task_typed : (types : List SqlType) (n : ℕ) (p : PipeState Stage) (put : ℕ → List Row) (Done : ℕ → Type 0)
@@ -209,7 +213,8 @@ module _ (net : NetForm) (drivers : List DriverState) (of : AreDriversOf net dri
       → PassedSoFar output m n (stopped run (P t.at)) (P own).drivers (P own).took (P own).ended
   passed n own w source output m Is o t run =
       let reads = o.takes ∙ t.is in
-      let took = passes.roots own o.pipe o.is t.number reads t.form m t.at (is_root net.layout tidy n own w source output m Is o t) (fetched net.layout tidy own o.pipe o.is t.number reads) run in
+      let unread = subst (λ (s : SourceForm). IsOwnScan s o.pipe.scan) reads (tidy.scans own o.pipe o.is) in
+      let took = passes.roots own o.pipe o.is t.number reads unread t.form m t.at (is_root net.layout tidy n own w source output m Is o t) (fetched net.layout tidy own o.pipe o.is t.number reads) run in
       subst (λ (i : ℕ). TakesRoot i (P own) output m run (P t.at)) o.tasks (subst (λ (out : plan.Output). TakesRoot o.pipe.tasks (P own) out m run (P t.at)) t.sent took)
 
   passed_typed : (types : List SqlType) (n own : ℕ) (output : plan.Output) (m at : ℕ) (run : RunPlan) → PassedSoFar output m n (stopped run (P at)) (P own).drivers (P own).took (P own).ended
@@ -243,7 +248,8 @@ module _ (net : NetForm) (drivers : List DriverState) (of : AreDriversOf net dri
       → AllFit kinds list → On sieves n (plan.values id kinds list) own w source steps r notes
   rows_on sieves n id kinds list own w source steps r notes o all =
       let reads = o.takes ∙ r.1 in
-      let took = subst (λ (i : ℕ). TakesRows i (P own) list) o.tasks (passes.rows own o.pipe o.is kinds list reads (o.drivers ∙ r.0)) in
+      let unread = subst (λ (s : SourceForm). IsOwnScan s o.pipe.scan) reads (tidy.scans own o.pipe o.is) in
+      let took = subst (λ (i : ℕ). TakesRows i (P own) list) o.tasks (passes.rows own o.pipe o.is kinds list reads unread (o.drivers ∙ r.0)) in
       record {
         stands = took;
         below = λ at within. within;
@@ -261,8 +267,9 @@ module _ (net : NetForm) (drivers : List DriverState) (of : AreDriversOf net dri
       let reads = o.takes ∙ r.1 in
       let sides = are_sides net.layout tidy n own i j o.pipe o.is reads (giver net.layout n (form.side own) i (RunsAs net.layout n left) r.3.1)
       (giver net.layout n (form.side own) j (RunsAs net.layout n right) r.4.1) r.5 in
+      let unread = subst (λ (s : SourceForm). IsOwnScan s o.pipe.scan) reads (tidy.scans own o.pipe o.is) in
       let took = subst (λ (k : ℕ). TakesSides k (P own) (P i) (P j)) o.tasks
-      (passes.sides own o.pipe o.is reads (o.drivers ∙ r.0) i j (subst (λ (k : ℕ). AreSides net.layout k own i j) (sym o.tasks) sides)) in
+      (passes.sides own o.pipe o.is reads unread (o.drivers ∙ r.0) i j (subst (λ (k : ℕ). AreSides net.layout k own i j) (sym o.tasks) sides)) in
       let types = types_of (tree_of_run left) in
       let right_gave = subst (λ (ts : List SqlType). GaveTyped ts n (P j)) (sym same) second.gave in
       record {

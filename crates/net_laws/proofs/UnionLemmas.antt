@@ -1,5 +1,5 @@
 -- What the driver of a union took of its sides.
-use Rattle.std.proofs.Common.{◌≡◌, ℕ, ◌<◌, List, [], ◌∷◌, ◌++◌, ◌⊎◌, inl, inr, true, subst, sym, ap, ◌∙◌, arith}
+use Rattle.std.proofs.Common.{◌≡◌, ℕ, ◌<◌, List, [], ◌∷◌, ◌++◌, ◌⊎◌, inl, inr, true, None, subst, sym, ap, ◌∙◌, arith}
 use Rattle.std.specs.Prelude.{All}
 use Rattle.std.proofs.lemmas.List.{map-append}
 use Rattle.bag_laws.proofs.BagLemmas.{same-append_comm, same-trans}
@@ -72,7 +72,7 @@ module _ (net : NetForm) (drivers : List DriverState) (flow : Flow) (n at place 
       lane_puts net drivers flow place giver.pipe task lane (known task lane has_task in_lanes) plan.single (net.links.gathers at task ∷ []) 0 (puts_at lane in_lanes) (omega arith))
 
 module _ (net : NetForm) (drivers : List DriverState) (flow : Flow) (at : ℕ) (pipe : PipeForm) (known : AllKnown net drivers flow at pipe)
-    (reads : pipe.source ≡ sides) (alone : IsAlone pipe.drivers) (back : SourceIsBack net drivers at pipe pipe.source) (task : ℕ) (in_tasks : task < pipe.tasks) where
+    (reads : pipe.source ≡ sides) (unread : pipe.scan ≡ None) (alone : IsAlone pipe.drivers) (back : SourceIsBack net drivers at pipe pipe.source) (task : ℕ) (in_tasks : task < pipe.tasks) where
   one : Known net drivers flow at pipe task 0
   one = known task 0 in_tasks (omega (arith, alone))
 
@@ -85,7 +85,7 @@ module _ (net : NetForm) (drivers : List DriverState) (flow : Flow) (at : ℕ) (
   took_of : (putters : List Putter) (rows : List Row) (IsDone : Type 0) → Putting putters rows IsDone → putting_seats putters ≡ puts_into net.layout drivers at task
       → TookOf pipe.drivers ((pipe_of drivers flow at pipe).took task) ((pipe_of drivers flow at pipe).ended task) rows IsDone
   took_of putters rows IsDone puts seats =
-      alone_took net drivers flow at pipe task alone one (none_in_front net at pipe task 0 one.driver one.is) rows IsDone
+      alone_took net drivers flow at pipe task alone one (none_in_front net at pipe task 0 one.driver one.is unread) rows IsDone
       (hop_closed puts.done (subst (λ put. Hop put (rows_taken one.driver.source) (has_ended one.driver.source ≡ true) (AreTold putters)) puts.given
       (local_source_hop (net.links.gathers at task) one.driver.source (subst (λ source. IsSourceFor net at task source one.driver.source) reads one.is.source)
       one.still.begun one.still.drained putters puts.keeps is_back.take own_seat (subst (λ seats. GatherCameBack seats is_back.take) (sym seats) is_back.back))))

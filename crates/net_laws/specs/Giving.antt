@@ -1,5 +1,5 @@
 -- Which pipes give their rows to one that takes them of others.
-use Rattle.std.specs.Prelude.{◌≡◌, ◌≢◌, ◌⊎◌, ℕ, List, [], true, slice_get, Some}
+use Rattle.std.specs.Prelude.{◌≡◌, ◌≢◌, ◌⊎◌, ℕ, List, [], true, slice_get, None, Some}
 use Rattle.plan_docs.specs.declared.plan.Output.{Output}
 use Rattle.plan_layout.specs.Pipes.{PipeForm, TargetForm, readers, side}
 use Rattle.plan_layout.specs.Runs.{HasFetcher}
@@ -24,7 +24,8 @@ pub record IsRoot (layout : List PipeForm) (output : Output) (m at j : ℕ) : Ty
   pub root : IsGiver layout m (readers output at) j
   pub only : (place : ℕ) (pipe : PipeForm) → slice_get layout place ≡ Some pipe → gives_to at pipe.target ≡ true → place ≡ j
 
--- another pipe fetches for the one at a place, and does no more than that
+-- another pipe fetches for the one at a place, and does no more than that: it reads no scan
 pub record IsPlainlyFetched (layout : List PipeForm) (at n : ℕ) : Type 0 where
   pub fetched : HasFetcher layout at n
   pub plain : fetched.pipe.steps ≡ []
+  pub unread : fetched.pipe.scan ≡ None

@@ -7,6 +7,7 @@ pub mod Later
 pub mod Tidy
 pub mod Throughout
 pub mod Sifted
+pub mod Filtered
 pub mod Standing
 pub mod Roots
 pub use Rattle.driver_net_laws.specs.Makes

@@ -13,28 +13,36 @@
 //!   they are the lanes of that plan, and give rows of its types; `turns_keep_drivers`, `turns_follow_turns`: what turns
 //!   leave of the drivers (`specs/Later.antt`). `specs/Along.antt` has what is said of the joins of a pipe and the bells of
 //!   their cells, `specs/Halves.antt` the first halves of operators
+//! - `filters`: `filters_know_right_sides`: what a dynamic filter in front of a scan's driver knows is the domain of the rows
+//!   of its join's right side, in all tasks
 //! - `stands`: `pipes_stand_together`: the pipes of a layout that runs a plan stand, one below the other, as a net of pipes
 //!   whose scans may have lost rows (`StandsLosing` of `sieve_laws`); `nets_give`: where all drivers are finished, the
-//!   plan's answer; `nets_fail`: where one failed, a failure of the plan. `specs/Standing.antt` says it of one pipe,
+//!   plan's answer; `nets_fail`: where one failed, a failure of the plan, and `nets_without_filters_fail`: so it is where a
+//!   stage fails and its pipe has no dynamic filter. `specs/Standing.antt` says it of one pipe,
 //!   `specs/Sifted.antt` what it asks of the stages in front of those of scans, and `specs/Throughout.antt` has what is said
 //!   of all scans and joins of a run
-//! - `plans`: the same of the layout of a consistent plan: `layouts_are_tidy`, `plans_give`, `plans_fail`.
-//!   `specs/Tidy.antt`: what is asked of a layout besides that it runs the plan
+//! - `plans`: the same of the layout of a consistent plan: `layouts_are_tidy`, `plan_filters_reach`, `plans_give`,
+//!   `plans_fail`, `plans_without_filters_fail`. `specs/Tidy.antt`: what is asked of a layout besides that it runs the plan; `specs/Filtered.antt`: what is
+//!   asked of its dynamic filters
 //! - `layouts`: `layouts_fit`: the drivers of the layout of a consistent plan can be made, over tables of the columns that
 //!   it declares: expressions have types, calls can be made, and sources can be read
 #![tactic(auto)]
 
+mod filters;
 mod lanes;
 mod layouts;
 mod plans;
 mod sources;
 mod stands;
 
+pub use filters::filters_know_right_sides;
 pub use lanes::{
     notes_follow, pipes_are_typed, pipes_give_typed_rows, pipes_stand, stages_are_made,
     turns_follow_turns, turns_keep_drivers,
 };
 pub use layouts::layouts_fit;
-pub use plans::{layouts_are_tidy, plans_fail, plans_give};
+pub use plans::{
+    layouts_are_tidy, plan_filters_reach, plans_fail, plans_give, plans_without_filters_fail,
+};
 pub use sources::{fragments_pass, rows_flowed, rows_pass, tables_pass, unions_pass};
-pub use stands::{nets_fail, nets_give, pipes_stand_together};
+pub use stands::{nets_fail, nets_give, nets_without_filters_fail, pipes_stand_together};

@@ -1,6 +1,6 @@
 //! What the drivers of a pipe took of its source. In each law the drivers are those of the layout, all of them were taken
 //! apart, and these rows flowed through them.
-ghost use Rattle.std.specs.Prelude.{◌≡◌, ℕ, List, Some, slice_get};
+ghost use Rattle.std.specs.Prelude.{◌≡◌, ℕ, List, None, Some, slice_get};
 ghost use Rattle.sql_values.specs.declared.types.SqlType.{SqlType};
 ghost use Rattle.operator_core.specs.Rows.{Row};
 ghost use Rattle.driver_loop.specs.Drivers.{DriverState};
@@ -35,13 +35,13 @@ pub fn tables_pass()
         (sources_ended drivers pipe) place columns }
 {}
 
-/// The law that so it is in each task of a pipe that takes rows of the plan there by one driver.
+/// The law that so it is in each task of a pipe, of no scan, that takes rows of the plan there by one driver.
 pub fn rows_pass()
     ensures { (net : NetForm) (drivers : List DriverState) (flow : Flow)
         → AreDriversOf net drivers → AreSettled net drivers → IsFlowOf net.layout drivers flow
         → (at : ℕ) (pipe : PipeForm) → slice_get net.layout at ≡ Some pipe
         → (kinds : List SqlType) (list : List Row) → pipe.source ≡ pipes.rows kinds list
-        → IsAlone pipe.drivers
+        → pipe.scan ≡ None → IsAlone pipe.drivers
         → TakesRows pipe.tasks (pipe_states_of net.layout drivers flow at) list }
 {}
 
@@ -51,7 +51,7 @@ pub fn unions_pass()
     ensures { (net : NetForm) (drivers : List DriverState) (flow : Flow)
         → AreDriversOf net drivers → AreSettled net drivers → IsFlowOf net.layout drivers flow
         → (at : ℕ) (pipe : PipeForm) → slice_get net.layout at ≡ Some pipe
-        → pipe.source ≡ pipes.sides → IsAlone pipe.drivers
+        → pipe.source ≡ pipes.sides → pipe.scan ≡ None → IsAlone pipe.drivers
         → (i j : ℕ) → AreSides net.layout pipe.tasks at i j
         → TakesSides pipe.tasks (pipe_states_of net.layout drivers flow at)
         (pipe_states_of net.layout drivers flow i) (pipe_states_of net.layout drivers flow j) }
@@ -63,7 +63,7 @@ pub fn fragments_pass()
     ensures { (net : NetForm) (drivers : List DriverState) (flow : Flow)
         → AreDriversOf net drivers → AreSettled net drivers → IsFlowOf net.layout drivers flow
         → (at : ℕ) (pipe : PipeForm) → slice_get net.layout at ≡ Some pipe
-        → (number : ℕ) → pipe.source ≡ pipes.fragment number
+        → (number : ℕ) → pipe.source ≡ pipes.fragment number → pipe.scan ≡ None
         → (output : Output) (m j : ℕ) → IsRoot net.layout output m at j
         → IsPlainlyFetched net.layout at pipe.tasks → (run : RunPlan)
         → TakesRoot pipe.tasks (pipe_states_of net.layout drivers flow at) (output_view output) m run

@@ -172,13 +172,17 @@ module _ {S : Type 0} (g : Ghosts S) (laws : IsLawful g) (pipes : ℕ → PipeSt
         λ k lt. hop_over (passed k lt) (λ d less. all_ended at n is k d lt less),
       )
 
-  -- the pipe of the root, with one driver
-  pub record GaveRoot (root : ℕ) (run : RunPlan) : Type 0 where
+  -- what the joins along the left sides of a pipe built, what it took, and what its drivers gave
+  pub record GaveWhole (sieves : List Sieve) (at n : ℕ) (run : RunPlan) : Type 0 where
     pub builds : List TaskRows
-    pub below : BelowLosing strict tables [] 1 (pipes root).drivers run builds (pipes root).took
-    pub went : Went strict 1 (pipes root).drivers run builds (pipes root).took (pipes root).gave
+    pub below : BelowLosing strict tables sieves n (pipes at).drivers run builds (pipes at).took
+    pub went : Went strict n (pipes at).drivers run builds (pipes at).took (pipes at).gave
 
-  pub gave_root : (root : ℕ) (run : RunPlan) → IsPipeOf g 1 run (pipes root) → StandsLosing g pipes own tables [] root 1 run (pipes root).notes → GaveRoot root run
-  gave_root root run is stands =
-      let w = whole [] root 1 is.tasks run (pipes root).notes stands in
-      record { builds = w.builds; below = w.below; went = pipe_went [] root 1 run is w }
+  pub gave_whole : (sieves : List Sieve) (at n : ℕ) (run : RunPlan) → IsPipeOf g n run (pipes at) → StandsLosing g pipes own tables sieves at n run (pipes at).notes → GaveWhole sieves at n run
+  gave_whole sieves at n run is stands =
+      let w = whole sieves at n is.tasks run (pipes at).notes stands in
+      record { builds = w.builds; below = w.below; went = pipe_went sieves at n run is w }
+
+  -- of the root's pipe
+  pub gave_root : (root : ℕ) (run : RunPlan) → IsPipeOf g 1 run (pipes root) → StandsLosing g pipes own tables [] root 1 run (pipes root).notes → GaveWhole [] root 1 run
+  gave_root root run is stands = gave_whole [] root 1 run is stands

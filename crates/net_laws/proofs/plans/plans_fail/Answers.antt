@@ -9,6 +9,7 @@ use Rattle.plan_layout.specs.Layouts.{drivers_in}
 use Rattle.plan_layout.specs.Pipes.{PipeForm}
 use Rattle.layout_laws.specs.Numbers.{AreNumbered}
 use Rattle.layout_laws.specs.Reached.{AreReached}
+use Rattle.net_laws.specs.Filtered.{FiltersReach}
 use Rattle.net_laws.specs.Tidy.{IsTidy}
 use Rattle.net_laws.proofs.PlanLemmas.{root_lone}
 use Rattle.net_laws.proofs.plans.plans_fail.Goals as goal
@@ -21,7 +22,8 @@ returns c = λ consistent p some f is net drivers laid of settled fits root lone
     let reached = subst (λ (layout : List PipeForm). AreReached layout run) (sym laid) (c.pipes_are_reached.ensures consistent p f is) in
     let tidy = subst IsTidy (sym laid) (c.layouts_are_tidy.ensures consistent p) in
     let numbered = subst (λ (layout : List PipeForm). AreNumbered (λ pipe. pipe.drivers) (λ pipe. pipe.numbers) layout (drivers_in layout)) (sym laid) (c.drivers_are_numbered.ensures p) in
+    let reaches = subst (λ (layout : List PipeForm). FiltersReach layout run) (sym laid) (c.plan_filters_reach.ensures consistent p) in
     let fits_run = subst (λ (tree : TreeForm). FitsTables tree net.tables) same fits in
     subst (λ (tree : TreeForm). MayFail tree net.tables node kind) (sym same)
     (c.nets_fail.ensures net drivers of settled tidy run fits_run (c.consistent_plans_are_placed.ensures.placed consistent p.tasks some) reached
-    (root_lone net.layout run reached root lone) numbered number d there node kind failed)
+    (root_lone net.layout run reached root lone) reaches numbered number d there node kind failed)

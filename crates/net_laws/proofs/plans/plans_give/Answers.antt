@@ -9,6 +9,7 @@ use Rattle.plan_run_laws.specs.RunPlans.{RunPlan}
 use Rattle.plan_spreads.specs.Runs.{plan_run}
 use Rattle.plan_layout.specs.Pipes.{PipeForm, driver_number}
 use Rattle.layout_laws.specs.Reached.{AreReached}
+use Rattle.net_laws.specs.Filtered.{FiltersReach}
 use Rattle.net_laws.specs.Tidy.{IsTidy}
 use Rattle.net_laws.proofs.PlanLemmas.{root_is, root_lone}
 use Rattle.net_laws.proofs.plans.plans_give.Goals as goal
@@ -21,7 +22,8 @@ returns c = λ consistent p some f is net drivers laid of settled fits root lone
     let reached = subst (λ (layout : List PipeForm). AreReached layout run) (sym laid) (c.pipes_are_reached.ensures consistent p f is) in
     let tidy = subst IsTidy (sym laid) (c.layouts_are_tidy.ensures consistent p) in
     let fits_run = subst (λ (tree : TreeForm). FitsTables tree net.tables) same fits in
+    let reaches = subst (λ (layout : List PipeForm). FiltersReach layout run) (sym laid) (c.plan_filters_reach.ensures consistent p) in
     let here = subst (λ (pipe : PipeForm). slice_get drivers (driver_number pipe 0 0) ≡ Some d) (sym (root_is net.layout run reached root lone)) there in
     subst (λ (tree : TreeForm). Gives strict tree net.tables (rows_handed d.target)) (sym same)
     (c.nets_give.ensures net drivers of settled tidy run fits_run (c.consistent_plans_are_placed.ensures.placed consistent p.tasks some) reached.at reached.root
-    (root_lone net.layout run reached root lone) finished d here)
+    (root_lone net.layout run reached root lone) reaches finished d here)

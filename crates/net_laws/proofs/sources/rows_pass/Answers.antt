@@ -7,6 +7,6 @@ use Rattle.net_laws.proofs.RowLemmas.{rows_took}
 use Rattle.net_laws.proofs.sources.rows_pass.Goals as goal
 
 pub returns : goal.returns
-returns c = λ net drivers flow are settled flowed at pipe is kinds list reads alone.
+returns c = λ net drivers flow are settled flowed at pipe is kinds list reads unread alone.
     subst (λ (p : PipeState Stage). TakesRows pipe.tasks p list) (sym (pipe_at net.layout drivers flow at pipe is))
-    (rows_took net drivers flow at pipe (all_known net drivers flow are settled flowed at pipe is) kinds list reads alone)
+    (rows_took net drivers flow at pipe (all_known net drivers flow are settled flowed at pipe is) kinds list reads unread alone)

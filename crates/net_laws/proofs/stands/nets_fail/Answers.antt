@@ -1,10 +1,10 @@
-use Rattle.driver_net_laws.specs.States.{pipe_states_of}
 use Rattle.net_laws.proofs.EndLemmas.{fails}
-use Rattle.net_laws.proofs.PlainFrontLemmas.{none, none_sifted}
+use Rattle.sieve_laws.proofs.TypedLemmas.{typed as run_typed}
+use Rattle.net_laws.proofs.SieveLemmas.{all_sifted, due, of_join}
 use Rattle.net_laws.proofs.stands.nets_fail.Goals as goal
 
 pub returns : goal.returns
-returns c = λ net drivers of settled tidy run fits placed reached lone numbered number d there node kind failed.
+returns c = λ net drivers of settled tidy run fits placed reached lone reaches numbered number d there node kind failed.
     let f = c.rows_flowed.ensures net drivers settled in
     let flow = f.0 in
     let flowed = f.1 in
@@ -14,6 +14,6 @@ returns c = λ net drivers of settled tidy run fits placed reached lone numbered
       rows = λ at pipe is. c.rows_pass.ensures net drivers flow of settled flowed at pipe is;
       sides = λ at pipe is. c.unions_pass.ensures net drivers flow of settled flowed at pipe is;
       roots = λ at pipe is. c.fragments_pass.ensures net drivers flow of settled flowed at pipe is;
-    }) none none run fits placed reached lone
-    (none_sifted net drivers of (pipe_states_of net.layout drivers flow) 1 run reached.at root.pipe.drivers root.pipe.source root.pipe.steps root.so)
+    }) (of_join net drivers) (due net drivers of settled flow flowed run reaches) run fits placed reached lone
+    (all_sifted net drivers of settled flow flowed run reaches (run_typed run net.tables fits) 1 reached.at root.pipe.drivers root.pipe.source root.pipe.steps root.so)
     node kind numbered number d there failed

@@ -1,0 +1,10 @@
+pub mod KeyLemmas
+pub mod PlacedLemmas
+pub mod ScanLemmas
+pub mod RightLemmas
+pub mod StageLemmas
+pub mod CountLemmas
+pub mod PlanLemmas
+pub mod FilterLemmas
+pub mod ReadLemmas
+pub mod NumberLemmas

@@ -1,0 +1,3 @@
+pub mod RightSides
+pub mod PlanCounts
+pub mod PlanFilters

@@ -4,10 +4,11 @@ use Rattle.driver_loop.specs.Drivers.{DriverState}
 use Rattle.driver_loop.specs.Sources.{Source}
 use Rattle.driver_loop.specs.declared.stage.Stage.{Stage}
 use Rattle.driver_loop.specs.declared.target.Target.{Target}
+use Rattle.plan_layout.specs.Filters.{scan_filters}
 use Rattle.plan_layout.specs.Pipes.{PipeForm, driver_number}
-use Rattle.driver_net_laws.specs.Nets.{AreStagesFor, IsDriverOf, IsSourceFor, IsTargetFor}
+use Rattle.driver_net_laws.specs.Nets.{IsDriverOf, IsSourceFor, IsTargetFor}
 use Rattle.net_making.specs.Slots.{IsNew}
-use Rattle.net_making.specs.Makings.{InNets}
+use Rattle.net_making.specs.Makings.{AreStagesOf, InNets}
 use Rattle.net_making.specs.declared.making.Making.{Making}
 use Rattle.seat_stocks.specs.Stocks.{AreLeft, StockForm}
 
@@ -26,13 +27,17 @@ ok_left (Err e) old new left = tt
 module _ (m : Making) (stock : StockForm) (own task : ℕ) (pipe : PipeForm) where
   pub made_for : {E : Type 0} (r : Result DriverState E) (number : ℕ) (source : Source) (stages : List Stage) (target : Target) → IfOk r (λ (d : DriverState). d ≡ driver_made number source stages target)
       → InNets m stock (λ net. IsSourceFor net own task pipe.source source)
-      → InNets m stock (λ net. AreStagesFor net task (net.types own).halved pipe.steps (net.types own).taken stages)
+      → InNets m stock (λ net. AreStagesOf net own task (scan_filters net.layout pipe) pipe.steps stages)
       → InNets m stock (λ net. IsTargetFor net own task pipe.target target)
       → IfOk r (λ (d : DriverState). (lane : ℕ) → number ≡ driver_number pipe task lane → InNets m stock (λ net. IsDriverOf net own pipe task lane d))
-  made_for (Ok d) number source stages target is takes runs gives = λ lane numbered labels labelled net for. record {
-    number = ap (λ (d : DriverState). d.number) is ∙ numbered;
-    source = subst (IsSourceFor net own task pipe.source) (sym (ap (λ (d : DriverState). d.source) is)) (takes labels labelled net for);
-    stages = subst (AreStagesFor net task (net.types own).halved pipe.steps (net.types own).taken) (sym (ap (λ (d : DriverState). d.stages) is)) (runs labels labelled net for);
-    target = subst (IsTargetFor net own task pipe.target) (sym (ap (λ (d : DriverState). d.target) is)) (gives labels labelled net for);
-  }
+  made_for (Ok d) number source stages target is takes runs gives = λ lane numbered labels labelled net for.
+      let same : stages ≡ d.stages = sym (ap (λ (d : DriverState). d.stages) is) in
+      let own_stages = subst (AreStagesOf net own task (scan_filters net.layout pipe) pipe.steps) same (runs labels labelled net for) in
+      record {
+        number = ap (λ (d : DriverState). d.number) is ∙ numbered;
+        source = subst (IsSourceFor net own task pipe.source) (sym (ap (λ (d : DriverState). d.source) is)) (takes labels labelled net for);
+        front = own_stages.front;
+        stages = own_stages.behind;
+        target = subst (IsTargetFor net own task pipe.target) (sym (ap (λ (d : DriverState). d.target) is)) (gives labels labelled net for);
+      }
   made_for (Err e) number source stages target is takes runs gives = tt

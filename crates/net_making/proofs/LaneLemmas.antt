@@ -120,6 +120,10 @@ module _ (m : Making) where
     pub all_made : CanMake m → length (layout_in m) ≤ own → count ≡ drivers_in (layout_in m) → InNets m before (λ net. AreDriversOf net drivers)
     all_made can all counted labels labelled net for = record {
       typed = subst (λ layout. PipesAreTyped layout net.types) (sym for.layout) (subst (PipesAreTyped (layout_in m)) (sym for.types) can.typed);
+      parts = λ at pipe there place less.
+          let has = can.filters at pipe (ap (λ l. slice_get l at) (sym for.layout) ∙ there) place less in
+          let own = for.filters at place has.cell has.there in
+          ap length (ap net.links.parts own.0 ∙ own.1) ∙ has.count;
       count = sym (length-map drivers Some) ∙ ap length (sym are) ∙ made.grown.count ∙ length-replicate count None ∙ counted ∙ ap drivers_in (sym for.layout);
       each = λ at pipe there task lane few within. slot_driver net drivers slots at pipe task lane are
           (each (λ at (pipe : PipeForm). Tasks at pipe pipe.tasks slots net) (layout_in m) own all (made.added labels labelled net for) at pipe (ap (λ l. slice_get l at) (sym for.layout) ∙ there) task lane few within);

@@ -5,4 +5,6 @@ pub mod PutLemmas
 pub mod SlotLemmas
 pub mod NetLemmas
 pub mod LaneLemmas
+pub mod StageLemmas
+pub mod BuildLemmas
 pub mod DriverLemmas

@@ -1,5 +1,6 @@
 //! A driver of its parts.
 ghost use Rattle.std.specs.Prelude.{◌≡◌, ℕ, Some, slice_get, IfOk, OnOk};
+ghost use Rattle.plan_layout.specs.Filters.{scan_filters};
 ghost use Rattle.plan_layout.specs.Pipes.{driver_number, pipe_view};
 ghost use Rattle.driver_net_laws.specs.Nets.{IsDriverOf};
 ghost use Rattle.seat_stocks.specs.Stocks.{AreLeft};
@@ -8,15 +9,15 @@ ghost use Rattle.net_making.specs.Slots.{IsNew};
 
 use crate::making::Making;
 use crate::source::source_of;
+use crate::stages::stages_for;
 use crate::target::target_of;
 use driver_loop::Driver;
-use pipe_stages::stages_of;
-use plan_layout::Pipe;
+use plan_layout::{Pipe, PlacedFilter};
 use run_ports::Courier;
 use seat_stocks::Stock;
 use sql_values::Memory;
 
-/// A driver of the pipe at the place `own`, in a task, of this number.
+/// A driver of the pipe at the place `own`, in a task, of this number, with the filters of its scan.
 pub(crate) fn driver_of<'w, C: Courier>(
     making: &Making<'_, 'w>,
     stock: &mut Stock<'w>,
@@ -24,27 +25,20 @@ pub(crate) fn driver_of<'w, C: Courier>(
     pipe: &Pipe<'_>,
     task: u32,
     number: u32,
+    filters: &[PlacedFilter],
     courier: &C,
 ) -> Result<Driver<'w, C>, Memory>
     requires can { CanMake making.now }
     requires stocked { IsStocked making.now stock.old }
     requires there { slice_get (layout_in making.now) own ≡ Some (pipe_view pipe.now) }
+    requires filters { filters.now ≡ scan_filters (layout_in making.now) (pipe_view pipe.now) }
     ensures left { OnOk result (AreLeft stock.old stock.new) }
     ensures fresh { IfOk result IsNew }
     ensures is { IfOk result (λ d. (lane : ℕ) → number ≡ driver_number (pipe_view pipe.now) task lane
         → InNets making.now stock.old (λ net. IsDriverOf net own (pipe_view pipe.now) task lane d)) }
 {
     let source = source_of(making, stock, own, task, pipe.source, courier)?;
-    let steps = pipe.steps.as_slice();
-    let stages = stages_of(
-        making.alloc,
-        making.types,
-        making.cells,
-        own,
-        task,
-        steps,
-        making.page,
-    )?;
+    let stages = stages_for(making, own, task, filters, pipe.steps.as_slice())?;
     let target = target_of(making, stock, own, task, pipe.target)?;
     Driver::new(making.alloc, number, source, stages, target)
 }

@@ -1,5 +1,5 @@
 //! What the drivers of a layout are made of.
-use pipe_stages::{JoinCells, PipeTypes};
+use pipe_stages::{FilterCells, JoinCells, PipeTypes};
 use plan_layout::Pipe;
 use seat_stocks::Lanes;
 use sql_values::Table;
@@ -13,6 +13,7 @@ pub(crate) struct Making<'a, 'w> {
     pub types: &'a [PipeTypes],
     pub tables: &'w [Table],
     pub cells: &'a JoinCells<'w>,
+    pub filters: &'a FilterCells<'w>,
     pub lanes: &'a Lanes,
     /// The most rows of a split, at least 1.
     pub split: u32,

@@ -1,5 +1,5 @@
 //! The drivers of a laid out plan.
-ghost use Rattle.std.specs.Prelude.{◌<◌, ◌≤◌, ℕ, map, IfOk};
+ghost use Rattle.std.specs.Prelude.{◌<◌, ◌≤◌, ℕ, All, map, IfOk, IsTrue};
 ghost use Rattle.tree_evaluator.specs.Fits.{TablesFit};
 ghost use Rattle.tree_evaluator.specs.Stops.{rows_of_table};
 ghost use Rattle.plan_layout.specs.Pipes.{pipe_view};
@@ -7,15 +7,15 @@ ghost use Rattle.plan_wiring.specs.Handed.{AreUnused};
 ghost use Rattle.plan_wiring.specs.Wirings.{IsWiringOf, share_view};
 ghost use Rattle.driver_net_laws.specs.Makes.{LayoutFits};
 ghost use Rattle.driver_net_laws.specs.Types.{PipesAreTyped, PipeTypes};
-ghost use Rattle.net_making.specs.Makings.{AreFew};
+ghost use Rattle.net_making.specs.Makings.{AreFew, HasTask};
 ghost use Rattle.net_making.specs.Nets.{IsNewNetOf};
 
-use crate::cells::cells_of;
+use crate::cells::{cells_of, filter_cells_of};
 use crate::making::Making;
 use crate::pipes::make_all;
 use driver_loop::Driver;
 use pipe_stages::types_of_pipes;
-use plan_layout::Layout;
+use plan_layout::{Layout, Pipe};
 use plan_wiring::Wiring;
 use run_ports::Courier;
 use seat_stocks::{Lanes, Stock};
@@ -24,7 +24,7 @@ use std::alloc::Global;
 
 /// The drivers of a layout over its tables, by their numbers. The wiring was made for these. Splits have at most `split`
 /// rows and pages at most `page`, and couriers deliver under the number `replay`. Where the types of pipes do not fit
-/// together, that is answered with want of memory.
+/// together, or one has no task, that is answered with want of memory.
 pub fn drivers_of<'w, C: Courier>(
     alloc: Global,
     layout: &Layout<'_>,
@@ -47,10 +47,14 @@ pub fn drivers_of<'w, C: Courier>(
         (map rows_of_table tables.now) split drivers.items) }
 {
     let pipes = layout.pipes.as_slice();
+    if !have_tasks(pipes) {
+        return Err(Memory);
+    }
     let types = types_of_pipes(alloc, pipes)?;
     let lanes = Lanes::of(alloc, pipes)?;
     let seats = wiring.seats(alloc)?;
     let cells = cells_of(alloc, seats.as_slice())?;
+    let filters = filter_cells_of(alloc, seats.as_slice())?;
     let stock = Stock::of(alloc, seats)?;
     let making = Making {
         alloc,
@@ -58,10 +62,18 @@ pub fn drivers_of<'w, C: Courier>(
         types: types.as_slice(),
         tables,
         cells: &cells,
+        filters: &filters,
         lanes: &lanes,
         split,
         page,
         replay,
     };
     make_all(&making, stock, courier)
+}
+
+/// Whether each pipe has a task.
+fn have_tasks(pipes: &[Pipe<'_>]) -> bool
+    ensures { IsTrue result → All (λ pipe. HasTask (pipe_view pipe)) pipes.now }
+{
+    pipes.iter().all(|pipe| pipe.tasks > 0)
 }

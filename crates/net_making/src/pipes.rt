@@ -1,5 +1,6 @@
 //! The drivers of all pipes.
 ghost use Rattle.std.specs.Prelude.{◌≡◌, ◌<◌, ◌+◌, ◌*◌, ℕ, All, Some, map, slice_get, IfOk, OnOk};
+ghost use Rattle.plan_layout.specs.Filters.{scan_filters};
 ghost use Rattle.plan_layout.specs.Layouts.{drivers_in};
 ghost use Rattle.plan_layout.specs.Pipes.{pipe_view};
 ghost use Rattle.driver_net_laws.specs.Nets.{AreDriversOf};
@@ -11,7 +12,7 @@ use crate::driver::driver_of;
 use crate::making::Making;
 use crate::slots::Slots;
 use driver_loop::Driver;
-use plan_layout::Pipe;
+use plan_layout::{Pipe, PlacedFilter, scan_filters};
 use run_ports::Courier;
 use seat_stocks::Stock;
 use sql_values::Memory;
@@ -75,25 +76,37 @@ fn add_pipe<'w, C: Courier>(
         (λ net. (task lane : ℕ) → task < (pipe_view pipe.now).tasks → lane < (pipe_view pipe.now).drivers
         → HasSlot net slots.new own (pipe_view pipe.now) task lane)) }
 {
+    let filters = scan_filters(making.alloc, making.pipes, pipe)?;
     for task in 0..pipe.tasks {
-        add_task(making, stock, own, pipe, task, slots, courier)?;
+        add_task(
+            making,
+            stock,
+            own,
+            pipe,
+            task,
+            filters.as_slice(),
+            slots,
+            courier,
+        )?;
     }
     Ok(())
 }
 
-/// Adds its drivers in a task.
+/// Adds its drivers in a task, with the filters of its scan.
 fn add_task<'w, C: Courier>(
     making: &Making<'_, 'w>,
     stock: &mut Stock<'w>,
     own: usize,
     pipe: &Pipe<'_>,
     task: u32,
+    filters: &[PlacedFilter],
     slots: &mut Slots<Driver<'w, C>>,
     courier: &C,
 ) -> Result<(), Memory>
     requires can { CanMake making.now }
     requires stocked { IsStocked making.now stock.old }
     requires there { slice_get (layout_in making.now) own ≡ Some (pipe_view pipe.now) }
+    requires filters { filters.now ≡ scan_filters (layout_in making.now) (pipe_view pipe.now) }
     ensures left { OnOk result (AreLeft stock.old stock.new) }
     ensures grown { OnOk result (HaveGrown slots.old slots.new) }
     ensures added { OnOk result (InNets making.now stock.old
@@ -104,7 +117,7 @@ fn add_task<'w, C: Courier>(
         let number = pipe.number(task, lane)?;
         slots.put(
             number,
-            driver_of(making, stock, own, pipe, task, number, courier)?,
+            driver_of(making, stock, own, pipe, task, number, filters, courier)?,
         )?;
     }
     Ok(())

@@ -5,23 +5,23 @@ ghost use Rattle.output_buffer.specs.Seats.{GatherPutState, new_gather_put};
 ghost use Rattle.driver_ends.specs.Targets.{FitsKind};
 ghost use Rattle.driver_loop.specs.Ends.{target_made};
 ghost use Rattle.plan_layout.specs.Pipes as form;
-ghost use Rattle.plan_layout.specs.Pipes.{build_view, cell, pipe_view, readers, side, takers, target_view};
+ghost use Rattle.plan_layout.specs.Pipes.{pipe_view, readers, side, takers, target_view};
 ghost use Rattle.plan_spreads.specs.Runs.{output_view};
 ghost use Rattle.source_laws.specs.Edges.{output_of};
-ghost use Rattle.driver_net_laws.specs.Nets.{IsTargetFor, NetForm, right_columns, tasks_at};
+ghost use Rattle.driver_net_laws.specs.Nets.{IsTargetFor, NetForm, tasks_at};
 ghost use Rattle.seat_stocks.specs.Labels.{IsLabelled, Labels};
 ghost use Rattle.seat_stocks.specs.Lanes.{lane_at};
 ghost use Rattle.seat_stocks.specs.Stocks.{AreLeft};
-ghost use Rattle.net_making.specs.Makings.{InNets, IsNetFor, IsStocked};
+ghost use Rattle.net_making.specs.Makings.{InNets, IsStocked};
 
+use crate::builds::build_target;
 use crate::making::Making;
 use driver_ends::{DealTarget, PutKind, PutTarget};
-use driver_loop::{BuildTarget, ResultTarget, Target};
-use hash_join::LookupBuilder;
+use driver_loop::{ResultTarget, Target};
 use output_buffer::{GatherPut, Partitioner};
 use pipe_stages::given_at;
-use plan_docs::{Output, Pair};
-use plan_layout::{BuildSide, Pipe, PipeTarget};
+use plan_docs::Output;
+use plan_layout::{Pipe, PipeTarget};
 use plan_trees::copy_types;
 use seat_stocks::Stock;
 use sql_values::Memory;
@@ -57,40 +57,6 @@ fn result_target<'w>(making: &Making<'_, 'w>, own: usize) -> Result<Target<'w>, 
 {
     let types = copy_types(making.alloc, given_at(making.types, own))?;
     Ok(Target::Result(ResultTarget::new(making.alloc, types)))
-}
-
-/// What a join looks up, in the pipe's own cell. Where its rows have no column, that is answered with want of memory.
-fn build_target<'w>(
-    making: &Making<'_, 'w>,
-    own: usize,
-    task: u32,
-    build: BuildSide<'_>,
-) -> Result<Target<'w>, Memory>
-    ensures fresh { IfOk result (λ target. target_made target ≡ target) }
-    ensures is { IfOk result (λ target. (labels : Labels) (net : NetForm) → IsNetFor making.now labels net
-        → IsTargetFor net own task (cell (build_view build.entry)) target) }
-{
-    let Some(cell) = making.cells.get(own, task) else {
-        return Err(Memory);
-    };
-    let types = Vec::from_slice(making.alloc, given_at(making.types, own))?;
-    if types.is_empty() {
-        return Err(Memory);
-    }
-    let keys = right_columns(making.alloc, build.on.as_slice())?;
-    let builder = LookupBuilder::new(making.alloc, keys, types)?;
-    Ok(Target::Build(BuildTarget::new(builder, cell, Vec::new(making.alloc))))
-}
-
-/// The right columns of pairs.
-fn right_columns(alloc: Global, on: &[Pair]) -> Result<Vec<u32>, Memory>
-    ensures { IfOk result (λ columns. columns.items ≡ right_columns on.now) }
-{
-    let mut columns = Vec::with_capacity(alloc, on.len())?;
-    for pair in on {
-        columns.push(pair.right)?;
-    }
-    Ok(columns)
 }
 
 /// The edge of the union at a place, in the own task.

@@ -2,3 +2,4 @@ pub mod EachLemmas
 pub mod TypeLemmas
 pub mod StageLemmas
 pub mod StepLemmas
+pub mod FrontLemmas

@@ -1,52 +1,58 @@
-//! The cells in which joins look.
+//! The cells in which pipes publish.
 ghost use Rattle.std.specs.Prelude.{◌≡◌, ◌++◌, ◌∷◌, [], OnOk, MatchOption, None, Some};
 ghost use Rattle.pipe_stages.specs.Cells.{cell_at};
 
+use dyn_filter::FilterCell;
 use hash_join::LookupCell;
 use sql_values::Memory;
 use std::alloc::Global;
 use std::marker::Model;
 
-/// The cells in which pipes publish, by the place of the pipe and then by tasks.
+/// Cells by the place of the pipe that publishes in them, and then by a place of their own.
 #[derive(Drop)]
-pub struct JoinCells<'w> {
-    pipes: Vec<&'w [LookupCell]>,
+pub struct CellTable<'w, C> {
+    pipes: Vec<&'w [C]>,
 }
 
-impl<'w> Model for JoinCells<'w> {
-    ghost use Rattle.std.specs.Prelude.{List, map};
-    ghost use Rattle.hash_join.specs.Cells.{CellState};
+/// The cells of joins, those of a pipe by tasks.
+pub type JoinCells<'w> = CellTable<'w, LookupCell>;
 
-    ghost Value = { List (List CellState) };
+/// The cells of dynamic filters, those of a pipe by the places of the filters in its join.
+pub type FilterCells<'w> = CellTable<'w, FilterCell>;
+
+impl<'w, C> Model for CellTable<'w, C> {
+    ghost use Rattle.std.specs.Prelude.{List, map};
+
+    ghost Value = { List (List C) };
 
     ghost view = { λ cells. map (λ own. own.now) cells.pipes.items };
 }
 
-impl<'w> JoinCells<'w> {
+impl<'w, C> CellTable<'w, C> {
     /// None yet.
-    pub fn new(alloc: Global) -> JoinCells<'w>
+    pub fn new(alloc: Global) -> CellTable<'w, C>
         ensures { result ≡ [] }
     {
-        JoinCells {
+        CellTable {
             pipes: Vec::new(alloc),
         }
     }
 
     /// Appends those of the next pipe.
-    pub fn push(&mut self, cells: &'w [LookupCell]) -> Result<(), Memory>
+    pub fn push(&mut self, cells: &'w [C]) -> Result<(), Memory>
         ensures { OnOk result (self.new ≡ self.old ++ cells.now ∷ []) }
     {
         self.pipes.push(cells)?;
         Ok(())
     }
 
-    /// That of the pipe at a place in a task.
-    pub fn get(&self, at: usize, task: u32) -> Option<&'w LookupCell>
-        ensures { MatchOption result (cell_at self.now at task ≡ None)
-            (λ cell. cell_at self.now at task ≡ Some cell.now) }
+    /// That of the pipe at a place, at a place of its own.
+    pub fn get(&self, at: usize, place: usize) -> Option<&'w C>
+        ensures { MatchOption result (cell_at self.now at place ≡ None)
+            (λ cell. cell_at self.now at place ≡ Some cell.now) }
     {
         match self.pipes.get(at) {
-            Some(cells) => cells.get(task as usize),
+            Some(cells) => cells.get(place),
             None => None,
         }
     }

@@ -13,15 +13,18 @@
 //! Each stage stands as it was made, and is that of its step over rows of the types that come there: `AreStagesFor` of
 //! `driver_net_laws`, for whatever net has these types and these cells.
 //!
-//! - `cells`: the cells in which joins look (`specs/Cells.antt`)
+//! - `cells`: the cells of joins, and of dynamic filters (`specs/Cells.antt`)
 //! - `rows`: filters and projects. `orders`: sorts, top rows and limits. `groups`: aggregates and their halves. `probes`: the
 //!   probes of joins
 //! - `step`: the stage of a step
 //! - `stages`: `stages_of`, those of all steps
+//! - `fronts`: `front_stages`, those in front of them: one for each dynamic filter of the scan, `AreInFront` of
+//!   `driver_net_laws`
 #![tactic(auto)]
 
 mod agree;
 mod cells;
+mod fronts;
 mod groups;
 mod orders;
 mod pipes;
@@ -33,7 +36,8 @@ mod step;
 mod steps;
 mod table;
 
-pub use cells::JoinCells;
+pub use cells::{CellTable, FilterCells, JoinCells};
+pub use fronts::front_stages;
 pub use pipes::types_of_pipes;
 pub use stages::stages_of;
 pub use steps::types_after;

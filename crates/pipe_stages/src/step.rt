@@ -41,7 +41,7 @@ pub(crate) fn stage_of<'w>(
     match step {
         PipeStep::Filter(id, predicate) => filter_stage(alloc, id, predicate, between),
         PipeStep::Project(id, columns) => project_stage(alloc, id, columns.as_slice(), between),
-        PipeStep::Probe(_, kind, on, at) => match cells.get(at, task) {
+        PipeStep::Probe(_, kind, on, at) => match cells.get(at, task as usize) {
             Some(cell) => probe_stage(alloc, kind, on.as_slice(), cell, between, page),
             None => Err(Memory),
         },

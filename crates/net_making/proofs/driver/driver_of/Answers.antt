@@ -1,9 +1,10 @@
-use Rattle.std.proofs.Common.{List, ℕ, ap, map, subst, sym}
-use Rattle.plan_layout.specs.Pipes.{StepForm, pipe_view, step_view}
+use Rattle.std.proofs.Common.{List, ap, map, subst, sym}
+use Rattle.plan_layout.specs.declared.filters.PlacedFilter.{PlacedFilter}
+use Rattle.plan_layout.specs.Filters.{scan_filters}
+use Rattle.plan_layout.specs.Pipes.{PipeForm, StepForm, pipe_view, step_view}
 use Rattle.driver_net_laws.specs.Makes.{StepsFit}
-use Rattle.driver_net_laws.specs.Nets.{AreStagesFor, IsTargetFor}
-use Rattle.driver_net_laws.specs.Types.{PipeTypes}
-use Rattle.net_making.specs.Makings.{typing_in}
+use Rattle.driver_net_laws.specs.Nets.{IsTargetFor}
+use Rattle.net_making.specs.Makings.{AreStagesOf, typing_in}
 use Rattle.net_making.proofs.DriverLemmas.{made_for, made_new, ok_left}
 use Rattle.net_making.proofs.StockLemmas.{left_then, nets_left, stocked_left}
 use Rattle.net_making.proofs.driver.driver_of.Goals as goal
@@ -11,10 +12,10 @@ use Rattle.net_making.proofs.driver.driver_of.Goals as goal
 pub source_of-requires-clause-fits : goal.source_of-requires-clause-fits
 source_of-requires-clause-fits g c = (c.requires.can.fits c.args.own (pipe_view c.args.pipe.now) c.requires.there).source
 
-pub stages_of-requires-clause-fits : goal.stages_of-requires-clause-fits
-stages_of-requires-clause-fits g c =
+pub stages_for-requires-clause-fits : goal.stages_for-requires-clause-fits
+stages_for-requires-clause-fits g c =
     let types = typing_in c.args.making.now in
-    subst (λ (steps : List StepForm). StepsFit types (types c.args.own).halved steps (types c.args.own).taken) (ap (map step_view) (sym c.as_slice-steps.ensures.value))
+    subst (λ (steps : List StepForm). StepsFit types (types c.args.own).halved steps (types c.args.own).taken) (ap (map step_view) (sym c.as_slice.ensures.value))
     (c.requires.can.fits c.args.own (pipe_view c.args.pipe.now) c.requires.there).steps
 
 pub target_of-requires : goal.target_of-requires
@@ -35,10 +36,11 @@ returns-clause-is g c =
     let task = c.args.task in
     let pipe = pipe_view c.args.pipe.now in
     let stages = c.in_ok-stages.stages.items in
+    let steps = ap (map step_view) c.as_slice.ensures.value in
     made_for m c.args.stock.now own task pipe c.new.result c.args.number c.in_ok-source.source stages c.in_ok-target.target c.new.ensures
     c.in_ok-source.ensures.is
     (λ labels labelled net for.
-    subst (λ (steps : List StepForm). AreStagesFor net task (net.types own).halved steps (net.types own).taken stages) (ap (map step_view) c.as_slice-steps.ensures.value)
-    (subst (λ (types : ℕ → PipeTypes). AreStagesFor net task (types own).halved (map step_view c.as_slice-steps.result.now) (types own).taken stages) (sym for.types)
-    (c.in_ok-stages.ensures.are net for.types for.cells)))
+    subst (λ (layout : List PipeForm). AreStagesOf net own task (scan_filters layout pipe) pipe.steps stages) (sym for.layout)
+    (subst (λ (filters : List PlacedFilter). AreStagesOf net own task filters pipe.steps stages) c.requires.filters
+    (subst (λ (steps : List StepForm). AreStagesOf net own task c.args.filters.now steps stages) steps (c.in_ok-stages.ensures.are labels net for))))
     (nets_left m c.args.stock.now c.source_of.new.stock (λ net. IsTargetFor net own task pipe.target c.in_ok-target.target) c.in_ok-source.ensures.left c.in_ok-target.ensures.is)

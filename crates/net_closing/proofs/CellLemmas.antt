@@ -1,6 +1,8 @@
 -- Drivers of a net know each cell by its bell.
-use Rattle.std.proofs.Common.{◌≡◌, ◌<◌, ◌∙◌, ℕ, List, [], ◌∷◌, length, refl, sym, subst, ap}
+use Rattle.std.proofs.Common.{◌≡◌, ◌-◌, ◌<◌, ◌++◌, ◌∙◌, ℕ, List, [], ◌∷◌, length, refl, sym, subst, ap}
 use Rattle.std.specs.Prelude.{All, flat_map, slice_get}
+use Rattle.std.proofs.lemmas.Grind.{flat_map-append}
+use Rattle.std.proofs.lemmas.List.{take-append-drop}
 use Rattle.std.proofs.lemmas.List.Elements.{All-append, All-cons, All-nil}
 use Rattle.std.proofs.lemmas.Option.{same_Some, slice_get_within}
 use Rattle.sql_values.specs.declared.types.SqlType.{SqlType}
@@ -13,8 +15,10 @@ use Rattle.driver_loop.specs.declared.target.Target.{Target}
 use Rattle.driver_loop.specs.declared.target.Target.TheVariants.{Build, Deal, Put, Result}
 use Rattle.driver_net_laws.specs.Cells.{AreNamed, cell_of, cells_of, target_cell}
 use Rattle.driver_net_laws.specs.Stages.{ProbesFor}
+use Rattle.plan_layout.specs.declared.filters.PlacedFilter.{PlacedFilter}
+use Rattle.plan_layout.specs.Filters.{scan_filters}
 use Rattle.plan_layout.specs.Pipes.{PipeForm, StepForm, TargetForm, filter, project, probe, aggregate, partial, final, sort, top_n, limit, result, cell, side, readers, takers}
-use Rattle.driver_net_laws.specs.Nets.{AreDriversOf, AreStagesFor, IsDriverOf, IsResultTarget, IsStageFor, IsTargetFor, NetForm}
+use Rattle.driver_net_laws.specs.Nets.{AreDriversOf, AreInFront, AreStagesFor, IsDriverOf, IsResultTarget, IsStageFor, IsTargetFor, NetForm, front_stages, step_stages}
 use Rattle.driver_net_laws.specs.Types.{types_after}
 use Rattle.net_closing.specs.Covered.{IsCovered}
 use Rattle.net_closing.proofs.PipeLemmas.{all_flat}
@@ -62,6 +66,12 @@ module _ (net : NetForm) where
       All-append Holds (cell_of s) (flat_map cell_of stages) (stage_named task halved step between (types_after net.types halved step between) s are.0)
       (stages_named task halved steps (types_after net.types halved step between) stages are.1)
 
+  front_named : (types : List SqlType) (fs : List PlacedFilter) (stages : List Stage) → AreInFront net types fs stages → All Holds (flat_map cell_of stages)
+  front_named types [] stages are = subst (λ (ss : List Stage). All Holds (flat_map cell_of ss)) (sym are) (All-nil Holds)
+  front_named types (f ∷ fs) [] are = absurd are
+  front_named types (f ∷ fs) (s ∷ stages) are =
+      All-append Holds (cell_of s) (flat_map cell_of stages) (apart_named s (ap cell_of are.0.is)) (front_named types fs stages are.1)
+
   result_named : (target : Target) → IsResultTarget target → All Holds (target_cell target)
   result_named (Build b) is = absurd is
   result_named (Put put) is = absurd is
@@ -79,8 +89,15 @@ module _ (net : NetForm) where
 
   driver_named : (at : ℕ) (pipe : PipeForm) (task lane : ℕ) (d : DriverState) → IsDriverOf net at pipe task lane d → All Holds (cells_of d)
   driver_named at pipe task lane d is =
+      let front = front_stages pipe.steps d.stages in
+      let rest = step_stages pipe.steps d.stages in
+      let all : front ++ rest ≡ d.stages = take-append-drop (length d.stages - length pipe.steps) d.stages in
       All-append Holds (flat_map cell_of d.stages) (target_cell d.target)
-      (stages_named task (net.types at).halved pipe.steps (net.types at).taken d.stages is.stages) (target_named at task pipe.target d.target is.target)
+      (subst (λ (ss : List Stage). All Holds (flat_map cell_of ss)) all
+      (subst (All Holds) (sym (flat_map-append cell_of front rest))
+      (All-append Holds (flat_map cell_of front) (flat_map cell_of rest) (front_named (net.types at).taken (scan_filters net.layout pipe) front is.front)
+      (stages_named task (net.types at).halved pipe.steps (net.types at).taken rest is.stages))))
+      (target_named at task pipe.target d.target is.target)
 
   pub drivers_named : (drivers : List DriverState) → AreDriversOf net drivers → ((number : ℕ) → number < length drivers → IsCovered net.layout number) → AreNamed drivers
   drivers_named drivers are covered = (

@@ -14,8 +14,9 @@ use Rattle.driver_loop.specs.declared.target.Target.{Target}
 use Rattle.driver_loop.specs.declared.target.Target.TheVariants.{Build, Deal, Put, Result}
 use Rattle.driver_net_laws.specs.Cells.{AreNamed, AreOfCells, Names, cell_of, cells_of, target_cell}
 use Rattle.driver_net_laws.specs.Settled.{builds_of, looks_of}
-use Rattle.net_closing.specs.Closing.{HaveKept, IsOneIf}
+use Rattle.net_closing.specs.Closing.{AreNone, HaveKept, IsOneIf}
 use Rattle.net_closing.specs.declared.notes.Notes.{Notes}
+use Rattle.net_closing.proofs.NoteLemmas.{all_pairs}
 
 -- the cells of notes are those of their stages and targets
 abbrev pub cell_noted : CellNote → ℕ × ℕ
@@ -72,32 +73,16 @@ module _ (names : Names) where
       (All-back Holds (flat_map cell_of d.stages) (target_cell d.target) (All-front Holds (cells_of d) (flat_map cells_of ds) all))))
       (builds_named ds (All-back Holds (cells_of d) (flat_map cells_of ds) all))
 
-one_of_cells : (names : Names) (look : CellNote) (builds : List CellNote) → look.note.cell ≡ names look.bell → All (λ (n : CellNote). n.note.cell ≡ names n.bell) builds
-    → All (λ (build : CellNote). build.bell ≡ look.bell → build.note.cell ≡ look.note.cell) builds
-one_of_cells names look [] own all = All-nil (λ (build : CellNote). build.bell ≡ look.bell → build.note.cell ≡ look.note.cell)
-one_of_cells names look (b ∷ builds) own all =
-    All-cons (λ (build : CellNote). build.bell ≡ look.bell → build.note.cell ≡ look.note.cell) b builds
-    (λ same. All-head (λ (n : CellNote). n.note.cell ≡ names n.bell) b builds all ∙ ap names same ∙ sym own)
-    (one_of_cells names look builds own (All-tail (λ (n : CellNote). n.note.cell ≡ names n.bell) b builds all))
-
-all_of_cells : (names : Names) (looks builds : List CellNote) → All (λ (n : CellNote). n.note.cell ≡ names n.bell) looks → All (λ (n : CellNote). n.note.cell ≡ names n.bell) builds
-    → AreOfCells looks builds
-all_of_cells names [] builds own all = All-nil (λ (look : CellNote). All (λ (build : CellNote). build.bell ≡ look.bell → build.note.cell ≡ look.note.cell) builds)
-all_of_cells names (l ∷ looks) builds own all =
-    All-cons (λ (look : CellNote). All (λ (build : CellNote). build.bell ≡ look.bell → build.note.cell ≡ look.note.cell) builds) l looks
-    (one_of_cells names l builds (All-head (λ (n : CellNote). n.note.cell ≡ names n.bell) l looks own) all)
-    (all_of_cells names looks builds (All-tail (λ (n : CellNote). n.note.cell ≡ names n.bell) l looks own) all)
-
 -- notes of drivers with the same bell are of one cell
-pub of_cells : (ds : List DriverState) → AreNamed ds → AreOfCells (looks_of ds) (builds_of ds)
-of_cells ds (names, all) = all_of_cells names (looks_of ds) (builds_of ds) (looks_named names ds all) (builds_named names ds all)
+of_cells : (ds : List DriverState) → AreNamed ds → AreOfCells (looks_of ds) (builds_of ds)
+of_cells ds (names, all) = all_pairs (λ (n : CellNote). n.note.cell ≡ names n.bell) (λ (look build : CellNote). build.bell ≡ look.bell → build.note.cell ≡ look.note.cell) (looks_of ds) (builds_of ds)
+    (λ look build own other same. other ∙ ap names same ∙ sym own) (looks_named names ds all) (builds_named names ds all)
 
 -- and so are all notes that were kept
-pub kept_of_cells : (ds : List DriverState) (old new : Notes) → AreNamed ds → old.looks.items ≡ [] → old.builds.items ≡ [] → HaveKept old new (looks_of ds) (builds_of ds)
-    → AreOfCells new.looks.items new.builds.items
-kept_of_cells ds old new named none empty kept =
-    let looks : new.looks.items ≡ looks_of ds = kept.looks ∙ ap (λ (ns : List CellNote). ns ++ looks_of ds) none in
-    let builds : new.builds.items ≡ builds_of ds = kept.builds ∙ ap (λ (ns : List CellNote). ns ++ builds_of ds) empty in
+pub kept_of_cells : (ds : List DriverState) (old new : Notes) → AreNamed ds → AreNone old → HaveKept old new ds → AreOfCells new.looks.items new.builds.items
+kept_of_cells ds old new named none kept =
+    let looks : new.looks.items ≡ looks_of ds = kept.looks ∙ ap (λ (ns : List CellNote). ns ++ looks_of ds) none.looks in
+    let builds : new.builds.items ≡ builds_of ds = kept.builds ∙ ap (λ (ns : List CellNote). ns ++ builds_of ds) none.builds in
     subst (λ (ls : List CellNote). AreOfCells ls new.builds.items) (sym looks) (subst (AreOfCells (looks_of ds)) (sym builds) (of_cells ds named))
 
 -- of a target that builds there is one note, and of another one none

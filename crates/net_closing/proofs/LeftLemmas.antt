@@ -5,6 +5,7 @@ use Rattle.std.proofs.lemmas.List.{map-append}
 use Rattle.std.specs.declared.alloc.Global.{Global}
 use Rattle.std.specs.declared.vec.Vec.{Vec}
 use Rattle.driver_loop.specs.Drivers.{DriverState}
+use Rattle.driver_loop.specs.Turns.{passed_of}
 use Rattle.driver_net_laws.specs.Settled.{claims_in, deals_in, gather_takes_in, listed, of_number, spread_takes_in}
 use Rattle.net_closing.specs.Held.{HoldsNoMore, held, seat_at, seat_in}
 use Rattle.net_closing.specs.Left.{AreAllOf, AreLeft, ArePartsOf, HasGained, HasMore, HoldsAll, at_place, handed_in, outlets_of}
@@ -62,4 +63,5 @@ parts_more done d old new all more = record {
   puts = all_more outlets_of done d old.puts.items new.puts.items all.puts more.puts;
   deals = all_more deals_in done d old.deals.items new.deals.items all.deals more.deals;
   rows = all_more handed_in done d old.rows.items new.rows.items all.rows more.rows;
+  passed = more.passed ∙ ap (λ (counts : List (List ℕ)). counts ++ passed_of d ∷ []) all.passed ∙ sym (map-append passed_of done (d ∷ []));
 }

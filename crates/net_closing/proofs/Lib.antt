@@ -10,4 +10,7 @@ pub mod EdgeLemmas
 pub mod BackLemmas
 pub mod CellLemmas
 pub mod CellNoteLemmas
+pub mod FilterNoteLemmas
+pub mod FilterCellLemmas
+pub mod CountLemmas
 pub mod CloseLemmas

@@ -7,7 +7,8 @@ use Rattle.output_buffer.specs.Seats.{GatherPutState}
 use Rattle.driver_loop.specs.Drivers.{DriverState}
 use Rattle.driver_loop.specs.Ends.{rows_handed}
 use Rattle.driver_loop.specs.Seats.{puts_of}
-use Rattle.driver_net_laws.specs.Settled.{WasTakenApart, builds_of, claims_in, deals_in, gather_takes_in, listed, looks_of, of_number, spread_takes_in}
+use Rattle.driver_loop.specs.Turns.{passed_of}
+use Rattle.driver_net_laws.specs.Settled.{WasTakenApart, claims_in, deals_in, gather_takes_in, listed, of_number, spread_takes_in}
 use Rattle.net_closing.specs.Closing.{HaveKept}
 use Rattle.net_closing.specs.Held.{lists_of, seat_at}
 use Rattle.net_closing.specs.declared.notes.Notes.{Notes}
@@ -43,6 +44,13 @@ StayParts old new = (drivers : List DriverState) → ArePartsOf drivers old → 
 abbrev pub HoldsAll : {X : Type 0} → (DriverState → List X) → List DriverState → List (Vec (Option X) Global) → Type 0
 HoldsAll of drivers rows = lists_of rows ≡ map (λ (d : DriverState). map Some (of d)) drivers
 
+abbrev pub counts_held : List (Vec ℕ Global) → List (List ℕ)
+counts_held rows = map (λ (row : Vec ℕ Global). row.items) rows
+
+-- how many rows passed each dynamic filter is there, of all drivers in their order
+abbrev pub HoldsPassed : List DriverState → List (Vec ℕ Global) → Type 0
+HoldsPassed drivers rows = counts_held rows ≡ map passed_of drivers
+
 pub record AreAllOf (drivers : List DriverState) (parts : Parts) : Type 0 where
   pub claims : HoldsAll claims_in drivers parts.claims.items
   pub gather_takes : HoldsAll gather_takes_in drivers parts.gather_takes.items
@@ -50,6 +58,7 @@ pub record AreAllOf (drivers : List DriverState) (parts : Parts) : Type 0 where
   pub puts : HoldsAll outlets_of drivers parts.puts.items
   pub deals : HoldsAll deals_in drivers parts.deals.items
   pub rows : HoldsAll handed_in drivers parts.rows.items
+  pub passed : HoldsPassed drivers parts.passed.items
 
 -- what the driver has came behind the others
 abbrev pub HasMore : {X : Type 0} → (DriverState → List X) → List (Vec (Option X) Global) → DriverState → List (Vec (Option X) Global) → Type 0
@@ -62,9 +71,10 @@ pub record HasGained (old : Parts) (d : DriverState) (new : Parts) : Type 0 wher
   pub puts : HasMore outlets_of old.puts.items d new.puts.items
   pub deals : HasMore deals_in old.deals.items d new.deals.items
   pub rows : HasMore handed_in old.rows.items d new.rows.items
+  pub passed : counts_held new.passed.items ≡ counts_held old.passed.items ++ passed_of d ∷ []
 
 -- drivers were taken apart
 pub record WereTaken (drivers : List DriverState) (old new : Notes) (parts : Parts) : Type 0 where
   pub each : All WasTakenApart drivers
-  pub kept : HaveKept old new (looks_of drivers) (builds_of drivers)
+  pub kept : HaveKept old new drivers
   pub all : AreAllOf drivers parts

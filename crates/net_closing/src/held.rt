@@ -2,6 +2,7 @@
 ghost use Rattle.std.specs.Prelude.{◌≡◌, ◌++◌, ◌∷◌, [], ℕ, Some, IfOk, OnOk, map, slice_get};
 ghost use Rattle.net_closing.specs.Held.{HoldsNoMore, held, lists_of, seat_at};
 ghost use Rattle.driver_net_laws.specs.Settled.{listed};
+ghost use Rattle.net_closing.specs.Left.{counts_held};
 
 use sql_values::Memory;
 use std::alloc::Global;
@@ -47,6 +48,14 @@ pub(crate) fn hold_one<T: Drop>(
         row.push(seat)?;
     }
     rows.push(row)?;
+    Ok(())
+}
+
+/// Holds how many rows passed each dynamic filter of one more driver.
+pub(crate) fn hold_counts(rows: &mut Vec<Vec<u64>>, counts: Vec<u64>) -> Result<(), Memory>
+    ensures { OnOk result (counts_held rows.new.items ≡ counts_held rows.old.items ++ counts.items ∷ []) }
+{
+    rows.push(counts)?;
     Ok(())
 }
 

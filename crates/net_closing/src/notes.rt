@@ -1,80 +1,108 @@
-//! What is known of cells from drivers that were taken apart.
-ghost use Rattle.std.specs.Prelude.{◌≡◌, ◌++◌, List, true, All, OnOk};
-ghost use Rattle.driver_net_laws.specs.Cells.{AllLearnedFrom, AreOfCells, LearnedFrom};
-ghost use Rattle.net_closing.specs.Closing.{HaveKept, IsOneIf};
+//! The notes of drivers that were taken apart.
+ghost use Rattle.std.specs.Prelude.{◌≡◌, ◌++◌, ◌∷◌, [], List, true, OnOk, filter, not};
+ghost use Rattle.driver_net_laws.specs.Cells.{AllLearnedFrom, AreOfCells};
+ghost use Rattle.driver_net_laws.specs.FilterCells.{AllPartsLearnedFrom, AreOfFilterCells};
+ghost use Rattle.net_closing.specs.Closing.{AreNone, IsOneIf, publishes};
 
-use driver_loop::CellNote;
+use crate::follow::all_follow;
+use driver_loop::{CellNote, FilterCellNote};
 use sql_values::Memory;
+use std::alloc::Global;
 
 /// The notes of drivers that were taken apart.
 #[derive(Drop)]
 pub(crate) struct Notes {
-    /// Of those who look into a cell.
+    /// Of those who look into the cell of a join.
     pub(crate) looks: Vec<CellNote>,
     /// Of those who publish in one.
     pub(crate) builds: Vec<CellNote>,
+    /// Of those who look into the cell of a dynamic filter.
+    pub(crate) filter_looks: Vec<FilterCellNote>,
+    /// Of those who publish in a part of one.
+    pub(crate) filter_builds: Vec<FilterCellNote>,
+}
+
+/// None.
+pub(crate) fn no_notes(alloc: Global) -> Notes
+    ensures { AreNone result }
+{
+    Notes {
+        looks: Vec::new(alloc),
+        builds: Vec::new(alloc),
+        filter_looks: Vec::new(alloc),
+        filter_builds: Vec::new(alloc),
+    }
 }
 
 /// Keeps the notes of a driver; that of a target which builds is the last one.
 pub(crate) fn keep_notes(
-    notes: &mut Notes,
+    looks: &mut Vec<CellNote>,
+    builds: &mut Vec<CellNote>,
     mut lookups: Vec<CellNote>,
     is_build: bool,
 ) -> Result<(), Memory>
-    ensures { OnOk result ((stages target : List CellNote) → lookups.items ≡ stages ++ target
-        → IsOneIf is_build target → HaveKept notes.old notes.new stages target) }
+    ensures looks { OnOk result ((stages target : List CellNote) → lookups.items ≡ stages ++ target
+        → IsOneIf is_build target → looks.new.items ≡ looks.old.items ++ stages) }
+    ensures builds { OnOk result ((stages target : List CellNote) → lookups.items ≡ stages ++ target
+        → IsOneIf is_build target → builds.new.items ≡ builds.old.items ++ target) }
 {
     if !is_build {
-        notes.looks.append(&mut lookups)?;
+        looks.append(&mut lookups)?;
         return Ok(());
     }
     let Some(own) = lookups.pop() else {
         return Ok(());
     };
-    notes.builds.push(own)?;
-    notes.looks.append(&mut lookups)?;
+    builds.push(own)?;
+    looks.append(&mut lookups)?;
     Ok(())
 }
 
-/// Whether those who publish know all that those who look into the same cells know.
-pub(crate) fn all_follow(looks: &mut Vec<CellNote>, builds: &mut Vec<CellNote>) -> bool
-    requires { AreOfCells looks.old.items builds.old.items }
-    ensures { result ≡ true → AllLearnedFrom looks.old.items builds.old.items }
+/// Keeps the notes of the dynamic filters of a driver: those of its target have a part.
+pub(crate) fn keep_filters(
+    looks: &mut Vec<FilterCellNote>,
+    builds: &mut Vec<FilterCellNote>,
+    filters: Vec<FilterCellNote>,
+) -> Result<(), Memory>
+    ensures looks { OnOk result
+        (looks.new.items ≡ looks.old.items ++ filter (λ n. not (publishes n)) filters.items) }
+    ensures builds { OnOk result
+        (builds.new.items ≡ builds.old.items ++ filter publishes filters.items) }
 {
-    for place in 0..looks.len() {
-        if !all_follow_one(&mut looks[place], builds) {
-            return false;
-        }
+    for note in filters {
+        keep_filter(looks, builds, note)?;
     }
-    true
+    Ok(())
 }
 
-/// Whether those who publish know all that one who looks knows.
-fn all_follow_one(look: &mut CellNote, builds: &mut Vec<CellNote>) -> bool
-    requires { All (λ (build : CellNote). build.bell ≡ look.old.bell → build.note.cell ≡ look.old.note.cell)
-        builds.old.items }
-    ensures look { look.new ≡ look.old }
-    ensures builds { builds.new.items ≡ builds.old.items }
-    ensures follow { result ≡ true → All (LearnedFrom look.old) builds.old.items }
+/// Keeps one of them.
+fn keep_filter(
+    looks: &mut Vec<FilterCellNote>,
+    builds: &mut Vec<FilterCellNote>,
+    note: FilterCellNote,
+) -> Result<(), Memory>
+    ensures looks { OnOk result
+        (looks.new.items ≡ looks.old.items ++ filter (λ n. not (publishes n)) (note ∷ [])) }
+    ensures builds { OnOk result
+        (builds.new.items ≡ builds.old.items ++ filter publishes (note ∷ [])) }
 {
-    for place in 0..builds.len() {
-        if !follows(look, &mut builds[place]) {
-            return false;
-        }
+    if note.part.is_some() {
+        builds.push(note)?;
+    } else {
+        looks.push(note)?;
     }
-    true
+    Ok(())
 }
 
-/// Whether one who publishes knows what one who looks knows, and as its own, where it is the same cell.
-fn follows(look: &mut CellNote, build: &mut CellNote) -> bool
-    requires { build.old.bell ≡ look.old.bell → build.old.note.cell ≡ look.old.note.cell }
-    ensures look { look.new ≡ look.old }
-    ensures build { build.new ≡ build.old }
-    ensures follows { result ≡ true → LearnedFrom look.old build.old }
+/// Whether those who publish know all that those who look into the same cells know, of joins and of dynamic filters.
+pub(crate) fn are_followed(notes: &mut Notes) -> bool
+    requires joins { AreOfCells notes.old.looks.items notes.old.builds.items }
+    requires filters { AreOfFilterCells notes.old.filter_looks.items notes.old.filter_builds.items }
+    ensures joins { result ≡ true
+        → AllLearnedFrom notes.old.looks.items notes.old.builds.items }
+    ensures filters { result ≡ true
+        → AllPartsLearnedFrom notes.old.filter_looks.items notes.old.filter_builds.items }
 {
-    if build.bell != look.bell {
-        return true;
-    }
-    look.note.agree(&mut build.note);
-    !look.note.knows() || build.note.knows() && build.note.refused() == 0
+    all_follow(&mut notes.looks, &mut notes.builds)
+        && all_follow(&mut notes.filter_looks, &mut notes.filter_builds)
 }

@@ -1,12 +1,12 @@
 //! Drivers are taken apart.
 ghost use Rattle.std.specs.Prelude.{◌≡◌, ◌++◌, ◌∷◌, [], All, IfOk, OnOk, flat_map};
 ghost use Rattle.driver_loop.specs.Drivers.{IsWhole};
-ghost use Rattle.driver_net_laws.specs.Settled.{WasTakenApart, builds_of, looks_of};
+ghost use Rattle.driver_net_laws.specs.Settled.{WasTakenApart};
 ghost use Rattle.net_closing.specs.Closing.{AreWholeDrivers, HaveKept};
 ghost use Rattle.net_closing.specs.Left.{HasGained, WereTaken};
 
-use crate::held::{hold_all, hold_one};
-use crate::notes::{Notes, keep_notes};
+use crate::held::{hold_all, hold_counts, hold_one};
+use crate::notes::{Notes, keep_filters, keep_notes};
 use driver_loop::{Driver, Pieces};
 use operator_core::HeldPages;
 use output_buffer::{GatherPut, GatherTake, SpreadPut, SpreadTake};
@@ -15,7 +15,8 @@ use split_source::ClaimSeat;
 use sql_values::Memory;
 use std::alloc::Global;
 
-/// The seats of drivers, and the rows that their targets were given for the result, by the numbers of the drivers.
+/// The seats of drivers, the rows that their targets were given for the result, and how many rows passed their dynamic
+/// filters, by the numbers of the drivers.
 #[derive(Drop)]
 pub(crate) struct Parts<'w> {
     pub(crate) claims: Vec<Vec<Option<ClaimSeat<'w>>>>,
@@ -25,6 +26,7 @@ pub(crate) struct Parts<'w> {
     pub(crate) puts: Vec<Vec<Option<GatherPut<'w>>>>,
     pub(crate) deals: Vec<Vec<Option<SpreadPut<'w>>>>,
     pub(crate) rows: Vec<Vec<Option<HeldPages>>>,
+    pub(crate) passed: Vec<Vec<u64>>,
 }
 
 /// Takes the drivers apart, in their order.
@@ -43,6 +45,7 @@ pub(crate) fn take_all<'w, C: Courier>(
         puts: Vec::new(alloc),
         deals: Vec::new(alloc),
         rows: Vec::new(alloc),
+        passed: Vec::new(alloc),
     };
     for driver in drivers {
         take_apart(alloc, driver, &mut parts, notes)?;
@@ -59,7 +62,7 @@ fn take_apart<'w, C: Courier>(
 ) -> Result<(), Memory>
     requires { IsWhole driver.fault }
     ensures still { OnOk result (WasTakenApart driver.entry) }
-    ensures kept { OnOk result (HaveKept notes.old notes.new (looks_of (driver.entry ∷ [])) (builds_of (driver.entry ∷ []))) }
+    ensures kept { OnOk result (HaveKept notes.old notes.new (driver.entry ∷ [])) }
     ensures gained { OnOk result (HasGained parts.old driver.entry parts.new) }
 {
     driver.keeps();
@@ -72,6 +75,8 @@ fn take_apart<'w, C: Courier>(
         deal,
         rows,
         lookups,
+        filters,
+        passed,
         ..
     } = driver.stop();
     hold_one(alloc, &mut parts.claims, claim)?;
@@ -80,6 +85,8 @@ fn take_apart<'w, C: Courier>(
     hold_all(alloc, &mut parts.puts, puts)?;
     hold_one(alloc, &mut parts.deals, deal)?;
     hold_one(alloc, &mut parts.rows, Some(rows))?;
-    keep_notes(notes, lookups, is_build)?;
+    hold_counts(&mut parts.passed, passed)?;
+    keep_notes(&mut notes.looks, &mut notes.builds, lookups, is_build)?;
+    keep_filters(&mut notes.filter_looks, &mut notes.filter_builds, filters)?;
     Ok(())
 }

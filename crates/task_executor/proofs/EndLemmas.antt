@@ -1,9 +1,9 @@
 -- What follows of a run once its drivers were taken apart.
 use Rattle.std.proofs.Common.{Result, ◌≡◌, ℕ, ◌<◌, zero, suc, List, [], ◌∷◌, length, get_or, Option, Some, None, refl, ap, sym, ◌∙◌, subst, arith}
-use Rattle.std.specs.Prelude.{All, MatchResult, slice_get, option_map, true, unwrap_or}
+use Rattle.std.specs.Prelude.{All, IfOk, MatchResult, slice_get, option_map, true, unwrap_or}
 use Rattle.sql_values.specs.declared.fail.Fail.{Fail}
 use Rattle.operator_core.specs.Rows.{Row}
-use Rattle.driver_loop.specs.Drivers.{DriverState, HasFailed, IsWhole}
+use Rattle.driver_loop.specs.Drivers.{DriverState, IsWhole}
 use Rattle.driver_loop.specs.Ends.{rows_handed}
 use Rattle.driver_loop.specs.declared.run_fault.RunFault.{RunFault}
 use Rattle.driver_loop.specs.declared.run_fault.RunFault.TheVariants.{ExprFailed, Memory}
@@ -29,6 +29,7 @@ use Rattle.net_making.specs.Slots.{IsNew}
 use Rattle.task_executor.specs.Nets.{FailsFor, IsNetOf, IsOverTables, NetState, layout_in, plan_in}
 use Rattle.task_executor.specs.declared.answer.RunDone.{RunDone}
 use Rattle.net_closing.specs.Closing.{AreWholeDrivers}
+use Rattle.task_executor.specs.Passed.{HavePassed, Settles}
 use Rattle.task_executor.specs.Turns.{AreFailing, AreFinished, AreUnfailed}
 
 -- what the laws of nets say of the plan
@@ -44,10 +45,7 @@ FailsSo plan =
     IsConsistent plan → (p : Parallelism) → 0 < p.tasks → (f : FragmentForm) → slice_get plan.fragments 0 ≡ Some f → (net : NetForm) (drivers : List DriverState)
     → net.layout ≡ layout_of p plan → AreDriversOf net drivers → AreSettled net drivers → FitsTables (tree_of plan) net.tables
     → (root : PipeForm) → IsLoneRoot net.layout root → (number : ℕ) (d : DriverState) → slice_get drivers number ≡ Some d
-    → (node : ℕ) (kind : Fail) → HasFailed d node kind → MayFail (tree_of plan) net.tables node kind
-
-abbrev Settles : List PipeForm → List DriverState → Type 0
-Settles layout drivers = (net : NetForm) → net.layout ≡ layout → AreDriversOf net drivers → AreSettled net drivers
+    → (node : ℕ) (kind : Fail) → d.fault ≡ Some (ExprFailed node kind) → MayFail (tree_of plan) net.tables node kind
 
 -- the driver whose rows were handed over
 record HandedBy (drivers : List DriverState) (number : ℕ) (given : List Row) : Type 0 where
@@ -124,3 +122,7 @@ pub of_plan : (plan : PlanForm) (tables : Tables) (net seen : NetState) (answer 
 of_plan plan tables net seen answer same is says =
     subst (λ (p : PlanForm). MatchResult answer (λ done. Allows (tree_of p) tables done.rows) (FailsFor (tree_of p) tables))
     (ap (λ (n : NetState). (plan_in n)) (sym same) ∙ is.of) says
+
+-- what passed the filters of a net's drivers
+pub passed_of_net : (net seen : NetState) (answer : Result RunDone RunFault) → net ≡ seen → IfOk answer (λ done. HavePassed seen done.passed) → IfOk answer (λ done. HavePassed net done.passed)
+passed_of_net net seen answer same passed = subst (λ (n : NetState). IfOk answer (λ done. HavePassed n done.passed)) (sym same) passed

@@ -2,3 +2,4 @@ mod LaterLemmas
 mod TurnLemmas
 mod EndLemmas
 mod WaitLemmas
+mod PassedLemmas

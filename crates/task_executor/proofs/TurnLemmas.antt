@@ -1,5 +1,5 @@
 -- One of some drivers had a turn.
-use Rattle.std.proofs.Common.{Result, Ok, Err, ◌≡◌, ℕ, zero, suc, ◌<◌, List, [], ◌∷◌, None, length, get_or, refl, sym, subst, arith}
+use Rattle.std.proofs.Common.{Result, Ok, Err, ◌≡◌, ℕ, zero, suc, ◌<◌, List, [], ◌∷◌, None, Some, length, get_or, refl, sym, subst, arith}
 use Rattle.std.specs.Prelude.{Contains, MatchResult, slice_set}
 use Rattle.std.proofs.lemmas.List.Elements.{All-cons, All-head, All-nil, All-tail}
 use Rattle.driver_loop.specs.Drivers.{DriverState, IsWhole}
@@ -8,7 +8,7 @@ use Rattle.driver_loop.specs.declared.run_fault.RunFault.TheVariants.{ExprFailed
 use Rattle.net_laws.specs.Later.{AreLater, IsLaterDriver}
 use Rattle.net_laws.proofs.LaterLemmas.{later_same}
 use Rattle.net_closing.specs.Closing.{AreWholeDrivers}
-use Rattle.task_executor.specs.Turns.{AreFailing, AreUnfailed, IsFailing}
+use Rattle.task_executor.specs.Turns.{AreFailing, AreUnfailed}
 use Rattle.task_executor.proofs.LaterLemmas.{all_same}
 
 pub later_at : (ds : List DriverState) (k : ℕ) (e d : DriverState) → k < length ds → e ≡ get_or ds k e → IsLaterDriver e d → AreLater ds (slice_set ds k d)
@@ -43,12 +43,12 @@ contains_at (e ∷ ds) (suc k) d lt =
     let c = contains_at ds k d (omega (arith, lt)) in
     let more : suc c.0 < length (e ∷ slice_set ds k d) = omega (arith, c.1) in (suc c.0, more, c.2)
 
-failing_at : (ds : List DriverState) (k : ℕ) (d : DriverState) (fault : RunFault) → k < length ds → AreUnfailed ds → IsFailing d fault → AreFailing (slice_set ds k d) fault
+failing_at : (ds : List DriverState) (k : ℕ) (d : DriverState) (fault : RunFault) → k < length ds → AreUnfailed ds → d.fault ≡ Some fault → AreFailing (slice_set ds k d) fault
 failing_at ds k d (ExprFailed node kind) lt all failing =
-    (whole_at ds k d all (subst IsWhole (sym failing.0) tt), (d, contains_at ds k d lt, failing.1))
+    (whole_at ds k d all (subst IsWhole (sym failing) tt), (d, contains_at ds k d lt, failing))
 failing_at ds k d Memory lt all failing = tt
 
-pub served : (r : Result (Unit {0}) RunFault) (ds : List DriverState) (k : ℕ) (d : DriverState) → k < length ds → AreUnfailed ds → MatchResult r (λ x. d.fault ≡ None) (IsFailing d)
+pub served : (r : Result (Unit {0}) RunFault) (ds : List DriverState) (k : ℕ) (d : DriverState) → k < length ds → AreUnfailed ds → MatchResult r (λ x. d.fault ≡ None) (λ fault. d.fault ≡ Some fault)
     → MatchResult r (λ x. AreUnfailed (slice_set ds k d)) (AreFailing (slice_set ds k d))
 served (Ok done) ds k d lt all none = unfailed_at ds k d all none
 served (Err fault) ds k d lt all failing = failing_at ds k d fault lt all failing

@@ -2,4 +2,5 @@ pub mod RunBells
 pub mod Shapes
 pub mod Turns
 pub mod Nets
+pub mod Passed
 pub mod Waits

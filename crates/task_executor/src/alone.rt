@@ -1,5 +1,5 @@
 //! A run on one thread.
-ghost use Rattle.std.specs.Prelude.{◌≡◌, ◌<◌, List, None, false, true, length, IfOk, IfSome, MatchResult};
+ghost use Rattle.std.specs.Prelude.{◌≡◌, ◌<◌, List, None, Some, false, true, length, IfOk, IfSome, MatchResult};
 ghost use Rattle.plan_docs.specs.Plans.{PlanForm};
 ghost use Rattle.plan_reader.specs.Trees.{tree_of};
 ghost use Rattle.plan_trees.specs.Allowed.{Allows};
@@ -7,7 +7,8 @@ ghost use Rattle.operator_core.specs.Rows.{Row};
 ghost use Rattle.net_laws.specs.Later.{AreLater, IsLaterDriver};
 ghost use Rattle.task_executor.specs.Nets.{FailsFor, IsNetOf};
 ghost use Rattle.net_closing.specs.Closing.{AreWholeDrivers};
-ghost use Rattle.task_executor.specs.Turns.{AreFailing, AreFinished, AreUnfailed, IsFailing};
+ghost use Rattle.task_executor.specs.Passed.{HavePassed};
+ghost use Rattle.task_executor.specs.Turns.{AreFailing, AreFinished, AreUnfailed};
 
 use crate::answer::{RunDone, answer_of};
 use crate::net::Net;
@@ -34,8 +35,9 @@ pub fn run_alone<R, C>(
 where
     R: Threads + Wait + Sync + RandomSource + AllocGlobal,
     C: Courier,
-    ensures { (plan : PlanForm) (tables : List (List Row)) → IsNetOf plan tables net.entry
+    ensures answer { (plan : PlanForm) (tables : List (List Row)) → IsNetOf plan tables net.entry
         → MatchResult result (λ done. Allows (tree_of plan) tables done.rows) (FailsFor (tree_of plan) tables) }
+    ensures passed { IfOk result (λ done. HavePassed net.entry done.passed) }
 {
     let Net {
         plan,
@@ -177,7 +179,8 @@ fn give_turn<R: Threads + Wait + Sync, C: Courier>(
 ) -> Result<(), RunFault>
     requires { (driver.old.is_finished ≡ false) × (driver.old.fault ≡ None) }
     ensures later { IsLaterDriver driver.old driver.new }
-    ensures done { MatchResult result (λ _. driver.new.fault ≡ None) (IsFailing driver.new) }
+    ensures done { MatchResult result (λ _. driver.new.fault ≡ None)
+        (λ fault. driver.new.fault ≡ Some fault) }
 {
     let mut cx = solo.begin();
     let turn = driver.turn(rt, quantum, &mut cx, bells);

@@ -1,5 +1,5 @@
 //! What a net gives whose drivers had their turns.
-ghost use Rattle.std.specs.Prelude.{◌≡◌, List, None, Some, IfSome, MatchResult};
+ghost use Rattle.std.specs.Prelude.{◌≡◌, List, None, Some, IfOk, IfSome, MatchResult};
 ghost use Rattle.plan_docs.specs.Plans.{plan_view};
 ghost use Rattle.plan_reader.specs.Trees.{tree_of};
 ghost use Rattle.plan_trees.specs.Allowed.{Allows};
@@ -9,11 +9,12 @@ ghost use Rattle.driver_loop.specs.declared.run_fault.RunFault.{RunFault};
 ghost use Rattle.net_laws.specs.Later.{AreLater};
 ghost use Rattle.task_executor.specs.Nets.{FailsFor, IsNetOf, IsOverTables};
 ghost use Rattle.net_closing.specs.Closing.{AreWholeDrivers};
+ghost use Rattle.task_executor.specs.Passed.{HavePassed};
 ghost use Rattle.task_executor.specs.Turns.{AreFailing, AreFinished};
 
 use crate::result::rows_of;
 use driver_loop::{Driver, RunFault, Stage};
-use net_closing::close;
+use net_closing::{Closed, PassedList, close};
 use net_laws::{plans_fail, plans_give};
 use plan_layout::Pipe;
 use plan_reader::Plan;
@@ -26,6 +27,8 @@ use std::marker::PhantomData;
 #[derive(Drop)]
 pub struct RunDone {
     pub rows: RowList,
+    /// How many rows passed each dynamic filter that is waited for, by ascending id.
+    pub passed: PassedList,
 }
 
 /// Takes the drivers of a net apart after their turns: gives the rows of the result, where all are finished, or the
@@ -43,23 +46,26 @@ pub(crate) fn answer_of<C: Courier>(
     requires whole { AreWholeDrivers drivers.items }
     requires finished { failed ≡ None → AreFinished drivers.items }
     requires failing { IfSome failed (AreFailing drivers.items) }
-    ensures { (before : List DriverState) (tables : List (List Row))
+    ensures answer { (before : List DriverState) (tables : List (List Row))
         → IsNetOf (plan_view plan.now) tables (record { plan = plan.now; pipes = pipes.now; drivers = before })
         → AreLater before drivers.entry.items
         → MatchResult result (λ done. Allows (tree_of (plan_view plan.now)) tables done.rows)
         (FailsFor (tree_of (plan_view plan.now)) tables) }
+    ensures passed { (before : List DriverState) → AreLater before drivers.entry.items
+        → IfOk result (λ done. HavePassed (record { plan = plan.now; pipes = pipes.now; drivers = before }) done.passed) }
 {
     operator_core::laws::laws::<Stage<'_>>(PhantomData);
     plans_give(plan, PhantomData);
     plans_fail(plan, PhantomData);
-    let Ok(pages) = close(alloc, pipes, drivers) else {
+    let Ok(closed) = close(alloc, pipes, drivers) else {
         return Err(RunFault::Memory);
     };
     if let Some(fault) = failed {
         return Err(fault);
     }
-    let Ok(rows) = rows_of(alloc, pages) else {
+    let Closed { rows, passed } = closed;
+    let Ok(rows) = rows_of(alloc, rows) else {
         return Err(RunFault::Memory);
     };
-    Ok(RunDone { rows })
+    Ok(RunDone { rows, passed })
 }

@@ -8,8 +8,10 @@
 //! - `pooled`: a driver as workers share it, which meets another when it has its first turn
 //! - `run_bells`: the bells of a run on one thread, which count their rings
 //! - `answer`: what a net gives whose drivers had their turns. Where it is rows, the plan's tree allows them over the
-//!   tables; where an expression failed, its node may fail with this kind
+//!   tables, and with them comes how many rows passed the dynamic filters (`specs/Passed.antt`); where an expression failed,
+//!   its node may fail with this kind
 //! - `result`: the rows of a result, as one list
+//! - `passed`: the law that these counts are what the plan's filters allow
 //!
 //! A run is of any plan that was read, in any number of fragments, tasks and drivers. What its drivers are made of stands
 //! below (`net_making`), and so does how they are taken apart (`net_closing`) and why that is the plan's answer
@@ -19,6 +21,7 @@
 mod alone;
 mod answer;
 mod net;
+mod passed;
 mod pooled;
 mod result;
 mod run_bells;
@@ -30,6 +33,8 @@ pub use alone::run_alone;
 pub use answer::RunDone;
 pub use driver_loop::RunFault;
 pub use net::Net;
+pub use net_closing::{FilterPassed, PassedList};
+pub use passed::counts_are_allowed;
 pub use shape::Shape;
 pub use wiring::Wiring;
 pub use workers::run_workers;

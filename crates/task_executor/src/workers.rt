@@ -9,6 +9,7 @@ ghost use Rattle.driver_loop.specs.Drivers.{DriverState, IsWhole};
 ghost use Rattle.net_laws.specs.Later.{AreLater};
 ghost use Rattle.task_executor.specs.Nets.{FailsFor, IsNetOf};
 ghost use Rattle.net_closing.specs.Closing.{AreWholeDrivers};
+ghost use Rattle.task_executor.specs.Passed.{HavePassed};
 ghost use Rattle.task_executor.specs.Turns.{AreFailing, AreFinished};
 
 use crate::answer::{RunDone, answer_of};
@@ -37,8 +38,9 @@ where
     R: Threads + Wait + Sync + RandomSource + AllocGlobal,
     C: Courier + Send,
     M: Meet + Sync,
-    ensures { (plan : PlanForm) (tables : List (List Row)) → IsNetOf plan tables net.entry
+    ensures answer { (plan : PlanForm) (tables : List (List Row)) → IsNetOf plan tables net.entry
         → MatchResult result (λ done. Allows (tree_of plan) tables done.rows) (FailsFor (tree_of plan) tables) }
+    ensures passed { IfOk result (λ done. HavePassed net.entry done.passed) }
 {
     let Net {
         plan,
@@ -118,7 +120,6 @@ fn fault_at<C: Courier>(
     if place >= drivers.len() {
         return Err(Memory);
     }
-    drivers[place].keeps();
     match drivers[place].fault() {
         Some(fault) => Ok(Some(fault)),
         None => Err(Memory),

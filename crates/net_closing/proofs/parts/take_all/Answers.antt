@@ -10,7 +10,8 @@ pub loop-driver-init : goal.loop-driver-init
 loop-driver-init g c = (
   [],
   c.into_iter-driver-iterator.ensures.into_iter_gives.0,
-  none_taken c.args.notes.now _ c.new.ensures.items c.new-2.ensures.items c.new-3.ensures.items c.new-4.ensures.items c.new-5.ensures.items c.new-6.ensures.items,
+  none_taken c.args.notes.now _ c.new.ensures.items c.new-2.ensures.items c.new-3.ensures.items c.new-4.ensures.items c.new-5.ensures.items c.new-6.ensures.items
+      c.new-7.ensures.items,
 )
 
 pub loop-driver-preserved : goal.loop-driver-preserved

@@ -1,11 +1,16 @@
 use Rattle.std.proofs.Common.{sym}
-use Rattle.task_executor.proofs.EndLemmas.{of_plan, own}
+use Rattle.task_executor.proofs.EndLemmas.{of_plan, own, passed_of_net}
 use Rattle.task_executor.proofs.workers.run_workers.Goals as goal
 
 pub answer_of-requires-clause-net : goal.answer_of-requires-clause-net
 answer_of-requires-clause-net g c = (c.net.inside.drivers.items, c.net.invariant.tables, c.net.invariant.over, c.in-Ok.ensures.later)
 
-pub returns : goal.returns
-returns g c plan tables is =
+pub returns-clause-answer : goal.returns-clause-answer
+returns-clause-answer g c plan tables is =
     of_plan plan tables c.args.net (record { plan = c.net.inside.plan.now; pipes = c.net.inside.pipes.now; drivers = c.net.inside.drivers.items }) c.answer_of.result (sym c.net.view_is) is
-    (c.answer_of.ensures c.net.inside.drivers.items tables (own plan tables _ _ (sym c.net.view_is) is) c.in-Ok.ensures.later)
+    (c.answer_of.ensures.answer c.net.inside.drivers.items tables (own plan tables _ _ (sym c.net.view_is) is) c.in-Ok.ensures.later)
+
+pub returns-clause-passed : goal.returns-clause-passed
+returns-clause-passed g c =
+    passed_of_net c.args.net (record { plan = c.net.inside.plan.now; pipes = c.net.inside.pipes.now; drivers = c.net.inside.drivers.items }) c.answer_of.result (sym c.net.view_is)
+    (c.answer_of.ensures.passed c.net.inside.drivers.items c.in-Ok.ensures.later)

@@ -4,3 +4,4 @@ pub mod TableLemmas
 pub mod CompletenessLemmas
 pub mod TypeLemmas
 pub mod WordLemmas
+pub mod PassedLemmas

@@ -1,5 +1,5 @@
 -- What each answer of a run means, by what was seen of it from outside.
-use Rattle.std.specs.Prelude.{◌≡◌, ◌⊎◌, ℕ, List, [], IsTrue, Option, Some, None, Result, Ok, Err}
+use Rattle.std.specs.Prelude.{◌≡◌, ◌⊎◌, ℕ, List, [], IsTrue, Bool, true, false, Option, Some, None, Result, Ok, Err}
 use Rattle.std.specs.Io.KnownBytes.{Appends}
 use Rattle.sql_values.specs.declared.fail.Fail.{Fail}
 use Rattle.sql_values.specs.Types.{rows_have_types}
@@ -14,13 +14,15 @@ use Rattle.plan_trees.specs.Stopped.{MayFail}
 use Rattle.plan_trees.specs.Laws.{CannotFail}
 use Rattle.plan_reader.specs.Trees.{tree_of}
 use Rattle.csv_tables.specs.ResultTexts.{result_text}
+use Rattle.net_closing.specs.declared.counts.FilterPassed.{FilterPassed}
+use Rattle.task_executor.specs.Passed.{AreCountsIn}
 use Rattle.command_line.specs.Words.{Job, no_job}
 use Rattle.command_line.specs.declared.command.WordsFault.{WordsFault}
 use Rattle.command_line.specs.declared.command.WordsFault.TheVariants as fault
 use Rattle.query_runner.specs.Demos.{demo_contents}
 use Rattle.query_runner.specs.Jobs.{AreTablesAsked, Contents, IsPlanAsked, Row}
 use Rattle.query_runner.specs.Loading.{FirstIsRefused, HasNoFile, PlanFails, SomeTableIsUnread}
-use Rattle.query_runner.specs.Lines.{line, message}
+use Rattle.query_runner.specs.Lines.{count_lines, line, message}
 use Rattle.query_runner.specs.declared.status.Status.{Status}
 use Rattle.query_runner.specs.declared.status.Status.TheVariants as status
 
@@ -120,15 +122,42 @@ PlanAnswered job plan seen (status.ExprFailed node kind) =
     WroteNothing seen × MayHaveFailed seen.held job plan node kind
 PlanAnswered job plan seen status.WriteFault = StoppedWriting job plan seen
 
--- a line of this message was written to the errors, or a beginning of it where a write failed
-pub record ToldLine (heard : Heard) (text : List ℕ) : Type 0 where
-  pub whole : ¬ Rose heard.faults_before heard.faults_after → Appends heard.told_before heard.told_after (line text)
-  pub begun : AppendsPrefix heard.told_before heard.told_after (line text)
+-- this text was written to the errors, or a beginning of it where a write failed
+pub record ToldText (heard : Heard) (text : List ℕ) : Type 0 where
+  pub whole : ¬ Rose heard.faults_before heard.faults_after → Appends heard.told_before heard.told_after text
+  pub begun : AppendsPrefix heard.told_before heard.told_after text
 
--- what was written to the errors: nothing where all went well, else the answer's message
+-- what was written to the errors: nothing where all went well, else the answer's message as a line
 abbrev pub Told : Heard → List ℕ → Status → Type 0
 Told heard text status.Ok = heard.told_after ≡ heard.told_before
-Told heard text _ = ToldLine heard text
+Told heard text _ = ToldText heard (line text)
+
+-- these are the counts of the plan's dynamic filters that are waited for, over the tables that were asked for
+pub record AreCountsAsked (held : Contents) (job : Job) (plan : PlanForm) (counts : List FilterPassed) : Type 0 where
+  pub tables : List (List Row)
+  pub are_tables : AreTablesAsked held job plan.tables tables
+  pub are : AreCountsIn plan tables counts
+
+-- these were told, if they are asked for, and else nothing
+abbrev pub ToldAsked : Bool → Heard → List FilterPassed → Type 0
+ToldAsked true heard counts = ToldText heard (count_lines counts)
+ToldAsked false heard counts = heard.told_after ≡ heard.told_before
+
+-- a line for each of them was written to the errors
+pub record ToldCounts (held : Contents) (job : Job) (plan : PlanForm) (heard : Heard) : Type 0 where
+  pub counts : List FilterPassed
+  pub are : AreCountsAsked held job plan counts
+  pub told : ToldText heard (count_lines counts)
+
+-- where all went well, the counts of filters if they are asked for, and else nothing
+abbrev pub ToldWell : Bool → Contents → Job → PlanForm → Heard → Type 0
+ToldWell true held job plan heard = ToldCounts held job plan heard
+ToldWell false held job plan heard = heard.told_after ≡ heard.told_before
+
+-- what was written to the errors of a plan that ran
+abbrev pub ToldRan : Contents → Job → PlanForm → Heard → List ℕ → Status → Type 0
+ToldRan held job plan heard text status.Ok = ToldWell job.counts held job plan heard
+ToldRan held job plan heard text _ = ToldText heard (line text)
 
 -- no plan was read
 pub record PlanIsUnread (job : Job) (seen : SeenOutside) (heard : Heard) (answer : Status) : Type 0 where
@@ -141,7 +170,7 @@ pub record PlanRan (job : Job) (seen : SeenOutside) (heard : Heard) (answer : St
   pub plan : PlanForm
   pub is_plan : IsPlanAsked seen.held job plan
   pub answered : PlanAnswered job plan seen answer
-  pub told : Told heard (message job plan.tables answer) answer
+  pub told : ToldRan seen.held job plan heard (message job plan.tables answer) answer
 
 -- what an answer means where the arguments ask for this
 abbrev pub JobAnswered : Job → SeenOutside → Heard → Status → Type 0

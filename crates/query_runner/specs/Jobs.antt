@@ -2,7 +2,6 @@
 use Rattle.std.specs.Prelude.{◌≡◌, ℕ, List, [], ◌∷◌, Option, Some, is_none}
 use Rattle.std.specs.List.{position_from}
 use Rattle.sql_values.specs.declared.value.Value.{Value}
-use Rattle.sql_values.specs.declared.table.Table.{Table}
 use Rattle.run_ports.specs.Reading.{AreBytesOf}
 use Rattle.plan_docs.specs.declared.plan.TableDoc.{TableDoc}
 use Rattle.plan_docs.specs.Plans.{PlanForm}

@@ -1,10 +1,11 @@
--- The line that a run writes for each answer but Ok.
+-- The lines that a run writes to the errors: one for each answer but Ok, and one for the count of each filter.
 use Rattle.std.specs.Prelude.{ℕ, zero, suc, List, [], ◌∷◌, ◌++◌, codes, option_map, slice_get, unwrap_or}
 use Rattle.std.specs.Fmt.{decimal}
 use Rattle.sql_values.specs.declared.fail.Fail.{Fail}
 use Rattle.sql_values.specs.declared.fail.Fail.TheVariants as fail
 use Rattle.plan_docs.specs.declared.plan.TableDoc.{TableDoc}
 use Rattle.command_line.specs.Words.{Job, file_at}
+use Rattle.net_closing.specs.declared.counts.FilterPassed.{FilterPassed}
 use Rattle.query_runner.specs.declared.status.Status.{Status}
 use Rattle.query_runner.specs.declared.status.Status.TheVariants as status
 
@@ -46,6 +47,20 @@ message job tables (status.PlanRefused code path) = plan_message code path
 message job tables (status.TableRefused table row column why) = table_message (table_named tables table) row column why
 message job tables (status.ExprFailed node kind) = failure_message node (kind_number kind)
 message job tables status.WriteFault = codes "cannot write"
+
+-- the line that tells how many rows passed a dynamic filter
+abbrev pub filter_words : ℕ → List ℕ
+filter_words filter = codes "filter " ++ decimal filter
+
+abbrev pub passed_words : ℕ → List ℕ
+passed_words rows = codes " passed " ++ decimal rows ++ 10 ∷ []
+
+abbrev pub count_line : FilterPassed → List ℕ
+count_line count = filter_words count.filter ++ passed_words count.rows
+
+abbrev pub count_lines : List FilterPassed → List ℕ
+count_lines [] = []
+count_lines (count ∷ counts) = count_line count ++ count_lines counts
 
 -- a message as a line of the program
 abbrev pub line : List ℕ → List ℕ

@@ -10,10 +10,11 @@
 //! - `load`: the plan and its tables, from files
 //! - `top`: `run`
 //! - `results`: the text of what a plan gives
-//! - `lines`: the line that is written for each answer
+//! - `lines`: the line that is written for each answer, and `counts`: those of the counts of filters
 //! - `status`: the answers, and the exit status of each
 #![tactic(auto)]
 
+mod counts;
 mod documents;
 mod lines;
 mod load;
@@ -24,8 +25,8 @@ mod words;
 
 pub use lines::tell_first;
 pub use load::{ROW_LIMIT, files_of, load_plan, load_tables};
-pub use results::{result_alone, result_of};
+pub use results::{PlanResult, result_alone, result_of};
 pub use status::Status;
-pub use task_executor::Shape;
+pub use task_executor::{FilterPassed, PassedList, Shape};
 pub use top::{run, shape_of};
 pub use words::words_of;

@@ -155,7 +155,7 @@ fn write_failure<E: Sink>(err: &mut E, node: u32, kind: u32) -> Result<(), SinkF
     write_number(err, node)
 }
 
-fn write_text<E: Sink>(err: &mut E, text: &str) -> Result<(), SinkFailed>
+pub(crate) fn write_text<E: Sink>(err: &mut E, text: &str) -> Result<(), SinkFailed>
     ensures ok { OnOk result (Appends (E.written err.old) (E.written err.new) text.now) }
     ensures begins { OnErr result
         (AppendsPrefix (E.written err.old) (E.written err.new) text.now) }
@@ -165,7 +165,7 @@ fn write_text<E: Sink>(err: &mut E, text: &str) -> Result<(), SinkFailed>
     write_whole(err, text.as_bytes())
 }
 
-fn write_number<E: Sink>(err: &mut E, number: u32) -> Result<(), SinkFailed>
+pub(crate) fn write_number<E: Sink>(err: &mut E, number: u32) -> Result<(), SinkFailed>
     ensures ok { OnOk result (Appends (E.written err.old) (E.written err.new) (decimal number)) }
     ensures begins { OnErr result
         (AppendsPrefix (E.written err.old) (E.written err.new) (decimal number)) }

@@ -5,6 +5,7 @@ ghost use Rattle.plan_fit_laws.specs.Tables.{HaveColumns, WasRead};
 ghost use Rattle.plan_reader.specs.Trees.{tree_of};
 ghost use Rattle.plan_trees.specs.Allowed.{Allows};
 ghost use Rattle.task_executor.specs.Nets.{FailsFor};
+ghost use Rattle.task_executor.specs.Passed.{AreCountsIn};
 ghost use Rattle.task_executor.specs.Shapes.{AreFew, IsShape};
 ghost use Rattle.tree_evaluator.specs.Fits.{TablesFit};
 ghost use Rattle.query_runner.specs.Answers.{IsTextOf, RunFails};
@@ -18,10 +19,21 @@ use plan_trees::types_of_tree;
 use run_ports::{Courier, Meet};
 use sql_values::Table;
 use std::alloc::Global;
+use std::marker::PhantomData;
 use std::random::RandomSource;
 use std::sync::Wait;
 use std::thread::Threads;
-use task_executor::{Net, RunDone, RunFault, Shape, Wiring, run_alone, run_workers};
+use task_executor::{
+    Net, PassedList, RunDone, RunFault, Shape, Wiring, counts_are_allowed, run_alone, run_workers,
+};
+
+/// What a plan gave.
+#[derive(Drop)]
+pub struct PlanResult {
+    pub text: Vec<u8>,
+    /// How many rows passed each dynamic filter that is waited for, by ascending id.
+    pub passed: PassedList,
+}
 
 /// The text of what the plan gives over its tables, on the workers of the shape.
 pub fn result_of<R, C, M>(
@@ -32,7 +44,7 @@ pub fn result_of<R, C, M>(
     tables: &[Table],
     courier: &C,
     meet: &M,
-) -> Result<Vec<u8>, Status>
+) -> Result<PlanResult, Status>
 where
     R: Threads + Wait + Sync + RandomSource + AllocGlobal,
     C: Courier + Send,
@@ -43,7 +55,8 @@ where
     requires fit { TablesFit tables.now }
     requires few { AreFew tables.now }
     ensures { MatchResult result
-        (λ text. IsTextOf (plan_view plan.now) (map rows_of_table tables.now) text.items)
+        (λ done. IsTextOf (plan_view plan.now) (map rows_of_table tables.now) done.text.items
+        × AreCountsIn (plan_view plan.now) (map rows_of_table tables.now) done.passed)
         (RunFails (plan_view plan.now) (map rows_of_table tables.now)) }
 {
     let done = run_of(rt, alloc, shape, plan, tables, courier, meet);
@@ -59,7 +72,7 @@ pub fn result_alone<R, C>(
     tables: &[Table],
     courier: &C,
     picks: &[u32],
-) -> Result<Vec<u8>, Status>
+) -> Result<PlanResult, Status>
 where
     R: Threads + Wait + Sync + RandomSource + AllocGlobal,
     C: Courier,
@@ -69,34 +82,41 @@ where
     requires fit { TablesFit tables.now }
     requires few { AreFew tables.now }
     ensures { MatchResult result
-        (λ text. IsTextOf (plan_view plan.now) (map rows_of_table tables.now) text.items)
+        (λ done. IsTextOf (plan_view plan.now) (map rows_of_table tables.now) done.text.items
+        × AreCountsIn (plan_view plan.now) (map rows_of_table tables.now) done.passed)
         (RunFails (plan_view plan.now) (map rows_of_table tables.now)) }
 {
     let done = run_alone_of(rt, alloc, shape, plan, tables, courier, picks);
     text_of_run(alloc, plan, tables, done)
 }
 
-/// The text of what a run gave.
+/// The text of what a run gave, with its counts.
 fn text_of_run(
     alloc: Global,
     plan: &Plan,
     tables: &[Table],
     done: Result<RunDone, RunFault>,
-) -> Result<Vec<u8>, Status>
+) -> Result<PlanResult, Status>
     requires read { WasRead (plan_view plan.now) }
     requires columns { HaveColumns (plan_view plan.now).tables tables.now }
     requires fit { TablesFit tables.now }
     requires done { MatchResult done
-        (λ done. Allows (tree_of (plan_view plan.now)) (map rows_of_table tables.now) done.rows)
+        (λ done. Allows (tree_of (plan_view plan.now)) (map rows_of_table tables.now) done.rows
+        × AreCountsIn (plan_view plan.now) (map rows_of_table tables.now) done.passed)
         (FailsFor (tree_of (plan_view plan.now)) (map rows_of_table tables.now)) }
     ensures { MatchResult result
-        (λ text. IsTextOf (plan_view plan.now) (map rows_of_table tables.now) text.items)
+        (λ done. IsTextOf (plan_view plan.now) (map rows_of_table tables.now) done.text.items
+        × AreCountsIn (plan_view plan.now) (map rows_of_table tables.now) done.passed)
         (RunFails (plan_view plan.now) (map rows_of_table tables.now)) }
 {
     match done {
         Ok(done) => {
             let types = types_of_tree(alloc, &tree(alloc, plan)?)?;
-            Ok(text_of(alloc, plan.output.as_slice(), types.as_slice(), &done.rows)?)
+            let text = text_of(alloc, plan.output.as_slice(), types.as_slice(), &done.rows)?;
+            Ok(PlanResult {
+                text,
+                passed: done.passed,
+            })
         }
         Err(RunFault::ExprFailed { node, kind }) => Err(Status::ExprFailed { node, kind }),
         Err(RunFault::Memory) => Err(Status::Memory),
@@ -123,10 +143,12 @@ where
     requires fit { TablesFit tables.now }
     requires few { AreFew tables.now }
     ensures { MatchResult result
-        (λ done. Allows (tree_of (plan_view plan.now)) (map rows_of_table tables.now) done.rows)
+        (λ done. Allows (tree_of (plan_view plan.now)) (map rows_of_table tables.now) done.rows
+        × AreCountsIn (plan_view plan.now) (map rows_of_table tables.now) done.passed)
         (FailsFor (tree_of (plan_view plan.now)) (map rows_of_table tables.now)) }
 {
     read_plans_are_consistent(plan);
+    counts_are_allowed(plan, PhantomData);
     let Ok(mut wiring) = Wiring::build(alloc, plan, tables, shape) else {
         return Err(RunFault::Memory);
     };
@@ -155,10 +177,12 @@ where
     requires fit { TablesFit tables.now }
     requires few { AreFew tables.now }
     ensures { MatchResult result
-        (λ done. Allows (tree_of (plan_view plan.now)) (map rows_of_table tables.now) done.rows)
+        (λ done. Allows (tree_of (plan_view plan.now)) (map rows_of_table tables.now) done.rows
+        × AreCountsIn (plan_view plan.now) (map rows_of_table tables.now) done.passed)
         (FailsFor (tree_of (plan_view plan.now)) (map rows_of_table tables.now)) }
 {
     read_plans_are_consistent(plan);
+    counts_are_allowed(plan, PhantomData);
     let Ok(mut wiring) = Wiring::build(alloc, plan, tables, shape) else {
         return Err(RunFault::Memory);
     };

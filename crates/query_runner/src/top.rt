@@ -1,19 +1,20 @@
-ghost use Rattle.std.specs.Prelude.{◌≡◌, ◌⊎◌, ◌≤◌, ℕ, [], map, None, Some, Ok, Err, IfOk, MatchResult};
+ghost use Rattle.std.specs.Prelude.{◌≡◌, ◌⊎◌, ◌≤◌, ℕ, [], map, None, Some, Ok, Err, IfOk, IfErr, MatchResult};
 ghost use Rattle.plan_docs.specs.Plans.{plan_view};
 ghost use Rattle.command_line.specs.Words.{HasBounds, Job as Asked, asked, job_of, no_job};
 ghost use Rattle.plan_fit_laws.specs.Tables.{HaveColumns, WasRead};
 ghost use Rattle.task_executor.specs.Shapes.{IsShape};
 ghost use Rattle.tree_evaluator.specs.Fits.{TablesFit};
-ghost use Rattle.query_runner.specs.Answers.{Answered, IsComplete, IsResult, IsTextOf, JobAnswered, PlanAnswered, Told, demo_of, heard_on, seen_for, seen_of, status_of, status_of_words};
+ghost use Rattle.query_runner.specs.Answers.{Answered, AreCountsAsked, IsComplete, IsResult, IsTextOf, JobAnswered, PlanAnswered, Told, ToldAsked, demo_of, heard_on, seen_for, seen_of, status_of, status_of_words};
 ghost use Rattle.query_runner.specs.Lines.{message};
 ghost use Rattle.query_runner.specs.Jobs.{AreTablesAsked, Contents};
 ghost use Rattle.tree_evaluator.specs.Stops.{rows_of_table};
 ghost use Rattle.query_runner.specs.Demos.{demo_contents};
 
+use crate::counts::tell_counts;
 use crate::documents::Documents;
 use crate::lines::{tell, tell_first};
 use crate::load::{files_of, load_plan, load_tables};
-use crate::results::result_of;
+use crate::results::{PlanResult, result_of};
 use crate::status::Status;
 use command_line::{Job, WordsFault, lend_words, read_words};
 use plan_reader::Plan;
@@ -23,10 +24,10 @@ use std::alloc::Global;
 use std::random::RandomSource;
 use std::sync::Wait;
 use std::thread::Threads;
-use task_executor::Shape;
+use task_executor::{FilterPassed, PassedList, Shape};
 
 /// Runs the plan that the arguments name over the tables that they name, and writes the result's text
-/// to `out`. For each answer but Ok it writes one line to `err`.
+/// to `out`. For each answer but Ok it writes one line to `err`, and for Ok the counts of filters where they are asked for.
 #[tactic(auto, using(crate::proofs::CompletenessLemmas::complete))]
 pub fn run<R, F, O, E, C, M>(
     rt: &R,
@@ -176,22 +177,28 @@ where
             return status;
         }
     };
-    let status = status_of(run_plan(rt, alloc, job, &plan, files, out, courier, meet));
-    tell(err, job, plan.tables.as_slice(), &status);
-    status
-}
-
-/// The answer of what was done.
-fn status_of(done: Result<(), Status>) -> Status
-    ensures { result ≡ status_of done }
-{
-    match done {
-        Ok(()) => Status::Ok,
-        Err(status) => status,
+    match run_plan(rt, alloc, job, &plan, files, out, courier, meet) {
+        Ok(passed) => {
+            tell_asked(err, job, passed.as_slice());
+            Status::Ok
+        }
+        Err(status) => {
+            tell(err, job, plan.tables.as_slice(), &status);
+            status
+        }
     }
 }
 
-/// Runs the plan over its tables.
+/// Tells the counts of filters, where the arguments ask for them.
+fn tell_asked<E: Sink>(err: &mut E, job: &Job<'_>, passed: &[FilterPassed])
+    ensures { ToldAsked (asked job.now).counts (heard_on E.Sink err.old err.new) passed.now }
+{
+    if job.counts {
+        tell_counts(err, passed);
+    }
+}
+
+/// Runs the plan over its tables, and answers how many rows passed its filters.
 fn run_plan<R, F, O, C, M>(
     rt: &R,
     alloc: Global,
@@ -201,7 +208,7 @@ fn run_plan<R, F, O, C, M>(
     out: &mut O,
     courier: &C,
     meet: &M,
-) -> Result<(), Status>
+) -> Result<PassedList, Status>
 where
     R: Threads + Wait + Sync + RandomSource + AllocGlobal,
     F: Files,
@@ -224,6 +231,9 @@ where
           write_faults_before = O.faults out.old;
           write_faults_after = O.faults out.new;
         }) (status_of result) }
+    ensures counts { IfOk result (λ passed. (held : Contents) → F.holds files.old ≡ held
+        → AreCountsAsked held (asked job.now) (plan_view plan.now) passed) }
+    ensures refuses { IfErr result (λ status. status ≡ Status.Ok → ⊥) }
 {
     let found = files_of(alloc, job, plan.tables.as_slice())?;
     let tables = load_tables(
@@ -234,7 +244,7 @@ where
         found.as_slice(),
         files,
     )?;
-    let text = result_of(
+    let PlanResult { text, passed } = result_of(
         rt,
         alloc,
         &shape_of(job),
@@ -245,7 +255,7 @@ where
     )?;
     results_are_typed(plan, tables.as_slice(), text.as_slice());
     write_whole(out, text.as_slice())?;
-    Ok(())
+    Ok(passed)
 }
 
 /// The law that a text which the plan allows over tables that were read has rows of the types of its columns.

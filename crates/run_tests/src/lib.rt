@@ -11,6 +11,7 @@
 //! - `plain`: texts under given arguments and picks, and those of the plain evaluator
 //! - `scans`, `orders`, `aggregates`, `joins`: the cases of one fragment
 //! - `demos`: runs of a demo
+//! - `filters`: how many rows dynamic filters let through
 //! - `fragments`: the cases of several, and `couriers`: couriers for them
 //! - `workers`: runs on one worker and on more
 //! - `outside`: a failing outside, and input that is cut
@@ -25,6 +26,8 @@ mod answers;
 mod couriers;
 #[cfg(test)]
 mod demos;
+#[cfg(test)]
+mod filters;
 #[cfg(test)]
 mod fragments;
 #[cfg(test)]

@@ -122,8 +122,8 @@ fn tables_give<R: Threads + Wait + Sync + RandomSource + AllocGlobal>(
         &ReplayCourier::new(),
         picks,
     ) {
-        Ok(bytes) => Ok(
-            is_text(bytes.as_slice(), text) && evaluates_to(rt.alloc(), plan, tables, text)?,
+        Ok(done) => Ok(
+            is_text(done.text.as_slice(), text) && evaluates_to(rt.alloc(), plan, tables, text)?,
         ),
         Err(Status::ExprFailed { node, .. }) => {
             Ok(format!(in rt.alloc(); "node {node}")?.as_str() == text)

@@ -23,13 +23,13 @@ class Work:
     """A plan over tables, the words of its command line and what it answers.
 
     `texts` are the results that are allowed, each a header and its records; where `ordered` is false, the records may come
-    in any order. `line` is what is told on standard error, without the program's name."""
+    in any order. `line` is what is told on standard error, without the program's name, and `counts` the lines of dynamic filters."""
 
-    def __init__(self, name, plan, tables, words="", texts=(), status=0, line="", ordered=False):
+    def __init__(self, name, plan, tables, words="", texts=(), status=0, line="", ordered=False, counts=""):
         self.name, self.tables, self.texts = name, tables, [it.encode() for it in texts]
         self.plan = plan if isinstance(plan, bytes) else json.dumps(plan, ensure_ascii=False).encode()
         self.words, self.status, self.ordered = words.split(), status, ordered
-        self.line = f"trinorun: {line}\n".encode() if line else b""
+        self.line = f"trinorun: {line}\n".encode() if line else counts.encode()
 
     def write(self):
         """Writes the plan and the tables into the current folder."""
@@ -193,7 +193,7 @@ FILTERS = [{"id": 1, "key": 0, "scan": 2, "column": 0, "wait": True}]
 FILTERED = Work("join with a dynamic filter",
                 single([U, W], ["c0", "c1"], joined("INNER", scan(2, U), scan(3, W), filters=FILTERS)),
                 {"u": "k\n" + "".join(f"{n}\n" for n in range(10)), "w": "k\n3\n7\n3\n"}, "--counts yes",
-                ["c0,c1\n3,3\n3,3\n7,7\n"])
+                ["c0,c1\n3,3\n3,3\n7,7\n"], counts="filter 1 passed 2\n")
 PRICED = Work("pricing", pricing(), {"items": ITEM_ROWS},
               texts=["flag,qty,revenue,avg_price\nA,15,140.5000,75.25\nN,2,19.0000,20.00\n"], ordered=True)
 
@@ -233,7 +233,8 @@ OTHERS = [
     Work("groups on two workers", groups_over_hash(scan(5, GV)), {"t": GROUP_ROWS}, "--workers 2 --tasks 3 --drivers 4",
          ["g,n,s\n\\N,2,4\nx,2,2\n"]),
     Work("dynamic filter of no value",
-         single([U, W], ["c0", "c1"], joined("INNER", scan(2, U), scan(3, W), filters=FILTERS)), {"u": "k\n1\n2\n", "w": "k\n"}, "--counts yes", ["c0,c1\n"]),
+         single([U, W], ["c0", "c1"], joined("INNER", scan(2, U), scan(3, W), filters=FILTERS)), {"u": "k\n1\n2\n", "w": "k\n"}, "--counts yes", ["c0,c1\n"],
+         counts="filter 1 passed 0\n"),
     Work("backslashes", single([AC], ["a", "c"], scan(9, AC)), {"t": BACKSLASHES}, texts=[BACKSLASHES]),
     Work("union of values", single([], ["c0", "c1"], {"id": 1, "op": "union", "left": V, "right": NULLS}), {},
          texts=["c0,c1\né,2024-02-29\n\\N,\\N\n"]),

@@ -1,7 +1,7 @@
 #!/usr/bin/env python3
 """Times the program over tables that it makes itself, and prints the tables of docs/FIGURES.md.
 
-usage: python3 docs/times.py PROGRAM rows|fragments|workers [--rounds N] [--only NAME,..] [--folder FOLDER] [-- OPTION ..]
+usage: python3 docs/times.py PROGRAM rows|fragments|workers|filters [--rounds N] [--only NAME,..] [--folder FOLDER] [-- OPTION ..]
 
 rows       wall time on one worker, of 100 000, 1 000 000 and 4 000 000 rows, from file to answer
 fragments  wall time on one worker of each plan in one fragment and in several, with one task and with four, and its ratio
@@ -9,6 +9,7 @@ fragments  wall time on one worker of each plan in one fragment and in several, 
 workers    wall time of the plans in fragments with four tasks of four drivers, on 1, 2 and 4 workers, and the time of what
            follows the load: between the call and the return of `result_of` of the program, by probes of the kernel, for which
            the script has to run as root
+filters    the same of the plans with dynamic filters, as they are and with the filters left out, on 1 and 4 workers
 
 The plans are those of docs/plans. Tables are made once, in FOLDER (/tmp/zelgumber-times), from seeds, and a figure is the best
 of N rounds (8), in each of which every command runs once. OPTIONs go to each run. Let nothing else run meanwhile: what the
@@ -207,11 +208,32 @@ class Bench:
             said = [", ".join(f"{it:.3f}" for it in part) + " s" for part in (wall, after)]
             yield [f"`{name}`", *said, f"{after[0] / after[1]:.2f}", f"{after[0] / after[2]:.2f}"]
 
+    def bare(self, name):
+        """The plan without its filters, in the folder of the tables."""
+        to = f"{self.given.folder}/{name}_bare.json"
+        with open(f"{HERE}/plans/{WORKLOADS[name][0]}_fragments.json") as plan, open(to, "w") as out:
+            out.write(re.sub(r',"filters":\[[^]]*\]', "", plan.read()))
+        return to
+
+    def filters(self):
+        names, counts = self.names("star", "demo"), (1, 4)
+        shape = ["--tasks", "4", "--drivers", "4", "--workers"]
+        commands = {(name, count, False): self.command(name, "_fragments", [*shape, str(count)]) for name in names for count in counts}
+        for (name, count, _), command in list(commands.items()):
+            commands[name, count, True] = [*command[:2], self.bare(name), *command[3:]]
+        best = best_of(commands, self.given.rounds, Probes(self.given.program))
+        yield ["workload", "workers", "with filters: wall, after the load", "without", "after the load, with to without"]
+        for name in names:
+            for count in counts:
+                with_them, without = best[name, count, False], best[name, count, True]
+                said = [", ".join(f"{it:.3f}" for it in part) + " s" for part in (with_them, without)]
+                yield [f"`{name}`", str(count), *said, f"{with_them[1] / without[1]:.2f}"]
+
 
 def arguments():
     options = argparse.ArgumentParser(usage=__doc__)
     options.add_argument("program")
-    options.add_argument("what", choices=("rows", "fragments", "workers"))
+    options.add_argument("what", choices=("rows", "fragments", "workers", "filters"))
     options.add_argument("--rounds", type=int, default=8)
     options.add_argument("--only")
     options.add_argument("--folder", default="/tmp/zelgumber-times")

@@ -3,9 +3,10 @@
 use crate::answers::first_wrong_with_words;
 use std::test::Fail;
 
-/// One that is waited for, one that is not, a right side without rows, several of one scan by ascending id, and the sides
+/// Two that are waited for, one that is not, a right side without rows, several of one scan by ascending id, and the sides
 /// of the join in fragments of four tasks.
 const COUNTED: &str = "\
+--plan p --workers 1 --counts yes t=t u=u | | | | | {'version':1,'output':['a','b'],'tables':[{'name':'t','columns':[{'name':'k','type':'bigint'}]},{'name':'u','columns':[{'name':'k','type':'bigint'}]}],'fragments':[{'id':0,'placement':'SINGLE','root':{'id':1,'op':'join','kind':'INNER','on':[[0,0]],'left':{'id':2,'op':'scan','table':'t','columns':['k']},'right':{'id':3,'op':'scan','table':'u','columns':['k']},'filters':[{'id':1,'key':0,'scan':2,'column':0,'wait':true}]}}]} | k~0~1~2~3~4~5~6~7~8~9~;k~3~7~3~ | 0|a,b~3,3~3,3~7,7~|filter 1 passed 2~\n\
 --plan p --workers 1 --counts yes t=t u=u | | | $k | 'a','b','c','d' | {'id':1,'op':'join','kind':'INNER','on':[[0,0]],'left':@t,'right':@u,'filters':[{'id':1,'key':0,'scan':9,'column':0,'wait':true}]} | k,x~0,a~3,b~5,c~7,d~\\N,e~;k,y~3,p~7,q~3,r~\\N,s~ | 0|a,b,c,d~3,b,3,p~3,b,3,r~7,d,7,q~|filter 1 passed 2~\n\
 --plan p --workers 1 --counts yes t=t u=u | | | $k | 'a','b','c','d' | {'id':1,'op':'join','kind':'INNER','on':[[0,0]],'left':@t,'right':@u,'filters':[{'id':1,'key':0,'scan':9,'column':0,'wait':false}]} | k,x~0,a~3,b~5,c~7,d~\\N,e~;k,y~3,p~7,q~3,r~\\N,s~ | 0|a,b,c,d~3,b,3,p~3,b,3,r~7,d,7,q~|\n\
 --plan p --workers 1 --counts yes t=t u=u | | | $k | 'a','b','c','d' | {'id':1,'op':'join','kind':'INNER','on':[[0,0]],'left':@t,'right':@u,'filters':[{'id':1,'key':0,'scan':9,'column':0,'wait':true}]} | k,x~0,a~3,b~;k,y~ | 0|a,b,c,d~|filter 1 passed 0~\n\

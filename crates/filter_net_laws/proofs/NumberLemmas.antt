@@ -1,6 +1,7 @@
 -- What the drivers of a scan's pipe counted, as counts of the filters of the plan.
 use Rattle.std.proofs.Common.{◌≡◌, None, Option, ℕ, suc, List, [], ◌∷◌, map, Some, refl, ap, sym, ◌∙◌, subst}
 use Rattle.std.specs.Prelude.{All, slice_get}
+use Rattle.std.specs.List.Sorted.{IsStrictlyIncreasing}
 use Rattle.std.proofs.lemmas.List.Elements.{All-cons, All-nil}
 use Rattle.operator_core.specs.Rows.{Row}
 use Rattle.plan_docs.specs.declared.node.DynamicFilter.{DynamicFilter}
@@ -22,7 +23,7 @@ use Rattle.filter_count_laws.specs.ScanFilters.{IsCountOf, ScanFilter, up_to_id}
 use Rattle.filter_net_laws.specs.PlanCounts.{AreFiltersOfJoins, HasCounts, rows_passed, rows_scanned}
 use Rattle.filter_net_laws.specs.PlanFilters.{IsCountOfFilter, IsFilterForScan, IsFilterOfPlan}
 use Rattle.filter_net_laws.proofs.FilterLemmas.{filter_of_plan, placed_of_plan}
-use Rattle.filter_net_laws.proofs.PlanLemmas.{filter_at}
+use Rattle.filter_net_laws.proofs.PlanLemmas.{filter_at, ids_same}
 use Rattle.filter_net_laws.proofs.ReadLemmas.{filter_read}
 
 module _ (tables : List (List Row)) (layout : List PipeForm) (run : RunPlan) (reached : AreReached layout run) (reach : FiltersReach layout run)
@@ -54,10 +55,11 @@ module _ (tables : List (List Row)) (layout : List PipeForm) (run : RunPlan) (re
       All-cons (IsFilterForScan plan tree tables scan) s filters one (for_scan scan fs filters are.1 (λ k g is. for (suc k) g is))
 
   count_of_filter : (drivers : List DriverState) (at : ℕ) (pipe : PipeForm) → slice_get layout at ≡ Some pipe → (scan : ℕ) → pipe.scan ≡ Some scan
-      → AreOfPlan run layout plan scan (scan_filters layout pipe) → HasCounts tree tables layout drivers pipe
+      → AreOfPlan run layout plan scan (scan_filters layout pipe) → IsStrictlyIncreasing (map (λ (f : PlacedFilter). f.filter.id) (scan_filters layout pipe))
+      → HasCounts tree tables layout drivers pipe
       → (place : ℕ) (f : PlacedFilter) → slice_get (scan_filters layout pipe) place ≡ Some f
       → IsCountOfFilter plan tree tables f.filter (rows_passed drivers pipe place)
-  count_of_filter drivers at pipe is scan reads are has place f there =
+  count_of_filter drivers at pipe is scan reads are rise has place f there =
       let fs = scan_filters layout pipe in
       let own = are.each place f there in
       let placed = own.0 in
@@ -81,16 +83,18 @@ module _ (tables : List (List Row)) (layout : List PipeForm) (run : RunPlan) (re
             plan are.all join on other of (for ∙ mine) in
             let s = filter_at tree tables layout fs has.filters has.are found.0 found.1 found.2 in
             (s.0, (found.0, s.3, sym s.1), s.2 ∙ ap (λ (d : DynamicFilter). d.id) found.3);
+        once = subst IsStrictlyIncreasing (ids_same tree tables layout fs has.filters has.are) rise;
         counts = subst (λ (rows : List Row). IsCountOf (up_to_id f.filter.id has.filters) rows (rows_passed drivers pipe place))
             (ap (rows_scanned tables) source) (has.counts place f there);
       }
 
   pub count_by_scan : (drivers : List DriverState) (at : ℕ) (pipe : PipeForm) → slice_get layout at ≡ Some pipe
-      → ((scan : ℕ) → pipe.scan ≡ Some scan → AreOfPlan run layout plan scan (scan_filters layout pipe)) → HasCounts tree tables layout drivers pipe
+      → ((scan : ℕ) → pipe.scan ≡ Some scan → AreOfPlan run layout plan scan (scan_filters layout pipe))
+      → IsStrictlyIncreasing (map (λ (f : PlacedFilter). f.filter.id) (scan_filters layout pipe)) → HasCounts tree tables layout drivers pipe
       → (place : ℕ) (f : PlacedFilter) → slice_get (scan_filters layout pipe) place ≡ Some f
       → IsCountOfFilter plan tree tables f.filter (rows_passed drivers pipe place)
-  count_by_scan drivers at pipe is are has place f there = by pipe.scan refl
+  count_by_scan drivers at pipe is are rise has place f there = by pipe.scan refl
     where
       by : (read : Option ℕ) → pipe.scan ≡ read → IsCountOfFilter plan tree tables f.filter (rows_passed drivers pipe place)
       by None none = let absent = subst (λ (o : Option ℕ). slice_get (filters_of_scan layout o) place ≡ Some f) none there in absurd cc
-      by (Some scan) reads = count_of_filter drivers at pipe is scan reads (are scan reads) has place f there
+      by (Some scan) reads = count_of_filter drivers at pipe is scan reads (are scan reads) rise has place f there

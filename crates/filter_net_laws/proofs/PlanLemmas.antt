@@ -75,7 +75,8 @@ filter_at tree tables layout (g ∷ fs) (s ∷ filters) are (suc place) f is =
     let there = filter_at tree tables layout fs filters are.1 place f is in
     (there.0, there.1, there.2, omega (arith, there.3))
 
-ids_same : (tree : TreeForm) (tables : List (List Row)) (layout : List PipeForm) (fs : List PlacedFilter) (filters : List ScanFilter)
+-- the ids of the scan's filters are those of the placed ones
+pub ids_same : (tree : TreeForm) (tables : List (List Row)) (layout : List PipeForm) (fs : List PlacedFilter) (filters : List ScanFilter)
     → AreFiltersOfJoins tree tables layout fs filters
     → map (λ (f : PlacedFilter). f.filter.id) fs ≡ map (λ (s : ScanFilter). s.id) filters
 ids_same tree tables layout [] [] are = refl

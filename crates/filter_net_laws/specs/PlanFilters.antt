@@ -1,5 +1,6 @@
 -- The dynamic filters of a plan, and what one of them counts, with no word of drivers.
-use Rattle.std.specs.Prelude.{◌≡◌, ◌⊎◌, ℕ, List, All, Contains, slice_get, Some}
+use Rattle.std.specs.Prelude.{◌≡◌, ◌⊎◌, ℕ, List, All, Contains, map, slice_get, Some}
+use Rattle.std.specs.List.Sorted.{IsStrictlyIncreasing}
 use Rattle.plan_docs.specs.declared.node.DynamicFilter.{DynamicFilter}
 use Rattle.plan_docs.specs.Nodes.{NodeForm, scan, values, remote, filter, project, join, aggregate, aggregate_final, sort, top_n, top_n_final, limit, limit_final, union}
 use Rattle.plan_docs.specs.Plans.{FragmentForm, PlanForm}
@@ -58,7 +59,7 @@ pub record IsFilterForScan (plan : PlanForm) (tree : TreeForm) (tables : Tables)
   pub is : IsFilterOfJoin tree tables join on filter s
 
 -- The filter is one of the plan's, and the number is a count of those rows of its scan's table, cut to the scan's columns, that
--- pass the filters which the plan has for the scan, with an id up to that of this one: there are keys for each of these.
+-- pass the filters which the plan has for the scan, with an id up to that of this one: there is one list of keys for each of these.
 pub record IsCountOfFilter (plan : PlanForm) (tree : TreeForm) (tables : Tables) (f : DynamicFilter) (number : ℕ) : Type 0 where
   pub join : ℕ
   pub on : List Pair
@@ -70,4 +71,5 @@ pub record IsCountOfFilter (plan : PlanForm) (tree : TreeForm) (tables : Tables)
   pub each : All (IsFilterForScan plan tree tables f.scan) filters
   pub all : (join : ℕ) (on : List Pair) (other : DynamicFilter) → IsFilterOfPlan plan join on other → other.scan ≡ f.scan
       → (s : ScanFilter) × Contains filters s × (s.id ≡ other.id)
+  pub once : IsStrictlyIncreasing (map (λ (s : ScanFilter). s.id) filters)
   pub counts : IsCountOf (up_to_id f.id filters) (scanned tables table columns) number

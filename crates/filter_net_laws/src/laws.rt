@@ -71,6 +71,7 @@ pub fn filters_are_counted<'w>(plan: &Plan, of: PhantomData<Stage<'w>>)
     layout_laws::pipes_are_reached(plan);
     plan_link_laws::consistent_plans_are_placed(plan);
     net_laws::plan_filters_reach(plan);
+    filter_plan_laws::filter_ids_rise(plan);
     filter_plan_laws::scan_filters_reach(plan);
 }
 

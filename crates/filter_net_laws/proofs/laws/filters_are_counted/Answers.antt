@@ -1,8 +1,10 @@
-use Rattle.std.proofs.Common.{◌≡◌, ℕ, List, Some, subst, sym}
+use Rattle.std.proofs.Common.{◌≡◌, ℕ, List, map, Some, subst, sym}
+use Rattle.std.specs.List.Sorted.{IsStrictlyIncreasing}
 use Rattle.plan_docs.specs.Plans.{plan_view}
 use Rattle.plan_trees.specs.TreeForms.{TreeForm}
 use Rattle.plan_run_laws.specs.RunPlans.{RunPlan}
 use Rattle.plan_spreads.specs.Runs.{plan_run}
+use Rattle.plan_layout.specs.declared.filters.PlacedFilter.{PlacedFilter}
 use Rattle.plan_layout.specs.Filters.{scan_filters}
 use Rattle.plan_layout.specs.Pipes.{PipeForm}
 use Rattle.layout_laws.specs.Reached.{AreReached}
@@ -26,5 +28,7 @@ returns c = λ consistent p some f is net drivers laid of settled fits finished 
     λ scan reads.
     subst (λ (layout : List PipeForm). AreOfPlan run layout plan scan (scan_filters layout pipe)) (sym laid)
     (c.scan_filters_reach.ensures consistent p p.tasks pipe scan reads) in
+    let ids : List PipeForm → List ℕ = λ layout. map (λ (f : PlacedFilter). f.filter.id) (scan_filters layout pipe) in
+    let rise = subst (λ (layout : List PipeForm). IsStrictlyIncreasing (ids layout)) (sym laid) (c.filter_ids_rise.ensures consistent p pipe) in
     subst (λ (tree : TreeForm). IsCountOfFilter plan tree net.tables placed.filter (rows_passed drivers pipe place)) (sym same)
-    (count_by_scan net.tables net.layout run reached reach p plan laid drivers at pipe there are of_run place placed found)
+    (count_by_scan net.tables net.layout run reached reach p plan laid drivers at pipe there are rise of_run place placed found)

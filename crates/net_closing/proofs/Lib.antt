@@ -13,4 +13,5 @@ pub mod CellNoteLemmas
 pub mod FilterNoteLemmas
 pub mod FilterCellLemmas
 pub mod CountLemmas
+pub mod AscendingLemmas
 pub mod CloseLemmas

@@ -1,6 +1,6 @@
 -- How many rows passed the dynamic filters of scans, in all drivers of a layout.
-use Rattle.std.specs.Prelude.{ℕ, ◌+◌, List, [], ◌∷◌, flat_map, if◌then◌else◌, min, sum}
-use Rattle.std.specs.List.Sorted.{IsNonDecreasingBy, IsPermutation}
+use Rattle.std.specs.Prelude.{ℕ, ◌+◌, List, [], ◌∷◌, flat_map, if◌then◌else◌, map, min, sum}
+use Rattle.std.specs.List.Sorted.{IsPermutation, IsStrictlyIncreasing}
 use Rattle.count_laws.specs.Counts.{most_count}
 use Rattle.driver_loop.specs.Drivers.{DriverState}
 use Rattle.driver_loop.specs.Turns.{passed_of}
@@ -30,7 +30,10 @@ counts_from drivers pipe place (f ∷ fs) =
 abbrev pub counts_of : List PipeForm → List DriverState → List FilterPassed
 counts_of layout drivers = flat_map (λ (pipe : PipeForm). counts_from drivers pipe 0 (scan_filters layout pipe)) layout
 
--- these are they, by ascending id
+abbrev pub filters_in : List FilterPassed → List ℕ
+filters_in counts = map (λ (count : FilterPassed). count.filter) counts
+
+-- these are they, by ascending id, and no id comes twice
 pub record AreCounts (layout : List PipeForm) (drivers : List DriverState) (counts : List FilterPassed) : Type 0 where
   pub same : IsPermutation (counts_of layout drivers) counts
-  pub ascending : IsNonDecreasingBy (λ (count : FilterPassed). count.filter) counts
+  pub ascending : IsStrictlyIncreasing (filters_in counts)

@@ -1,13 +1,13 @@
 //! How many rows passed the dynamic filters that are waited for.
-ghost use Rattle.std.specs.Prelude.{◌≡◌, ◌++◌, ◌∷◌, [], List, IfOk, OnOk, Some, map, slice_get};
-ghost use Rattle.std.specs.List.Sorted.{IsNonDecreasingBy, IsPermutation};
+ghost use Rattle.std.specs.Prelude.{◌≡◌, ◌++◌, ◌∷◌, [], List, IfOk, IsTrue, OnOk, Some, map, slice_get};
+ghost use Rattle.std.specs.List.Sorted.{IsPermutation, IsStrictlyIncreasing};
 ghost use Rattle.driver_loop.specs.Drivers.{DriverState};
 ghost use Rattle.driver_loop.specs.Turns.{passed_of};
 ghost use Rattle.driver_net_laws.specs.Settled.{of_lane};
 ghost use Rattle.plan_layout.specs.Filters.{scan_filters};
 ghost use Rattle.plan_layout.specs.Pipes.{pipe_view};
 ghost use Rattle.net_closing.specs.Left.{HoldsPassed, at_place};
-ghost use Rattle.net_closing.specs.Counts.{AreCounts, counts_from, counts_of, rows_in_task, rows_passed};
+ghost use Rattle.net_closing.specs.Counts.{AreCounts, counts_from, counts_of, filters_in, rows_in_task, rows_passed};
 
 use plan_layout::{Pipe, PlacedFilter, scan_filters};
 use sql_values::{Items, Memory};
@@ -38,13 +38,28 @@ pub(crate) fn count_filters(
     by_ids(counts)
 }
 
-/// Puts them in the order of their ids.
+/// Puts them in the order of their ids. An id that comes twice is answered with want of memory.
 fn by_ids(mut counts: Vec<FilterPassed>) -> Result<PassedList, Memory>
     ensures same { IfOk result (λ sorted. IsPermutation counts.items sorted) }
-    ensures ascending { IfOk result (λ sorted. IsNonDecreasingBy (λ (c : FilterPassed). c.filter) sorted) }
+    ensures ascending { IfOk result (λ sorted. IsStrictlyIncreasing (filters_in sorted)) }
 {
     counts.sort_by_key(|count| count.filter)?;
+    if !are_ascending(counts.as_slice()) {
+        return Err(Memory);
+    }
     Ok(Items::of(counts))
+}
+
+/// Whether each id is above the one before it.
+fn are_ascending(counts: &[FilterPassed]) -> bool
+    ensures { IsTrue result → IsStrictlyIncreasing (filters_in counts.now) }
+{
+    for place in 1..counts.len() {
+        if counts[place].filter <= counts[place - 1].filter {
+            return false;
+        }
+    }
+    true
 }
 
 /// Counts those of all pipes.

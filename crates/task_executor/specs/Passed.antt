@@ -1,6 +1,6 @@
 -- How many rows passed the dynamic filters of a run.
 use Rattle.std.specs.Prelude.{◌≡◌, ℕ, List, All, Contains, true}
-use Rattle.std.specs.List.Sorted.{IsNonDecreasingBy}
+use Rattle.std.specs.List.Sorted.{IsStrictlyIncreasing}
 use Rattle.operator_core.specs.Rows.{Row}
 use Rattle.driver_loop.specs.Drivers.{DriverState}
 use Rattle.plan_docs.specs.declared.node.DynamicFilter.{DynamicFilter}
@@ -13,7 +13,7 @@ use Rattle.net_laws.specs.Later.{AreLater}
 use Rattle.net_laws.specs.Nets.{AreDriversOf, NetForm}
 use Rattle.net_laws.specs.Settled.{AreSettled}
 use Rattle.net_closing.specs.Closing.{AreWholeDrivers}
-use Rattle.net_closing.specs.Counts.{AreCounts}
+use Rattle.net_closing.specs.Counts.{AreCounts, filters_in}
 use Rattle.net_closing.specs.declared.counts.FilterPassed.{FilterPassed}
 use Rattle.task_executor.specs.Nets.{NetState, layout_in}
 use Rattle.task_executor.specs.Turns.{AreFinished}
@@ -38,9 +38,9 @@ pub record IsCountIn (plan : PlanForm) (tables : List (List Row)) (count : Filte
   pub id : count.filter ≡ own.id
   pub is : IsCountOfFilter plan (tree_of plan) tables own count.rows
 
--- so is each of these, by ascending id, and each filter that is waited for has one
+-- so is each of these, by ascending id, none of which comes twice, and each filter that is waited for has one
 pub record AreCountsIn (plan : PlanForm) (tables : List (List Row)) (counts : List FilterPassed) : Type 0 where
   pub each : All (IsCountIn plan tables) counts
-  pub ascending : IsNonDecreasingBy (λ (count : FilterPassed). count.filter) counts
+  pub ascending : IsStrictlyIncreasing (filters_in counts)
   pub all : (join : ℕ) (on : List Pair) (own : DynamicFilter) → IsFilterOfPlan plan join on own → own.wait ≡ true
       → (count : FilterPassed) × Contains counts count × (count.filter ≡ own.id)

@@ -143,7 +143,7 @@ fn rows_passed(pipe: &Pipe<'_>, place: usize, passed: &[Vec<u64>]) -> Result<u64
     Ok(rows)
 }
 
-/// And in those of one task.
+/// How many passed it in the drivers of one task.
 fn rows_in_task(
     pipe: &Pipe<'_>,
     place: usize,
@@ -160,7 +160,7 @@ fn rows_in_task(
     Ok(rows)
 }
 
-/// And in one driver.
+/// How many passed it in one driver.
 fn rows_in_lane(
     pipe: &Pipe<'_>,
     place: usize,

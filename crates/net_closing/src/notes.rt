@@ -22,7 +22,7 @@ pub(crate) struct Notes {
     pub(crate) filter_builds: Vec<FilterCellNote>,
 }
 
-/// None.
+/// No note yet.
 pub(crate) fn no_notes(alloc: Global) -> Notes
     ensures { AreNone result }
 {
@@ -75,7 +75,7 @@ pub(crate) fn keep_filters(
     Ok(())
 }
 
-/// Keeps one of them.
+/// Keeps the note of a filter with those that publish, or with those that look.
 fn keep_filter(
     looks: &mut Vec<FilterCellNote>,
     builds: &mut Vec<FilterCellNote>,

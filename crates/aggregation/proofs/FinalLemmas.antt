@@ -1,6 +1,6 @@
 -- Rows of keys and partial rows, as `FinalAgg` takes them.
 use Rattle.std.proofs.Common.{◌≡◌, ℕ, zero, suc, ◌+◌, ◌^◌, ◌≤◌, ◌<◌, List, [], ◌∷◌, ◌++◌, Bool, true, false, length, get_or, map, drop, take, refl, ap, sym, subst, ◌∙◌, arith, append_assoc, drop-cons, length-append}
-use Rattle.std.specs.Prelude.{All, ◌&&◌, ◌↔◌}
+use Rattle.std.specs.Prelude.{All, ◌&&◌}
 use Rattle.std.specs.List.{list_all, range_with_len}
 use Rattle.std.proofs.lemmas.Bool.{and_parts}
 use Rattle.std.proofs.lemmas.List.{take-append-drop}
@@ -13,11 +13,10 @@ use Rattle.sql_values.specs.Blocks.{fits}
 use Rattle.sql_values.specs.Cells.{cell, cut}
 use Rattle.sql_values.specs.ColumnRows.{fits_row}
 use Rattle.aggregation.specs.Alike.{held_row}
-use Rattle.col_pages.specs.Pages.{TypedPage}
 use Rattle.accumulators.specs.Groups.{Group, empty_group}
 use Rattle.accumulators.specs.Limits.{is_partial}
 use Rattle.aggregation.specs.Finals.{FinalState, IsFinal, layout_in}
-use Rattle.col_pages.specs.Fits.{AllFit, IsOfTypes}
+use Rattle.col_pages.specs.Fits.{AllFit}
 use Rattle.aggregation.specs.Giving.{GroupsState, no_groups}
 use Rattle.aggregation.specs.Layouts.{Layout, is_layout_row}
 use Rattle.plan_trees.specs.Layouts.{layout_types}
@@ -108,6 +107,3 @@ pub final-layout : (columns : List ℕ) (calls : List Call) (types given taken :
 final-layout columns calls types given taken page width keys node g made front size =
     ap (λ (x : GroupsState). layout_in (record { node = node; groups = x; taken = taken })) made
     ∙ ap (λ (n : ℕ). record { width = n; types = types; calls = calls }) (ap length front ∙ length-range_with_len 0 width ∙ size)
-
-pub same-pages : (types others : List SqlType) (p : TypedPage) → types ≡ others → IsOfTypes types p ↔ IsOfTypes others p
-same-pages types others p e = ((λ f. subst (λ (ts : List SqlType). IsOfTypes ts p) e f), (λ f. subst (λ (ts : List SqlType). IsOfTypes ts p) (sym e) f))

@@ -6,12 +6,18 @@ use Rattle.sql_values.specs.declared.value.Value.{Value}
 use Rattle.sql_values.specs.declared.fail.Fail.{Fail}
 use Rattle.sql_values.specs.declared.relational.Call.{Call}
 use Rattle.sql_values.specs.Bags.{SameBag}
+use Rattle.col_pages.specs.Fits.{IsOfTypes}
+use Rattle.operator_core.specs.declared.late.Kernel.{Ghosts as KernelGhosts}
+use Rattle.operator_core.specs.Late.{LateState, PageTypes}
+use Rattle.operator_core.specs.LateGhosts.{late}
+use Rattle.operator_core.specs.Lates.{IsLate}
+use Rattle.operator_core.specs.Rows.{Row}
 use Rattle.relation_laws.specs.Groups.{grouped_row, groups_of}
 use Rattle.relation_laws.specs.Partials.{results_from}
 use Rattle.relation_laws.specs.Verdicts.{Verdict, fails, keeps, kept}
 use Rattle.bag_laws.specs.Pieces.{all_merged, behind_key, finals_of, front_keys, partials_of}
 use Rattle.aggregation.specs.Alike.{part_rows}
-use Rattle.aggregation.specs.Giving.{GroupsFail, GroupsGive, GroupsState, has_more, has_verdict, merged_with, no_groups, parts_with, verdicts_with}
+use Rattle.aggregation.specs.Giving.{GroupsFail, GroupsGive, GroupsState, groups_made, has_more, has_verdict, merged_with, no_groups, parts_with, verdicts_with}
 use Rattle.aggregation.specs.Held.{first_rows}
 use Rattle.aggregation.specs.Tables.{held_in}
 use Rattle.aggregation.proofs.PartLemmas.{finals-first, made_verdicts, merged_rows-first, partials-are}
@@ -41,6 +47,12 @@ module _ (columns : List ℕ) (calls : List Call) (types given : List SqlType) (
   unbegun : g.begun ≡ false
   unbegun = ap (λ (s : GroupsState). s.begun) made
 
+  pub none-made : groups_made g ≡ g
+  none-made = ap groups_made made ∙ sym made
+
+  pub none-pages : ◌≡◌ {A = PageTypes} (record { takes = g.table.types; size = g.left.page }) (record { takes = types; size = page })
+  none-pages = ap (λ (s : GroupsState). record { takes = s.table.types; size = s.left.page }) made
+
   pub none-gives : (V W : List Verdict) (rows : List (List Value)) (B : List (List Value)) → V ≡ W → flat_map kept W ≡ rows → GroupsGive g.begun g.left.rows V B ↔ SameBag rows B
   none-gives V W rows B said is = (
     (λ h. subst (λ (R : List (List Value)). SameBag R B) (ap (flat_map kept) said ∙ is) (subst (λ (b : Bool). GroupsGive b g.left.rows V B) unbegun h)),
@@ -66,3 +78,25 @@ module _ (columns : List ℕ) (calls : List Call) (types given : List SqlType) (
 
   pub none-merged : (X : List (List Value)) → merged_with g.table X ≡ finals_of types (length columns) calls X
   none-merged X = ap (λ (s : GroupsState). merged_with s.table X) made ∙ finals-first types (length columns) calls X
+
+-- a late operator whose kernel was just made
+pub late-is : {K : Type 0} (k : KernelGhosts K) (s : K) (op : LateState K) (Gives : List Row → List Row → Type 0) (Fails : List Row → ℕ → Fail → Type 0) (types : List SqlType) (most : ℕ)
+    → op ≡ record { kernel = s; is_told = false } → k.as_made s ≡ s → k.pages s ≡ record { takes = types; size = most } → ((X B : List Row) → k.may_give s X B ↔ Gives X B)
+    → ((X : List Row) (node : ℕ) (kind : Fail) → k.may_fail s X node kind ↔ Fails X node kind) → IsLate (late k) op Gives Fails types most
+late-is {K = K} k s op Gives Fails types most is made pages giving failing =
+    subst (λ (o : LateState K). IsLate (late k) o Gives Fails types most) (sym is)
+    (record {
+      fresh = record { made = ap (λ (t : K). record { kernel = t; is_told = false }) made; untold = refl; unfinished = refl; unlooked = refl; went = tt; counted = tt };
+      gives = giving;
+      fails = failing;
+      takes = λ page. (
+        (λ fit. subst (λ (p : PageTypes). IsOfTypes p.takes page) pages fit),
+        (λ fit. subst (λ (p : PageTypes). IsOfTypes p.takes page) (sym pages) fit),
+      );
+      unfull = refl;
+      size = ap (λ (p : PageTypes). p.size) pages;
+      late = refl;
+      waits = refl;
+      knows = refl;
+      learns = λ m learned. learned;
+    })

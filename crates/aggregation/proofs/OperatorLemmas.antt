@@ -1,49 +1,38 @@
 -- What operators that keep groups answer.
-use Rattle.std.proofs.Common.{◌≡◌, ℕ, List, [], ◌++◌, Bool, true, false, refl, ap, sym, subst, ◌∙◌}
-use Rattle.std.specs.Prelude.{◌↔◌, Contains, Option, Some, None, Result, Ok, Err}
+use Rattle.std.proofs.Common.{◌≡◌, ℕ, List, [], ◌++◌, Bool, true, ap, sym, subst, ◌∙◌}
+use Rattle.std.specs.Prelude.{◌↔◌, Option, Some, None, Ok}
 use Rattle.sql_values.specs.declared.value.Value.{Value}
 use Rattle.sql_values.specs.declared.fail.Fail.{Fail}
 use Rattle.col_pages.specs.Pages.{TypedPage}
-use Rattle.operator_core.specs.declared.fault.OpFault.{OpFault}
-use Rattle.operator_core.specs.declared.fault.OpFault.TheVariants.{Expr}
-use Rattle.operator_core.specs.Rows.{Coming}
 use Rattle.operator_core.specs.Answers.{gave}
-use Rattle.relation_laws.specs.Verdicts.{Verdict, fails}
+use Rattle.relation_laws.specs.Verdicts.{Verdict}
 use Rattle.aggregation.specs.Giving.{GroupsFail, GroupsGive, GroupsState, IsBegun, IsGiven, RowsLeft}
 use Rattle.aggregation.specs.Tables.{TableState}
 use Rattle.aggregation.proofs.SingleLemmas.{begun-calm, begun-gives}
-
-none-comes : (told : Bool) (X : List (List Value)) → told ≡ true → Coming told X → X ≡ []
-none-comes true X t come = come
-none-comes false X t come = cc
 
 given-left : (old new : RowsLeft) (o : Option TypedPage) → IsGiven old o new → gave (Ok o) ++ new.rows ≡ old.rows
 given-left old new None g = ap (λ (l : RowsLeft). l.rows) g.1
 given-left old new (Some page) g = sym g.rows
 
--- groups whose output has begun, where `said` is what is said of them with rows still to come
-module _ (said : TableState → List (List Value) → List Verdict) (old mid new : GroupsState) (told : old.is_told ≡ true)
+-- groups whose output has begun, where `said` is what is said of them where no row comes any more
+module _ (said : TableState → List Verdict) (old mid new : GroupsState)
     (middle : mid ≡ record old { table = mid.table; begun = true; left = record old.left { rows = mid.left.rows } })
-    (begun : IsBegun old.begun (said old.table []) old.left.rows mid.left.rows)
+    (begun : IsBegun old.begun (said old.table) old.left.rows mid.left.rows)
     (later : new ≡ record mid { left = record mid.left { rows = new.left.rows } }) where
   has-begun : new.begun ≡ true
   has-begun = ap (λ (s : GroupsState). s.begun) later ∙ ap (λ (s : GroupsState). s.begun) middle
 
-  pub got-gives : (o : Option TypedPage) (X B : List (List Value)) → IsGiven mid.left o new.left → Coming old.is_told X → GroupsGive new.begun new.left.rows (said new.table X) B
-      → GroupsGive old.begun old.left.rows (said old.table X) (gave (Ok o) ++ B)
-  got-gives o X B given come g =
-      let empty : X ≡ [] = none-comes old.is_told X told come in
-      let left : B ≡ new.left.rows = subst (λ (b : Bool). GroupsGive b new.left.rows (said new.table X) B) has-begun g in
+  pub got-gives : (o : Option TypedPage) → IsGiven mid.left o new.left → (B : List (List Value)) → GroupsGive new.begun new.left.rows (said new.table) B
+      → GroupsGive old.begun old.left.rows (said old.table) (gave (Ok o) ++ B)
+  got-gives o given B g =
+      let left : B ≡ new.left.rows = subst (λ (b : Bool). GroupsGive b new.left.rows (said new.table) B) has-begun g in
       let whole : gave (Ok o) ++ B ≡ mid.left.rows = ap (λ rows. gave (Ok o) ++ rows) left ∙ given-left mid.left new.left o given in
-      subst (λ (Y : List (List Value)). GroupsGive old.begun old.left.rows (said old.table Y) (gave (Ok o) ++ B)) (sym empty)
-      (begun-gives old.begun (said old.table []) [] old.left.rows mid.left.rows (gave (Ok o) ++ B) begun whole)
+      begun-gives old.begun (said old.table) [] old.left.rows mid.left.rows (gave (Ok o) ++ B) begun whole
 
-  pub got-fails : (own : ℕ) (X : List (List Value)) (node : ℕ) (kind : Fail) → Coming old.is_told X
-      → GroupsFail new.begun own (said new.table X) node kind ↔ GroupsFail old.begun own (said old.table X) node kind
-  got-fails own X node kind come = (
-    (λ f. absurd (subst (λ (b : Bool). GroupsFail b own (said new.table X) node kind) has-begun f)),
-    (λ f. absurd (begun-calm old.begun own (said old.table []) old.left.rows mid.left.rows node kind begun
-        (subst (λ (Y : List (List Value)). GroupsFail old.begun own (said old.table Y) node kind) (none-comes old.is_told X told come) f))),
+  pub got-fails : (own node : ℕ) (kind : Fail) → GroupsFail new.begun own (said new.table) node kind ↔ GroupsFail old.begun own (said old.table) node kind
+  got-fails own node kind = (
+    (λ f. absurd (subst (λ (b : Bool). GroupsFail b own (said new.table) node kind) has-begun f)),
+    (λ f. absurd (begun-calm old.begun own (said old.table) old.left.rows mid.left.rows node kind begun f)),
   )
 
 -- groups that took rows, of which is said what was said of them with these rows still to come
@@ -58,11 +47,3 @@ module _ (old new : GroupsState) (V W : List Verdict) (begun : new.begun ≡ old
     (λ f. subst (λ (b : Bool). GroupsFail b own W node kind) begun (subst (λ (v : List Verdict). GroupsFail new.begun own v node kind) said f)),
     (λ f. subst (λ (v : List Verdict). GroupsFail new.begun own v node kind) (sym said) (subst (λ (b : Bool). GroupsFail b own W node kind) (sym begun) f)),
   )
-
--- where a group failed, something fails
-pub failed-none : (at own : ℕ) (begun told : Bool) (V : List Verdict) (kind : Fail) {H : Type 0} → at ≡ own → told ≡ true → (begun ≡ false) × Contains V (fails kind)
-    → (◌≡◌ {A = Result (Option TypedPage) OpFault} (Err (Expr at kind)) (Ok None)) ↔ (H × (told ≡ true → (node : ℕ) (kind : Fail) → GroupsFail begun own V node kind → ⊥))
-failed-none at own begun told V kind same t f = (
-  (λ e. cc),
-  (λ h. absurd (h.1 t own kind (subst (λ (b : Bool). GroupsFail b own V own kind) (sym f.0) (refl, f.1)))),
-)

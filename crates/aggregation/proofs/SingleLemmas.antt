@@ -9,7 +9,7 @@ use Rattle.relation_laws.specs.Verdicts.{Verdict, fails, keeps, kept}
 use Rattle.bag_laws.specs.Pieces.{finals_of}
 use Rattle.bag_laws.proofs.BagLemmas.{bag_from_same, same-refl}
 use Rattle.aggregation.specs.Alike.{TellAlike, part_row, part_rows}
-use Rattle.aggregation.specs.Giving.{GroupsFail, GroupsGive, IsBegun, merged_with, part_verdicts, parts_with, to_give, verdicts_with}
+use Rattle.aggregation.specs.Giving.{GroupsFail, GroupsGive, IsBegun, merged_with, part_verdicts, parts_with, verdicts_with}
 use Rattle.aggregation.specs.Tables.{TableState, held_in}
 use Rattle.aggregation.proofs.AlikeLemmas.{alike-append, alike-from_equal, alike-refl, alike-trans, finals-alike, parts-alike}
 
@@ -70,7 +70,3 @@ begun-calm true own V old new node kind is f = f
 begun-calm false own V old new node kind is f =
     let there : Contains (map keeps new) (fails kind) = subst (λ (vs : List Verdict). Contains vs (fails kind)) (sym is) f.1 in
     none-fails new kind there.0 there.1 there.2
-
-pub begun-rows : (begun : Bool) (V : List Verdict) (old new : List (List Value)) → IsBegun begun V old new → to_give begun old V ≡ new
-begun-rows true V old new is = sym is
-begun-rows false V old new is = ap (flat_map kept) (sym is) ∙ kept-keeps new

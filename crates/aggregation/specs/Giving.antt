@@ -1,10 +1,10 @@
 -- What operators that keep groups may give, and on what they may fail.
-use Rattle.std.specs.Prelude.{◌≡◌, ℕ, ◌<◌, ◌≤◌, List, [], ◌∷◌, ◌++◌, length, map, flat_map, Bool, true, false, All, IsTrue, Contains, Option, Some, None}
+use Rattle.std.specs.Prelude.{◌≡◌, ℕ, ◌<◌, ◌≤◌, List, [], ◌∷◌, ◌++◌, length, map, flat_map, Bool, true, false, not, Contains, Option, Some, None}
 use Rattle.sql_values.specs.declared.types.SqlType.{SqlType}
 use Rattle.sql_values.specs.declared.value.Value.{Value}
 use Rattle.sql_values.specs.declared.fail.Fail.{Fail}
 use Rattle.sql_values.specs.Bags.{SameBag}
-use Rattle.sql_values.specs.ColumnRows.{TypedRows, fits_row}
+use Rattle.sql_values.specs.ColumnRows.{TypedRows}
 use Rattle.col_pages.specs.Fits.{IsOfTypes}
 use Rattle.col_pages.specs.Pages.{TypedPage, most_rows}
 use Rattle.operator_core.specs.Samples.{has_row}
@@ -81,7 +81,6 @@ pub record GroupsState : Type 0 where
   pub table : TableState
   pub left : RowsLeft
   pub begun : Bool
-  pub is_told : Bool
 
 -- the output has begun: none of the groups fails, and their rows are left
 abbrev pub IsBegun : Bool → List Verdict → List (List Value) → List (List Value) → Type 0
@@ -99,13 +98,7 @@ no_groups columns calls types given page = record {
   table = record { columns = columns; calls = calls; types = types; keys = first_keys (length columns); partials = first_partials (length columns) calls };
   left = record { types = given; page = page; rows = [] };
   begun = false;
-  is_told = false;
 }
-
--- there is a column to give, and the output begins only where they were told to finish
-pub record AreGiven (types : List SqlType) (begun is_told : Bool) : Type 0 where
-  pub some : 0 < length types
-  pub late : begun ≡ true → is_told ≡ true
 
 -- as they were made
 abbrev pub groups_made : GroupsState → GroupsState
@@ -113,10 +106,21 @@ groups_made g = record g {
   table = record g.table { keys = first_keys (length g.table.columns); partials = first_partials (length g.table.columns) g.table.calls };
   left = record g.left { rows = [] };
   begun = false;
-  is_told = false;
 }
 
 -- the next page, or none where no row is left
 abbrev pub IsGiven : RowsLeft → Option TypedPage → RowsLeft → Type 0
 IsGiven old None new = (old.rows ≡ []) × (new ≡ old)
 IsGiven old (Some page) new = IsNextPage old page new
+
+-- nothing is left of groups of which this is said
+abbrev pub is_over : GroupsState → List Verdict → Bool
+is_over g verdicts = not (has_more g.begun g.left.rows verdicts)
+
+-- but for the groups, the rows that are left and whether the output has begun
+abbrev pub IsAsBefore : GroupsState → GroupsState → Type 0
+IsAsBefore old new = record new {
+  table = record new.table { keys = old.table.keys; partials = old.table.partials };
+  left = record new.left { rows = old.left.rows };
+  begun = old.begun;
+} ≡ old

@@ -1,5 +1,5 @@
 -- Laws of operators that keep groups.
-use Rattle.std.specs.Prelude.{◌≡◌, ◌↔◌, ℕ, zero, suc, List, [], ◌∷◌, ◌++◌, Bool, true, false, not, ◌&&◌, flat_map, length, map, Contains, Result, Ok, Err, refl}
+use Rattle.std.specs.Prelude.{◌≡◌, ◌↔◌, ℕ, zero, suc, List, [], ◌∷◌, ◌++◌, Bool, true, false, not, flat_map, length, map, Contains, Result, Ok, Err, refl}
 use Rattle.std.proofs.Common.{sym, ◌∙◌, subst, arith}
 use Rattle.std.proofs.lemmas.Bool.{true≢false}
 use Rattle.std.proofs.lemmas.List.Elements.{Contains-append_left, Contains-push}
@@ -15,7 +15,7 @@ use Rattle.relation_laws.specs.Partials.{results_from}
 use Rattle.bag_laws.specs.Pieces.{all_merged, behind_key, front_keys}
 use Rattle.aggregation.specs.Alike.{part_rows}
 use Rattle.aggregation.specs.Tables.{held_in}
-use Rattle.aggregation.specs.Giving.{GroupsFail, GroupsGive, GroupsState, has_more, merged_with, parts_with, to_give, verdicts_with}
+use Rattle.aggregation.specs.Giving.{GroupsFail, GroupsGive, GroupsState, has_more, is_over, parts_with, to_give, verdicts_with}
 
 pub groups-some : (begun : Bool) (left : List (List Value)) (V : List Verdict) → (B : List (List Value)) × GroupsGive begun left V B
 groups-some true left V = (left, refl)
@@ -36,15 +36,10 @@ equal-alike : (rows B : List (List Value)) → B ≡ rows → (has_row rows ≡ 
 equal-alike [] B same = ((λ e. same), (λ e. refl))
 equal-alike (row ∷ rows) B same = ((λ e. cc), (λ e. absurd (not-none row rows (sym same ∙ e))))
 
-give-alike : (begun : Bool) (left : List (List Value)) (V : List Verdict) (B : List (List Value)) → GroupsGive begun left V B → (has_row (to_give begun left V) ≡ false) ↔ (B ≡ [])
-give-alike true left V B g = equal-alike left B g
-give-alike false left V B g = none-alike (flat_map kept V) B g
-
 -- what is left where no row comes is a list of the rows that it holds
-pub groups-rest : (begun told : Bool) (left : List (List Value)) (V : List Verdict) (B : List (List Value)) → told ≡ true → GroupsGive begun left V B
-    → ((told && has_row (to_give begun left V)) ≡ false) ↔ (B ≡ [])
-groups-rest begun true left V B t g = give-alike begun left V B g
-groups-rest begun false left V B t g = cc
+pub groups-rest : (begun : Bool) (left : List (List Value)) (V : List Verdict) (B : List (List Value)) → GroupsGive begun left V B → (has_row (to_give begun left V) ≡ false) ↔ (B ≡ [])
+groups-rest true left V B g = equal-alike left B g
+groups-rest false left V B g = none-alike (flat_map kept V) B g
 
 -- each group gives a row or fails
 said : (o : Result (List Value) Fail) (key : List Value) (rest : List Verdict) (own : ℕ) → has_row (flat_map kept (grouped_row key o ∷ rest)) ≡ false
@@ -55,36 +50,27 @@ said (Err kind) key rest own none calm = calm own kind (refl, Contains-append_le
 none-in : (v : Verdict) → Contains [] v → ⊥
 none-in v c = absurd (omega (arith, c.1))
 
--- it is done where it was told to finish, has no row and no group fails
-done-begun : (told : Bool) (left : List (List Value)) → ((told && not (has_row left)) ≡ true)
-    ↔ ((told ≡ true) × ((told && has_row left) ≡ false) × ((node : ℕ) (kind : Fail) → ⊥ → ⊥))
-done-begun true [] = ((λ e. (refl, refl, λ node kind f. f)), (λ h. refl))
-done-begun true (row ∷ rows) = ((λ e. cc), (λ h. cc (h.1)))
-done-begun false left = ((λ e. cc), (λ h. cc (h.0)))
+-- they are over where there is no row and no group fails
+done-begun : (left : List (List Value)) → (not (has_row left) ≡ true) ↔ ((has_row left ≡ false) × ((node : ℕ) (kind : Fail) → ⊥ → ⊥))
+done-begun [] = ((λ e. (refl, λ node kind f. f)), (λ h. refl))
+done-begun (row ∷ rows) = ((λ e. cc), (λ h. cc (h.0)))
 
-pub groups-done : (begun told : Bool) (own : ℕ) (left keys : List (List Value)) (r : List Value → Result (List Value) Fail)
-    → ((told && not (has_more begun left (map (λ k. grouped_row k (r k)) keys))) ≡ true)
-    ↔ ((told ≡ true) × ((told && has_row (to_give begun left (map (λ k. grouped_row k (r k)) keys))) ≡ false)
+groups-done : (begun : Bool) (own : ℕ) (left keys : List (List Value)) (r : List Value → Result (List Value) Fail)
+    → (not (has_more begun left (map (λ k. grouped_row k (r k)) keys)) ≡ true)
+    ↔ ((has_row (to_give begun left (map (λ k. grouped_row k (r k)) keys)) ≡ false)
     × ((node : ℕ) (kind : Fail) → GroupsFail begun own (map (λ k. grouped_row k (r k)) keys) node kind → ⊥))
-groups-done true told own left keys r = done-begun told left
-groups-done false false own left keys r = ((λ e. cc), (λ h. cc (h.0)))
-groups-done false true own left [] r = ((λ e. (refl, refl, λ node kind f. none-in (fails kind) f.1)), (λ h. refl))
-groups-done false true own left (key ∷ keys) r = ((λ e. cc), (λ h. absurd (said (r key) key (map (λ k. grouped_row k (r k)) keys) own h.1 h.2)))
+groups-done true own left keys r = done-begun left
+groups-done false own left [] r = ((λ e. (refl, λ node kind f. none-in (fails kind) f.1)), (λ h. refl))
+groups-done false own left (key ∷ keys) r = ((λ e. cc), (λ h. absurd (said (r key) key (map (λ k. grouped_row k (r k)) keys) own h.0 h.1)))
 
 pub single-done : (g : GroupsState) (own : ℕ)
-    → ((g.is_told && not (has_more g.begun g.left.rows (verdicts_with g.table []))) ≡ true)
-    ↔ ((g.is_told ≡ true) × ((g.is_told && has_row (to_give g.begun g.left.rows (verdicts_with g.table []))) ≡ false)
+    → (is_over g (verdicts_with g.table []) ≡ true)
+    ↔ ((has_row (to_give g.begun g.left.rows (verdicts_with g.table [])) ≡ false)
     × ((node : ℕ) (kind : Fail) → GroupsFail g.begun own (verdicts_with g.table []) node kind → ⊥))
 single-done g own =
     let rows = held_in g.table ++ part_rows g.table.columns g.table.calls [] in
-    groups-done g.begun g.is_told own g.left.rows (front_keys (length g.table.columns) rows)
+    groups-done g.begun own g.left.rows (front_keys (length g.table.columns) rows)
     (λ key. results_from g.table.types g.table.calls (all_merged g.table.calls (behind_key (length g.table.columns) rows key)))
-
-pub final-done : (g : GroupsState) (own : ℕ)
-    → ((g.is_told && not (has_more g.begun g.left.rows (merged_with g.table []))) ≡ true)
-    ↔ ((g.is_told ≡ true) × ((g.is_told && has_row (to_give g.begun g.left.rows (merged_with g.table []))) ≡ false)
-    × ((node : ℕ) (kind : Fail) → GroupsFail g.begun own (merged_with g.table []) node kind → ⊥))
-final-done g own = single-done g own
 
 -- groups whose partial rows are given never fail
 none-fails : (said : List Value → List Value) (keys : List (List Value)) (kind : Fail) → Contains (map (λ key. keeps (said key)) keys) (fails kind) → ⊥
@@ -97,14 +83,13 @@ part-calm true own said keys node kind f = f
 part-calm false own said keys node kind f = none-fails said keys kind f.1
 
 pub partial-done : (g : GroupsState)
-    → ((g.is_told && not (has_more g.begun g.left.rows (parts_with g.table []))) ≡ true)
-    ↔ ((g.is_told ≡ true) × ((g.is_told && has_row (to_give g.begun g.left.rows (parts_with g.table []))) ≡ false)
-    × ((node : ℕ) (kind : Fail) → ⊥ → ⊥))
+    → (is_over g (parts_with g.table []) ≡ true)
+    ↔ ((has_row (to_give g.begun g.left.rows (parts_with g.table [])) ≡ false) × ((node : ℕ) (kind : Fail) → ⊥ → ⊥))
 partial-done g =
     let rows = held_in g.table ++ part_rows g.table.columns g.table.calls [] in
     let keys = front_keys (length g.table.columns) rows in
     let partial = λ (key : List Value). all_merged g.table.calls (behind_key (length g.table.columns) rows key) in
-    let done = groups-done g.begun g.is_told 0 g.left.rows keys (λ key. Ok (partial key)) in (
-      (λ e. let d = done.0 e in (d.0, d.1, λ node kind f. f)),
-      (λ h. done.1 (h.0, h.1, λ node kind f. part-calm g.begun 0 (λ key. key ++ partial key) keys node kind f)),
+    let done = groups-done g.begun 0 g.left.rows keys (λ key. Ok (partial key)) in (
+      (λ e. ((done.0 e).0, λ node kind f. f)),
+      (λ h. done.1 (h.0, λ node kind f. part-calm g.begun 0 (λ key. key ++ partial key) keys node kind f)),
     )

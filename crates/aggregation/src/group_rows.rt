@@ -1,15 +1,18 @@
-ghost use Rattle.std.specs.Prelude.{◌≡◌, ◌<◌, ◌≤◌, [], ◌++◌, length, map, true, false, Contains, Err, IfOk, IsTrue, OnErr, OnOk};
+ghost use Rattle.std.specs.Prelude.{◌≡◌, ◌<◌, ◌≤◌, ◌↔◌, ℕ, List, [], ◌++◌, length, map, true, false, Contains, Err, Ok, None, IfOk, IsTrue, OnErr, OnOk};
 ghost use Rattle.sql_values.specs.declared.fail.Fail.{Fail as Kind};
 ghost use Rattle.col_pages.specs.Pages.{most_rows};
 ghost use Rattle.relation_laws.specs.Verdicts.{fails};
+ghost use Rattle.operator_core.specs.Rows.{Row};
+ghost use Rattle.operator_core.specs.Answers.{NotMemory, gave, IsFit};
 ghost use Rattle.accumulators.specs.Limits.{are_allowed};
 ghost use Rattle.aggregation.specs.Alike.{TellAlike, held_row, part_rows};
-ghost use Rattle.aggregation.specs.Giving.{AreForgotten, IsBegun, IsGiven, has_more, no_groups, parts_with, verdicts_with};
+ghost use Rattle.aggregation.specs.Giving.{AreForgotten, GroupsFail, GroupsGive, IsAsBefore, IsBegun, IsGiven, has_more, is_over, no_groups, parts_with, verdicts_with};
 ghost use Rattle.aggregation.specs.Tables.{held_in};
 
 use crate::left::LeftRows;
 use crate::table::GroupTable;
 use col_pages::Page;
+use operator_core::OpFault;
 use sql_values::{Call, ColumnRows, EvalFault, Memory, SqlType};
 use std::alloc::Global;
 use std::marker::Model;
@@ -20,11 +23,11 @@ pub struct GroupRows {
     table: GroupTable,
     left: LeftRows,
     has_begun: bool,
-    is_told: bool,
 }
 
 impl Model for GroupRows {
-    ghost use Rattle.aggregation.specs.Giving.{AreGiven, GroupsState};
+    ghost use Rattle.std.specs.Prelude.{◌<◌, length};
+    ghost use Rattle.aggregation.specs.Giving.{GroupsState};
 
     ghost Value = { GroupsState };
 
@@ -32,10 +35,9 @@ impl Model for GroupRows {
       table = g.table;
       left = g.left;
       begun = g.has_begun;
-      is_told = g.is_told;
     } };
 
-    ghost invariant = { λ g. AreGiven g.left.types g.has_begun g.is_told };
+    ghost invariant = { λ g. 0 < length g.left.types };
 }
 
 impl GroupRows {
@@ -59,7 +61,6 @@ impl GroupRows {
             table,
             left,
             has_begun: false,
-            is_told: false,
         })
     }
 
@@ -68,19 +69,6 @@ impl GroupRows {
         ensures { result.now ≡ self.now.table.types }
     {
         self.table.types()
-    }
-
-    pub fn is_told(&self) -> bool
-        ensures { result ≡ self.now.is_told }
-    {
-        self.is_told
-    }
-
-    /// Tells them that no row comes any more.
-    pub fn tell(&mut self)
-        ensures { self.new ≡ record self.old { is_told = true } }
-    {
-        self.is_told = true;
     }
 
     /// Takes the rows of a page.
@@ -117,8 +105,7 @@ impl GroupRows {
     }
 
     /// Makes the rows of the results, unless rows were made before, and then forgets the groups.
-    pub fn begin_results(&mut self) -> Result<(), EvalFault>
-        requires { self.old.is_told ≡ true }
+    fn begin_results(&mut self) -> Result<(), EvalFault>
         ensures same { OnOk result (self.new ≡ record self.old {
           table = self.new.table;
           begun = true;
@@ -151,8 +138,7 @@ impl GroupRows {
     }
 
     /// Makes the rows of the keys and partial rows, unless rows were made before, and then forgets the groups.
-    pub fn begin_parts(&mut self) -> Result<(), Memory>
-        requires { self.old.is_told ≡ true }
+    fn begin_parts(&mut self) -> Result<(), Memory>
         ensures same { OnOk result (self.new ≡ record self.old {
           table = self.new.table;
           begun = true;
@@ -178,15 +164,56 @@ impl GroupRows {
     }
 
     /// Gives the next page of the rows that are left, if there is one.
-    pub fn give(&mut self) -> Result<Option<Page>, Memory>
+    fn give(&mut self) -> Result<Option<Page>, Memory>
         requires { self.old.begun ≡ true }
         ensures same { self.new ≡ record self.old { left = record self.old.left { rows = self.new.left.rows } } }
         ensures page { IfOk result (λ o. IsGiven self.old.left o self.new.left) }
+        ensures done { self.old.left.rows ≡ [] → self.new.left.rows ≡ [] }
         ensures err { OnErr result (self.new ≡ self.old) }
     {
         if !self.left.holds_row() {
             return Ok(None);
         }
         Ok(Some(self.left.next_page()?))
+    }
+
+    /// Gives the next page of the results, where there is one. A group that fails does so at the node.
+    pub fn give_results(&mut self, node: u32) -> Result<Option<Page>, OpFault>
+        ensures same { IsAsBefore self.old self.new }
+        ensures gives { NotMemory result → (B : List Row)
+            → GroupsGive self.new.begun self.new.left.rows (verdicts_with self.new.table []) B
+            → GroupsGive self.old.begun self.old.left.rows (verdicts_with self.old.table []) (gave result ++ B) }
+        ensures fails { NotMemory result → (n : ℕ) (kind : Kind)
+            → GroupsFail self.new.begun node (verdicts_with self.new.table []) n kind
+            ↔ GroupsFail self.old.begun node (verdicts_with self.old.table []) n kind }
+        ensures fault { (n : ℕ) (kind : Kind) → result ≡ Err (OpFault.Expr n kind)
+            → GroupsFail self.old.begun node (verdicts_with self.old.table []) n kind }
+        ensures none { NotMemory result → (result ≡ Ok None)
+            ↔ (is_over self.old (verdicts_with self.old.table []) ≡ true) }
+        ensures size { IsFit result self.old.left.page }
+        ensures done { is_over self.old (verdicts_with self.old.table []) ≡ true
+            → is_over self.new (verdicts_with self.new.table []) ≡ true }
+    {
+        match self.begin_results() {
+            Ok(()) => Ok(self.give()?),
+            Err(EvalFault::Fail(kind)) => Err(OpFault::Expr { node, kind }),
+            Err(EvalFault::Memory) => Err(OpFault::Memory),
+        }
+    }
+
+    /// Gives the next page of the keys and partial rows, where there is one.
+    pub fn give_parts(&mut self) -> Result<Option<Page>, Memory>
+        ensures same { IsAsBefore self.old self.new }
+        ensures gives { IfOk result (λ page. (B : List Row)
+            → GroupsGive self.new.begun self.new.left.rows (parts_with self.new.table []) B
+            → GroupsGive self.old.begun self.old.left.rows (parts_with self.old.table []) (gave (Ok page) ++ B)) }
+        ensures none { IfOk result (λ page. (page ≡ None)
+            ↔ (is_over self.old (parts_with self.old.table []) ≡ true)) }
+        ensures size { IfOk result (λ page. IsFit (Ok page) self.old.left.page) }
+        ensures done { is_over self.old (parts_with self.old.table []) ≡ true
+            → is_over self.new (parts_with self.new.table []) ≡ true }
+    {
+        self.begin_parts()?;
+        Ok(self.give()?)
     }
 }

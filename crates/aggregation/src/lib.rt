@@ -21,9 +21,9 @@ mod partial;
 mod single;
 mod table;
 
-pub use final_agg::FinalAgg;
+pub use final_agg::{FinalAgg, FinalGroups, final_op};
 pub use group_rows::GroupRows;
 pub use left::LeftRows;
-pub use partial::PartialAgg;
-pub use single::SingleAgg;
+pub use partial::{PartialAgg, PartialGroups, partial_op};
+pub use single::{SingleAgg, SingleGroups, single_op};
 pub use table::GroupTable;

@@ -7,7 +7,8 @@ use Rattle.sql_values.specs.declared.relational.JoinKind.{JoinKind}
 use Rattle.sql_values.specs.declared.relational.JoinKind.TheVariants.{Inner}
 use Rattle.sql_exprs.specs.Calm.{are_calm, is_calm}
 use Rattle.sql_exprs.specs.Forms.{Form, column, forms_of}
-use Rattle.plan_trees.specs.TreeForms.{TreeForm, scan, values, remote, filter, project, join, aggregate, sort, topn, limit, union}
+use Rattle.plan_trees.specs.Steps.{StepForm, filter, project}
+use Rattle.plan_trees.specs.TreeForms.{TreeForm, scan, values, remote, step, join, union}
 use Rattle.plan_trees.specs.TreeTypes.{types_of}
 use Rattle.column_origins.specs.declared.origin.Origin.{Origin}
 
@@ -25,15 +26,16 @@ abbrev pub left_column : JoinKind → ℕ → ℕ → Option ℕ
 left_column Inner width place = if nat_lt place width then Some place else None
 left_column kind width place = None
 
+-- the column of the input that a step passes on at a place
+abbrev pub passed_by : StepForm → List SqlType → ℕ → Option ℕ
+passed_by (filter predicate) types place = if is_calm types predicate then Some place else None
+passed_by (project columns) types place = passed_column types columns place
+passed_by s types place = None
+
 abbrev pub origin_of : TreeForm → ℕ → Option Origin
 origin_of (scan id table columns types) place = Some (record { scan = id; column = place })
 origin_of (values id types rows) place = None
 origin_of (remote id input) place = origin_of input place
-origin_of (filter id predicate input) place = if is_calm (types_of input) predicate then origin_of input place else None
-origin_of (project id columns input) place = option_and_then (origin_of input) (passed_column (types_of input) columns place)
+origin_of (step id s input) place = option_and_then (origin_of input) (passed_by s (types_of input) place)
 origin_of (join id kind on left right) place = option_and_then (origin_of left) (left_column kind (length (types_of left)) place)
-origin_of (aggregate id keys calls input) place = None
-origin_of (sort id keys input) place = None
-origin_of (topn id count keys input) place = None
-origin_of (limit id count input) place = None
 origin_of (union id left right) place = None

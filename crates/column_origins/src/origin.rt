@@ -1,11 +1,11 @@
 ghost use Rattle.std.specs.Prelude.{◌≡◌, length, map, option_map, IfOk};
 ghost use Rattle.sql_exprs.specs.Calm.{are_calm, is_calm};
 ghost use Rattle.sql_exprs.specs.Forms.{form_view, forms_of};
-ghost use Rattle.plan_trees.specs.TreeForms.{tree_view};
+ghost use Rattle.plan_trees.specs.TreeForms.{step_view, tree_view};
 ghost use Rattle.plan_trees.specs.TreeTypes.{types_of};
-ghost use Rattle.column_origins.specs.Origins.{left_column, named_column, origin_of, passed_column};
+ghost use Rattle.column_origins.specs.Origins.{left_column, named_column, origin_of, passed_by, passed_column};
 
-use plan_trees::{Tree, types_of_tree};
+use plan_trees::{Tree, TreeStep, types_of_tree};
 use sql_exprs::{Expr, is_calm_over};
 use sql_values::{JoinKind, Memory, SqlType};
 use std::alloc::Global;
@@ -30,32 +30,35 @@ pub fn origin_of(alloc: Global, tree: &Tree, place: u32) -> Result<Option<Origin
             column: place,
         })),
         Tree::Remote { input, .. } => origin_of(alloc, input, place),
-        Tree::Filter {
-            predicate,
-            input,
-            ..
-        } => {
-            if !is_calm_filter(alloc, input, predicate)? {
-                return Ok(None);
-            }
-            origin_of(alloc, input, place)
-        }
-        Tree::Project { columns, input, .. } => {
-            match passed_column(alloc, input, columns.as_slice(), place)? {
-                Some(place) => origin_of(alloc, input, place),
-                None => Ok(None),
-            }
-        }
+        Tree::Step { step, input, .. } => match passed_by(alloc, input, step, place)? {
+            Some(place) => origin_of(alloc, input, place),
+            None => Ok(None),
+        },
         Tree::Join { kind, left, .. } => match left_column(alloc, *kind, left, place)? {
             Some(place) => origin_of(alloc, left, place),
             None => Ok(None),
         },
-        Tree::Values { .. }
-        | Tree::Aggregate { .. }
-        | Tree::Sort { .. }
-        | Tree::TopN { .. }
-        | Tree::Limit { .. }
-        | Tree::Union { .. } => Ok(None),
+        Tree::Values { .. } | Tree::Union { .. } => Ok(None),
+    }
+}
+
+/// The column of the input that a step passes on at the place.
+fn passed_by(
+    alloc: Global,
+    input: &Tree,
+    step: &TreeStep,
+    place: u32,
+) -> Result<Option<u32>, Memory>
+    ensures { IfOk result (λ passed. passed
+        ≡ passed_by (step_view step.now) (types_of (tree_view input.now)) place) }
+{
+    match step {
+        TreeStep::Filter { predicate } => {
+            let calm = is_calm_filter(alloc, input, predicate)?;
+            Ok(if calm { Some(place) } else { None })
+        }
+        TreeStep::Project { columns } => passed_column(alloc, input, columns.as_slice(), place),
+        _ => Ok(None),
     }
 }
 

@@ -1,9 +1,13 @@
 -- The laws of a stage, from those of its operator.
-use Rattle.std.specs.Prelude.{◌≡◌, ◌↔◌, ℕ, List, [], ◌++◌, Bool, true, false}
+use Rattle.std.specs.Prelude.{◌≡◌, ◌↔◌, ℕ, List, [], ◌++◌, Bool, true, false, refl}
 use Rattle.std.proofs.Common.{ap, sym, subst, ◌∙◌}
 use Rattle.sql_values.specs.declared.fail.Fail.{Fail}
 use Rattle.operator_core.specs.declared.operator.Operator.{Ghosts}
-use Rattle.operator_core.specs.LawGroups.{FullLaws, NoteLaws}
+use Rattle.operator_core.specs.declared.late.Kernel.{Ghosts as KernelGhosts}
+use Rattle.operator_core.specs.LateGhosts.{late}
+use Rattle.operator_core.specs.LateLaws.{late-finished, told-holds}
+use Rattle.operator_core.specs.LawGroups.{FullLaws, NoteLaws, never_full, no_note}
+use Rattle.operator_core.specs.NoteLaws.{none-without, told-needs, told-needs_none}
 use Rattle.operator_core.specs.Rows.{Row, Coming}
 
 -- the laws of an operator, as the trait has them
@@ -20,6 +24,29 @@ Laws {S = S} g = record {
   made_untold : (s : S) → g.is_told (g.as_made s) ≡ false;
   made_again : (s : S) → g.as_made (g.as_made s) ≡ g.as_made s;
   note : NoteLaws g.may_give g.needs_input g.is_told g.is_finished g.waits g.knows g.went g.counted g.as_made g.may_learn;
+}
+
+-- the laws of a kernel, and of the operator that gives late by it
+abbrev pub KernelLaws : {K : Type 0} → KernelGhosts K → Type 0
+KernelLaws {K = K} k = record {
+  some_rows : (s : K) (X : List Row) → (B : List Row) × k.may_give s X B;
+  holds_rest : (s : K) (B : List Row) → k.may_give s [] B → (k.holds_row s ≡ false) ↔ (B ≡ []);
+  done : (s : K) → (k.is_done s ≡ true) ↔ ((k.holds_row s ≡ false) × ((node : ℕ) (kind : Fail) → k.may_fail s [] node kind → ⊥));
+  made_again : (s : K) → k.as_made (k.as_made s) ≡ k.as_made s;
+}
+
+pub late_laws : {K : Type 0} (k : KernelGhosts K) → KernelLaws k → Laws (late k)
+late_laws {K = K} k laws = record {
+  some_rows = λ s X coming. laws.some_rows s.kernel X;
+  holds_rest = λ s B told g. told-holds s.is_told (k.holds_row s.kernel) (told refl) (laws.holds_rest s.kernel B g);
+  late_holds_none = λ s late told. none-without s.is_told (k.holds_row s.kernel) told;
+  finished = λ s. late-finished s.is_told (laws.done s.kernel);
+  needs_untold = λ s. told-needs_none s.is_told;
+  full = never_full;
+  needs = λ s told _ _ _. told-needs s.is_told told;
+  made_untold = λ s. refl;
+  made_again = λ s. ap (λ (t : K). record { kernel = t; is_told = false }) (laws.made_again s.kernel);
+  note = no_note;
 }
 
 -- what the ghosts are at one state, and as it was made

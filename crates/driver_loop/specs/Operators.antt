@@ -3,19 +3,21 @@ use Rattle.std.specs.Prelude.{false}
 use Rattle.operator_core.specs.declared.operator.Operator.{Ghosts}
 use Rattle.row_ops.specs.RowsHeld.{FilterState}
 use Rattle.row_ops.specs.declared.limit.LimitOp.{LimitOp as LimitState}
-use Rattle.topn_sort.specs.Sorting.{SortState, TopState}
-use Rattle.aggregation.specs.declared.single.SingleAgg.{SingleAgg as SingleState}
-use Rattle.aggregation.specs.declared.partial.PartialAgg.{PartialAgg as PartialState}
+use Rattle.operator_core.specs.Late.{LateState}
+use Rattle.operator_core.specs.LateGhosts.{late}
+use Rattle.topn_sort.specs.Sorting.{BufferState, TopState}
+use Rattle.aggregation.specs.declared.single.SingleGroups.{SingleGroups}
+use Rattle.aggregation.specs.declared.partial.PartialGroups.{PartialGroups}
 use Rattle.aggregation.specs.Finals.{FinalState}
 use Rattle.hash_join.specs.Probing.{ProbeState}
 use Rattle.dyn_filter.specs.Filters.{FilterState as DynamicState}
 use Rattle.row_ops.specs.contracts.filter_project.FilterProjectOperator.TheImpl.{ghosts as filter}
 use Rattle.row_ops.specs.contracts.limit.LimitOpOperator.TheImpl.{ghosts as limit}
-use Rattle.topn_sort.specs.contracts.sort.SortOpOperator.TheImpl.{ghosts as sort}
-use Rattle.topn_sort.specs.contracts.topn.TopNOpOperator.TheImpl.{ghosts as topn}
-use Rattle.aggregation.specs.contracts.single.SingleAggOperator.TheImpl.{ghosts as single}
-use Rattle.aggregation.specs.contracts.partial.PartialAggOperator.TheImpl.{ghosts as partial}
-use Rattle.aggregation.specs.contracts.final_agg.FinalAggOperator.TheImpl.{ghosts as final}
+use Rattle.topn_sort.specs.contracts.sort.SortBufferKernel.TheImpl.{ghosts as sort}
+use Rattle.topn_sort.specs.contracts.topn.TopRowsKernel.TheImpl.{ghosts as topn}
+use Rattle.aggregation.specs.contracts.single.SingleGroupsKernel.TheImpl.{ghosts as single}
+use Rattle.aggregation.specs.contracts.partial.PartialGroupsKernel.TheImpl.{ghosts as partial}
+use Rattle.aggregation.specs.contracts.final_agg.FinalGroupsKernel.TheImpl.{ghosts as final}
 use Rattle.hash_join.specs.contracts.probe.ProbeOpOperator.TheImpl.{ghosts as probe}
 use Rattle.dyn_filter.specs.contracts.filter.FilterOpOperator.TheImpl.{ghosts as dynamic}
 use Rattle.driver_loop.specs.declared.stage.Stage.{Stage}
@@ -27,11 +29,11 @@ use Rattle.driver_loop.specs.OperatorLaws.{LearnsAs}
 abbrev pub of_operator {ℓ} : {R : Type ℓ} → ((S : Type 0) → Ghosts S → (S → Stage) → S → R) → Stage → R
 of_operator read (Filter op) = read FilterState filter Filter op
 of_operator read (Limit op types) = read LimitState limit (λ s. Limit s types) op
-of_operator read (Sort op) = read SortState sort Sort op
-of_operator read (TopN op) = read TopState topn TopN op
-of_operator read (Single op) = read SingleState single Single op
-of_operator read (Partial op) = read PartialState partial Partial op
-of_operator read (Final op) = read FinalState final Final op
+of_operator read (Sort op) = read (LateState BufferState) (late sort) Sort op
+of_operator read (TopN op) = read (LateState TopState) (late topn) TopN op
+of_operator read (Single op) = read (LateState SingleGroups) (late single) Single op
+of_operator read (Partial op) = read (LateState PartialGroups) (late partial) Partial op
+of_operator read (Final op) = read (LateState FinalState) (late final) Final op
 of_operator read (Probe op types) = read ProbeState probe (λ s. Probe s types) op
 of_operator read (Dynamic op types) = read DynamicState dynamic (λ s. Dynamic s types) op
 

@@ -213,9 +213,9 @@ impl<'w> TypedOperator for Stage<'w> {
 /// Whether a page has the layout of the rows between the halves of an aggregate: its types, and a partial row behind each
 /// key.
 fn is_of_layout(op: &FinalAgg, page: &Page) -> bool
-    ensures types { result ≡ true → page.now.types ≡ op.now.taken }
+    ensures types { result ≡ true → page.now.types ≡ op.now.kernel.taken }
     ensures rows { result ≡ true
-        → IsTrue (list_all (is_layout_row (layout_in op.now)) page.now.rows) }
+        → IsTrue (list_all (is_layout_row (layout_in op.now.kernel)) page.now.rows) }
 {
-    are_same(page.types(), op.types()) && op.is_layout(page)
+    are_same(page.types(), op.types()) && op.kernel().is_layout(page)
 }

@@ -1,1 +1,2 @@
 pub mod MadeLemmas
+pub use Rattle.pipe_laws.proofs.FitLemmas

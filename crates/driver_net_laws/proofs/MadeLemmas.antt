@@ -16,19 +16,19 @@ use Rattle.hash_join.specs.Probing.{ProbeState}
 use Rattle.hash_join.specs.contracts.probe.ProbeOpOperator.TheImpl.{ghosts as probe_ghosts}
 use Rattle.plan_trees.specs.Allowed.{width_of}
 use Rattle.plan_trees.specs.TreeTypes.{types_of}
-use Rattle.plan_run_laws.specs.Nets as stage
-use Rattle.plan_run_laws.specs.RunPlans.{RunPlan, tree_of_run, scan, values, remote, filter, project, join, aggregate, aggregate_parts, sort, topn, topn_parts, limit, limit_parts, union}
+use Rattle.plan_run_laws.specs.Stages as stage
+use Rattle.plan_run_laws.specs.RunPlans.{RunPlan, tree_of_run, scan, values, remote, step, halves, join, union}
 use Rattle.pipe_laws.specs.Meanings.{Means}
 use Rattle.pipe_laws.specs.Pipelines.{NodeStage, at_node}
 use Rattle.pipe_laws.specs.Lookups.{IsSourceOf, rows_known}
-use Rattle.plan_trees.specs.Layouts.{partial_types}
+use Rattle.pipe_laws.specs.Trees.{types_between}
 use Rattle.pipe_laws.specs.Operators.{EndsIn, LooksUp, NoOperator, Operate, Probes, types_of_source}
 use Rattle.pipe_laws.proofs.LookupLemmas.{probe_probes}
 use Rattle.pipe_laws.proofs.OperatorLemmas.{came_before, done_is, one_more, stood_at}
 use Rattle.pipe_laws.proofs.ProbeLemmas.{looks_up_rows}
 use Rattle.driver_loop.specs.contracts.stage.StageOperator.TheImpl.{ghosts}
 use Rattle.driver_loop.specs.declared.stage.Stage.{Stage}
-use Rattle.driver_loop.specs.declared.stage.Stage.TheVariants.{Dynamic, Filter, Final, Limit, Partial, Probe, Single, Sort, TopN}
+use Rattle.driver_loop.specs.declared.stage.Stage.TheVariants.{Probe}
 use Rattle.pipe_laws.specs.Lanes.{HasNotes, IsHalved, IsLane, Noted}
 use Rattle.driver_net_laws.specs.Cells.{Names, cell_of}
 use Rattle.driver_net_laws.specs.Made.{AreMadeFor, Behind, KnowSources, note_known, notes_known}
@@ -41,30 +41,16 @@ record IsProbe (s : Stage) (op : ProbeState) (types : List SqlType) : Type 0 whe
   made : probe_ghosts.as_made raw ≡ op
 
 probe_raw : (s : Stage) (op : ProbeState) (types : List SqlType) → ghosts.as_made s ≡ Probe op types → IsProbe s op types
-probe_raw (Filter f) op types same = absurd cc
-probe_raw (Limit l ts) op types same = absurd cc
-probe_raw (Sort s) op types same = absurd cc
-probe_raw (TopN s) op types same = absurd cc
-probe_raw (Single s) op types same = absurd cc
-probe_raw (Partial s) op types same = absurd cc
-probe_raw (Final s) op types same = absurd cc
-probe_raw (Dynamic d ts) op types same = absurd cc
 probe_raw (Probe raw ts) op types same =
     let own : ts ≡ types = cc in
     let made : probe_ghosts.as_made raw ≡ op = cc in
     record { raw = raw; is = ap (λ (t : List SqlType). Probe raw t) own; made = made }
+probe_raw s op types same = absurd cc
 
 -- a stage that looks into no cell of a join has no note of one
 no_note : (s : Stage) → cell_of (ghosts.as_made s) ≡ [] → note_known s ≡ []
-no_note (Filter f) apart = refl
-no_note (Limit l ts) apart = refl
-no_note (Sort s) apart = refl
-no_note (TopN s) apart = refl
-no_note (Single s) apart = refl
-no_note (Partial s) apart = refl
-no_note (Final s) apart = refl
 no_note (Probe raw ts) apart = absurd cc
-no_note (Dynamic d ts) apart = refl
+no_note s apart = refl
 
 -- the notes of the last stage come first
 notes-snoc : (before : List Stage) (last : Stage) → notes_known (before ++ last ∷ []) ≡ note_known last ++ notes_known before
@@ -176,31 +162,17 @@ module _ (names : Names) (laws : IsLawful ghosts) where
   operates (scan id table columns types) bells all given e IsOne know each = (e, no_stage types all given e)
   operates (values id types rows) bells all given e IsOne know each = (e, no_stage types all given e)
   operates (remote id output tasks input) bells all given e IsOne know each = (e, no_stage (types_of (tree_of_run input)) all given e)
-  operates (filter id predicate input) bells all given e IsOne know each =
-      unary input (at_node id (stage.filter (types_of (tree_of_run input)) predicate)) bells all given e
+  operates (step id s input) bells all given e IsOne know each =
+      unary input (at_node id (stage.does (types_of (tree_of_run input)) s)) bells all given e
       (operates input bells e.before e.between e.input IsOne know (front IsOne all e.before e.last e.are each))
-  operates (project id columns input) bells all given e IsOne know each =
-      unary input (at_node id (stage.project (types_of (tree_of_run input)) columns)) bells all given e
-      (operates input bells e.before e.between e.input IsOne know (front IsOne all e.before e.last e.are each))
+  operates (halves id source output tasks h input) bells all given e IsOne know each =
+      let types = types_of (tree_of_run input) in alone (types_between types h) (at_node id (stage.second_half types h)) all given e
   operates (join id kind on left right) [] all given e IsOne know each = absurd e
   operates (join id kind on left right) (bell ∷ bells) all given e IsOne know each =
       joined id bell kind on left right bells all given e
       (looks_up id bell kind on left right e.between given e.last e.is
       (λ op types is rings. know.0 op types (subst IsOne is (back IsOne all e.before e.last e.are each)) rings))
       (operates left bells e.before e.between e.input IsOne know.1 (front IsOne all e.before e.last e.are each))
-  operates (aggregate id keys calls input) bells all given e IsOne know each =
-      unary input (at_node id (stage.grouping (types_of (tree_of_run input)) keys calls)) bells all given e
-      (operates input bells e.before e.between e.input IsOne know (front IsOne all e.before e.last e.are each))
-  operates (aggregate_parts id source output tasks keys calls input) bells all given e IsOne know each =
-      let types = types_of (tree_of_run input) in alone (partial_types types keys calls) (at_node id (stage.final types (length keys) calls)) all given e
-  operates (sort id keys input) bells all given e IsOne know each =
-      unary input (at_node id (stage.sort keys)) bells all given e (operates input bells e.before e.between e.input IsOne know (front IsOne all e.before e.last e.are each))
-  operates (topn id count keys input) bells all given e IsOne know each =
-      unary input (at_node id (stage.topn count keys)) bells all given e (operates input bells e.before e.between e.input IsOne know (front IsOne all e.before e.last e.are each))
-  operates (topn_parts id source output tasks count keys input) bells all given e IsOne know each = alone (types_of (tree_of_run input)) (at_node id (stage.topn count keys)) all given e
-  operates (limit id count input) bells all given e IsOne know each =
-      unary input (at_node id (stage.limit count)) bells all given e (operates input bells e.before e.between e.input IsOne know (front IsOne all e.before e.last e.are each))
-  operates (limit_parts id source output tasks count input) bells all given e IsOne know each = alone (types_of (tree_of_run input)) (at_node id (stage.limit count)) all given e
   operates (union id left right) bells all given e IsOne know each = (e, no_stage (types_of (tree_of_run left)) all given e)
 
   -- stages of a driver as they stand: they took some rows and gave others, and each was told to finish in turn

@@ -5,7 +5,7 @@ use Rattle.hash_join.specs.Cells.{CellState}
 use Rattle.driver_loop.specs.Drivers.{DriverState}
 use Rattle.driver_loop.specs.declared.pieces.CellNote.{CellNote}
 use Rattle.driver_loop.specs.declared.stage.Stage.{Stage}
-use Rattle.driver_loop.specs.declared.stage.Stage.TheVariants.{Dynamic, Filter, Final, Limit, Partial, Probe, Single, Sort, TopN}
+use Rattle.driver_loop.specs.declared.stage.Stage.TheVariants.{Probe}
 use Rattle.driver_loop.specs.declared.target.Target.{Target}
 use Rattle.driver_loop.specs.declared.target.Target.TheVariants.{Build, Deal, Put, Result}
 
@@ -18,15 +18,8 @@ IsNamed names cell = cell.name ≡ names cell.bell
 
 -- the number of the bell, and the name, of the cell of a join that a stage looks into, if it does
 abbrev pub cell_of : Stage → List (ℕ × ℕ)
-cell_of (Filter op) = []
-cell_of (Limit op types) = []
-cell_of (Sort op) = []
-cell_of (TopN op) = []
-cell_of (Single op) = []
-cell_of (Partial op) = []
-cell_of (Final op) = []
 cell_of (Probe op types) = (op.bell, op.note.cell) ∷ []
-cell_of (Dynamic op types) = []
+cell_of stage = []
 
 -- and of the one in which a target publishes
 abbrev pub target_cell : Target → List (ℕ × ℕ)

@@ -7,3 +7,8 @@ pub mod Nets
 pub mod Makes
 pub mod Settled
 pub mod States
+pub use Rattle.pipe_laws.specs.Operators
+pub use Rattle.pipe_laws.specs.Pipelines
+pub use Rattle.pipe_laws.specs.Pipes
+pub use Rattle.pipe_laws.specs.Lanes
+pub use Rattle.pipe_laws.specs.Lookups

@@ -1,19 +1,19 @@
 -- The stages of a driver, made for the nodes of its pipeline, and what the notes of its probes know.
-use Rattle.std.specs.Prelude.{◌≡◌, ℕ, List, [], ◌∷◌, ◌++◌, Some, length, map}
+use Rattle.std.specs.Prelude.{◌≡◌, ℕ, List, [], ◌∷◌, ◌++◌, Some, map}
 use Rattle.sql_values.specs.declared.types.SqlType.{SqlType}
 use Rattle.operator_core.specs.Rows.{Row}
 use Rattle.join_index.specs.Keys.{IndexedRows}
 use Rattle.hash_join.specs.Probing.{ProbeState}
 use Rattle.driver_loop.specs.declared.stage.Stage.{Stage}
-use Rattle.driver_loop.specs.declared.stage.Stage.TheVariants.{Dynamic, Filter, Final, Limit, Partial, Probe, Single, Sort, TopN}
+use Rattle.driver_loop.specs.declared.stage.Stage.TheVariants.{Probe}
 use Rattle.driver_loop.specs.contracts.stage.StageOperator.TheImpl.{ghosts}
 use Rattle.plan_trees.specs.TreeTypes.{types_of}
-use Rattle.plan_run_laws.specs.Nets as stage
-use Rattle.plan_run_laws.specs.RunPlans.{RunPlan, tree_of_run, scan, values, remote, filter, project, join, aggregate, aggregate_parts, sort, topn, topn_parts, limit, limit_parts, union}
+use Rattle.plan_run_laws.specs.Stages.{does, second_half}
+use Rattle.plan_run_laws.specs.RunPlans.{RunPlan, tree_of_run, scan, values, remote, step, halves, join, union}
 use Rattle.pipe_laws.specs.Pipelines.{NodeStage, at_node}
 use Rattle.pipe_laws.specs.Lookups.{IsSourceOf, rows_known}
-use Rattle.plan_trees.specs.Layouts.{partial_types}
 use Rattle.pipe_laws.specs.Operators.{EndsIn, NoOperator}
+use Rattle.pipe_laws.specs.Trees.{types_between}
 use Rattle.pipe_laws.specs.Lanes.{Noted}
 use Rattle.driver_net_laws.specs.Cells.{Names}
 use Rattle.driver_net_laws.specs.Stages.{IsProbeOf, IsStageOf}
@@ -28,37 +28,19 @@ abbrev pub AreMadeFor : Names → RunPlan → List ℕ → List Stage → List S
 AreMadeFor names (scan id table columns types) bells all given = NoOperator types all given
 AreMadeFor names (values id types rows) bells all given = NoOperator types all given
 AreMadeFor names (remote id output tasks input) bells all given = NoOperator (types_of (tree_of_run input)) all given
-AreMadeFor names (filter id predicate input) bells all given =
-    Behind (AreMadeFor names input bells) (at_node id (stage.filter (types_of (tree_of_run input)) predicate)) all given
-AreMadeFor names (project id columns input) bells all given =
-    Behind (AreMadeFor names input bells) (at_node id (stage.project (types_of (tree_of_run input)) columns)) all given
+AreMadeFor names (step id s input) bells all given =
+    Behind (AreMadeFor names input bells) (at_node id (does (types_of (tree_of_run input)) s)) all given
+AreMadeFor names (halves id source output tasks h input) bells all given =
+    Behind (NoOperator (types_between (types_of (tree_of_run input)) h)) (at_node id (second_half (types_of (tree_of_run input)) h)) all given
 AreMadeFor names (join id kind on left right) [] all given = ⊥
 AreMadeFor names (join id kind on left right) (bell ∷ bells) all given =
     EndsIn (AreMadeFor names left bells) (λ last between. IsProbeOf names bell kind on (types_of (tree_of_run right)) between given (ghosts.as_made last)) all
-AreMadeFor names (aggregate id keys calls input) bells all given =
-    Behind (AreMadeFor names input bells) (at_node id (stage.grouping (types_of (tree_of_run input)) keys calls)) all given
-AreMadeFor names (aggregate_parts id source output tasks keys calls input) bells all given =
-    Behind (NoOperator (partial_types (types_of (tree_of_run input)) keys calls)) (at_node id (stage.final (types_of (tree_of_run input)) (length keys) calls)) all given
-AreMadeFor names (sort id keys input) bells all given = Behind (AreMadeFor names input bells) (at_node id (stage.sort keys)) all given
-AreMadeFor names (topn id count keys input) bells all given = Behind (AreMadeFor names input bells) (at_node id (stage.topn count keys)) all given
-AreMadeFor names (topn_parts id source output tasks count keys input) bells all given =
-    Behind (NoOperator (types_of (tree_of_run input))) (at_node id (stage.topn count keys)) all given
-AreMadeFor names (limit id count input) bells all given = Behind (AreMadeFor names input bells) (at_node id (stage.limit count)) all given
-AreMadeFor names (limit_parts id source output tasks count input) bells all given =
-    Behind (NoOperator (types_of (tree_of_run input))) (at_node id (stage.limit count)) all given
 AreMadeFor names (union id left right) bells all given = NoOperator (types_of (tree_of_run left)) all given
 
 -- what the note of a stage knows of a join's right side, if it has one
 abbrev pub note_known : Stage → Noted
-note_known (Filter op) = []
-note_known (Limit op types) = []
-note_known (Sort op) = []
-note_known (TopN op) = []
-note_known (Single op) = []
-note_known (Partial op) = []
-note_known (Final op) = []
 note_known (Probe op types) = rows_known op.note.known ∷ []
-note_known (Dynamic op types) = []
+note_known stage = []
 
 -- what the notes of a driver's stages know, from the last one down
 abbrev pub notes_known : List Stage → Noted
@@ -71,18 +53,11 @@ abbrev pub KnowSources : RunPlan → List ℕ → (Stage → Type 0) → Type 0
 KnowSources (scan id table columns types) bells IsOne = Unit {0}
 KnowSources (values id types rows) bells IsOne = Unit {0}
 KnowSources (remote id output tasks input) bells IsOne = Unit {0}
-KnowSources (filter id predicate input) bells IsOne = KnowSources input bells IsOne
-KnowSources (project id columns input) bells IsOne = KnowSources input bells IsOne
+KnowSources (step id s input) bells IsOne = KnowSources input bells IsOne
+KnowSources (halves id source output tasks h input) bells IsOne = Unit {0}
 KnowSources (join id kind on left right) [] IsOne = Unit {0}
 KnowSources (join id kind on left right) (bell ∷ bells) IsOne =
     ((op : ProbeState) (types : List SqlType) → IsOne (Probe op types) → op.bell ≡ bell → (source : IndexedRows) → op.note.known ≡ Some source
     → IsSourceOf (map (λ (pair : ℕ × ℕ). pair.1) on) (types_of (tree_of_run right)) source)
     × KnowSources left bells IsOne
-KnowSources (aggregate id keys calls input) bells IsOne = KnowSources input bells IsOne
-KnowSources (aggregate_parts id source output tasks keys calls input) bells IsOne = Unit {0}
-KnowSources (sort id keys input) bells IsOne = KnowSources input bells IsOne
-KnowSources (topn id count keys input) bells IsOne = KnowSources input bells IsOne
-KnowSources (topn_parts id source output tasks count keys input) bells IsOne = Unit {0}
-KnowSources (limit id count input) bells IsOne = KnowSources input bells IsOne
-KnowSources (limit_parts id source output tasks count input) bells IsOne = Unit {0}
 KnowSources (union id left right) bells IsOne = Unit {0}

@@ -7,22 +7,26 @@ use Rattle.accumulators.specs.Limits.{are_allowed}
 use Rattle.col_pages.specs.Fits.{AllFit}
 use Rattle.page_processor.specs.Typed.{AllTyped, IsTyped}
 use Rattle.pipe_laws.specs.Fits.{IsReadFrom}
-use Rattle.plan_layout.specs.Pipes.{PipeForm, SourceForm, StepForm, table, rows, sides, fragment, edge, filter, project, probe, aggregate, partial, final, sort, top_n, limit}
+use Rattle.plan_layout.specs.Pipes.{PipeForm, SourceForm, StepForm, table, rows, sides, fragment, edge, does, probe, partial, final}
 use Rattle.plan_trees.specs.Layouts.{partial_types}
+use Rattle.plan_trees.specs.Steps as plan_step
 use Rattle.driver_net_laws.specs.Types.{PipeTypes, types_after}
+
+-- a stage can be made that does this over rows of these types
+abbrev pub DoesFit : List SqlType → plan_step.StepForm → Type 0
+DoesFit between (plan_step.filter predicate) = (0 < length between) × IsTyped between predicate
+DoesFit between (plan_step.project columns) = (0 < length columns) × AllTyped between columns
+DoesFit between (plan_step.aggregate keys calls) = (0 < length keys + length calls) × IsTrue (are_allowed between calls)
+DoesFit between (plan_step.limit count) = Unit {0}
+DoesFit between step = 0 < length between
 
 -- a stage can be made for the step, over rows of these types
 abbrev pub StepFits : List SqlType → StepForm → List SqlType → Type 0
-StepFits halved (filter id predicate) between = (0 < length between) × IsTyped between predicate
-StepFits halved (project id columns) between = (0 < length columns) × AllTyped between columns
+StepFits halved (does id step) between = DoesFit between step
 StepFits halved (probe id kind on at) between = Unit {0}
-StepFits halved (aggregate id keys calls) between = (0 < length keys + length calls) × IsTrue (are_allowed between calls)
 StepFits halved (partial id keys calls) between = (0 < length keys + length calls) × IsTrue (are_allowed between calls)
 StepFits halved (final id keys calls) between =
     (0 < length keys + length calls) × IsTrue (are_allowed halved calls) × (between ≡ partial_types halved keys calls)
-StepFits halved (sort id keys) between = 0 < length between
-StepFits halved (top_n id count keys) between = 0 < length between
-StepFits halved (limit id count) between = Unit {0}
 
 abbrev pub StepsFit : (ℕ → PipeTypes) → List SqlType → List StepForm → List SqlType → Type 0
 StepsFit types halved [] between = Unit {0}

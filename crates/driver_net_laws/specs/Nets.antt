@@ -28,7 +28,7 @@ use Rattle.plan_docs.specs.declared.node.DynamicFilter.{DynamicFilter}
 use Rattle.plan_trees.specs.Allowed.{table_rows}
 use Rattle.plan_trees.specs.TreeForms.{pair_view}
 use Rattle.plan_trees.specs.declared.tree.Pair.{Pair}
-use Rattle.plan_run_laws.specs.Nets as stage
+use Rattle.plan_run_laws.specs.Stages as stage
 use Rattle.plan_run_laws.specs.RunPlans as plan
 use Rattle.plan_run_laws.specs.Spreads.{Tables}
 use Rattle.plan_spreads.specs.Runs.{output_view}
@@ -40,7 +40,7 @@ use Rattle.driver_net_laws.specs.Stages.{IsProbeOf, IsStageOf}
 use Rattle.plan_layout.specs.declared.filters.PlacedFilter.{PlacedFilter}
 use Rattle.plan_layout.specs.Filters.{filters_built, scan_filters}
 use Rattle.plan_layout.specs.Layouts.{drivers_in}
-use Rattle.plan_layout.specs.Pipes.{BuildForm, PipeForm, SourceForm, StepForm, TargetForm, driver_number, table, rows, sides, fragment, edge, filter, project, probe, aggregate, partial, final, sort, top_n, limit, result, cell, side, readers, takers}
+use Rattle.plan_layout.specs.Pipes.{BuildForm, PipeForm, SourceForm, StepForm, TargetForm, driver_number, table, rows, sides, fragment, edge, does, probe, partial, final, result, cell, side, readers, takers}
 use Rattle.driver_net_laws.specs.Types.{PipesAreTyped, PipeTypes, types_after}
 
 -- What drivers share, by the place of the pipe that has it: the claims of the table that it reads; in each task the edge
@@ -107,17 +107,12 @@ IsSourceFor net at task (edge pipe numbers) source = IsFetchFor (net.links.gathe
 -- The stage, as it was made, is that of a step over rows of some types, and gives rows of others. The second half of an
 -- aggregate groups the rows that came to the first one.
 abbrev pub IsStageFor : NetForm → ℕ → List SqlType → StepForm → List SqlType → List SqlType → Stage → Type 0
-IsStageFor net task halved (filter id predicate) between given made = IsStageOf (at_node id (stage.filter between predicate)) between given made
-IsStageFor net task halved (project id columns) between given made = IsStageOf (at_node id (stage.project between columns)) between given made
+IsStageFor net task halved (does id step) between given made = IsStageOf (at_node id (stage.does between step)) between given made
 IsStageFor net task halved (probe id kind on at) between given made =
     IsProbeOf net.links.names (net.links.cells at task) kind (map pair_view on) (net.types at).given between given made
-IsStageFor net task halved (aggregate id keys calls) between given made = IsStageOf (at_node id (stage.grouping between keys calls)) between given made
 IsStageFor net task halved (partial id keys calls) between given made = IsStageOf (at_node id (stage.partial keys calls)) between given made
 IsStageFor net task halved (final id keys calls) between given made =
     IsStageOf (at_node id (stage.final halved (length keys) calls)) between given made
-IsStageFor net task halved (sort id keys) between given made = IsStageOf (at_node id (stage.sort keys)) between given made
-IsStageFor net task halved (top_n id count keys) between given made = IsStageOf (at_node id (stage.topn count keys)) between given made
-IsStageFor net task halved (limit id count) between given made = IsStageOf (at_node id (stage.limit count)) between given made
 
 -- a stage for each step, from the source on
 abbrev pub AreStagesFor : NetForm → ℕ → List SqlType → List StepForm → List SqlType → List Stage → Type 0

@@ -2,9 +2,9 @@
 use Rattle.std.specs.Prelude.{◌≡◌, ℕ, List, [], ◌∷◌, ◌++◌, Bool, true, false, ◌==◌, map, slice_get, Some}
 use Rattle.sql_values.specs.declared.types.SqlType.{SqlType}
 use Rattle.sql_functions.specs.CallTypes.{type_at}
-use Rattle.sql_exprs.specs.Meaning.{kind_of}
+use Rattle.plan_trees.specs.Steps as plan_step
 use Rattle.plan_trees.specs.TreeTypes.{call_kind}
-use Rattle.plan_layout.specs.Pipes.{PipeForm, SourceForm, StepForm, TargetForm, table, rows, sides, fragment, edge, filter, project, probe, aggregate, partial, final, sort, top_n, limit, result, cell, side, readers, takers}
+use Rattle.plan_layout.specs.Pipes.{PipeForm, SourceForm, StepForm, TargetForm, table, rows, sides, fragment, edge, does, probe, partial, final, result, cell, side, readers, takers}
 use Rattle.plan_trees.specs.Layouts.{partial_types}
 
 -- of the rows of its source, of those that come to its last step, of those that come to the last step of the pipe whose
@@ -17,15 +17,10 @@ pub record PipeTypes : Type 0 where
 
 -- behind a step over rows of some types. The second half of an aggregate groups the rows that came to the first one
 abbrev pub types_after : (ℕ → PipeTypes) → List SqlType → StepForm → List SqlType → List SqlType
-types_after types halved (filter id predicate) between = between
-types_after types halved (project id columns) between = map (kind_of between) columns
+types_after types halved (does id step) between = plan_step.types_after step between
 types_after types halved (probe id kind on at) between = between ++ (types at).given
-types_after types halved (aggregate id keys calls) between = map (type_at between) keys ++ map (call_kind between) calls
 types_after types halved (partial id keys calls) between = partial_types between keys calls
 types_after types halved (final id keys calls) between = map (type_at halved) keys ++ map (call_kind halved) calls
-types_after types halved (sort id keys) between = between
-types_after types halved (top_n id count keys) between = between
-types_after types halved (limit id count) between = between
 
 abbrev pub types_through : (ℕ → PipeTypes) → List SqlType → List StepForm → List SqlType → List SqlType
 types_through types halved [] between = between

@@ -10,7 +10,7 @@ use crate::edge_drivers::{add, local, put_target};
 use crate::parts::{driver_of, result};
 use crate::runs::{give_rounds, stop_last};
 use crate::slow::Slow;
-use aggregation::{FinalAgg, PartialAgg};
+use aggregation::{FinalAgg, PartialAgg, final_op, partial_op};
 use driver_loop::{Driver, RowsSource, Source, Stage};
 use futures::task::{Doorbell, Solo};
 use operator_core::Operator;
@@ -97,7 +97,7 @@ fn partial(alloc: Global) -> Result<PartialAgg, Memory>
 {
     let keys = Vec::from_array(alloc, [0])?;
     let calls = calls(alloc)?;
-    PartialAgg::new(alloc, keys, calls, pairs(alloc)?, 8)
+    partial_op(alloc, keys, calls, pairs(alloc)?, 8)
 }
 
 /// The groups by the first column.
@@ -113,7 +113,7 @@ fn last(alloc: Global) -> Result<FinalAgg, Memory>
 {
     let keys = Vec::from_array(alloc, [SqlType::Bigint])?;
     let calls = calls(alloc)?;
-    FinalAgg::new(alloc, 7, keys, calls, pairs(alloc)?, 8)
+    final_op(alloc, 7, keys, calls, pairs(alloc)?, 8)
 }
 
 /// The results of the groups. Their node is 7.

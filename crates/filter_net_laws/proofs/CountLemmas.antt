@@ -17,13 +17,13 @@ use Rattle.driver_loop.specs.Ends.{has_ended, rows_taken}
 use Rattle.driver_loop.specs.Turns.{passed_of_stage}
 use Rattle.driver_loop.specs.contracts.stage.StageOperator.TheImpl.{ghosts}
 use Rattle.driver_loop.specs.declared.stage.Stage.{Stage}
-use Rattle.sieve_laws.proofs.SplitLemmas.{told_both}
+use Rattle.net_laws.proofs.SplitLemmas.{told_both}
 use Rattle.plan_layout.specs.declared.filters.PlacedFilter.{PlacedFilter}
 use Rattle.plan_layout.specs.Filters.{scan_filters}
 use Rattle.plan_layout.specs.Pipes.{PipeForm}
-use Rattle.driver_net_laws.specs.Nets.{NetForm, front_stages, step_stages}
-use Rattle.driver_net_laws.specs.Settled.{in_pipe, listed, of_lane}
-use Rattle.driver_net_laws.specs.States.{Flow, fact_of, rows_taken_by, sources_ended}
+use Rattle.net_laws.specs.Nets.{NetForm, front_stages, step_stages}
+use Rattle.net_laws.specs.Settled.{in_pipe, listed, of_lane}
+use Rattle.net_laws.specs.States.{Flow, fact_of, rows_taken_by, sources_ended}
 use Rattle.net_laws.proofs.DriverLemmas.{AllKnown}
 use Rattle.net_laws.proofs.FrontLemmas.{cut, front_finished}
 use Rattle.filter_count_laws.specs.FilterStages.{AllHaveFiltered, AreOperatorsOf, HaveFiltered}

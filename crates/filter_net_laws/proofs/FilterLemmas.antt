@@ -5,7 +5,7 @@ use Rattle.std.proofs.lemmas.List.Elements.{All-contains}
 use Rattle.std.proofs.lemmas.Option.{get_or_from_slice_get, slice_get-get_or, slice_get_within}
 use Rattle.sql_values.specs.declared.relational.JoinKind.{JoinKind}
 use Rattle.plan_docs.specs.declared.node.DynamicFilter.{DynamicFilter}
-use Rattle.plan_docs.specs.Nodes.{NodeForm, scan, values, remote, filter, project, join, aggregate, aggregate_final, sort, top_n, top_n_final, limit, limit_final, union}
+use Rattle.plan_docs.specs.Nodes.{NodeForm, scan, values, remote, step, join, union}
 use Rattle.plan_docs.specs.Plans.{FragmentForm, PlanForm}
 use Rattle.plan_trees.specs.declared.tree.Pair.{Pair}
 use Rattle.plan_trees.specs.TreeForms.{pair_view}
@@ -15,8 +15,8 @@ use Rattle.plan_layout.specs.declared.pipe.Parallelism.{Parallelism}
 use Rattle.plan_layout.specs.Filters.{IsPlaced}
 use Rattle.plan_layout.specs.Layouts.{layout_of}
 use Rattle.plan_layout.specs.Pipes.{BuildForm}
-use Rattle.filter_plan_laws.specs.RunJoins.{EachJoin, FiltersReachIn, JoinClaim, ReachesIn}
-use Rattle.filter_plan_laws.proofs.BuiltLemmas.{builds_of_joins}
+use Rattle.net_laws.specs.RunJoins.{EachJoin, FiltersReachIn, JoinClaim, ReachesIn}
+use Rattle.net_laws.proofs.BuiltLemmas.{builds_of_joins}
 use Rattle.filter_net_laws.specs.PlanFilters.{HasFilter, IsFilterOfPlan}
 
 abbrev pub OfFilter : Type 1
@@ -34,20 +34,12 @@ has_each : (P : OfFilter) (n : NodeForm) → ((at : ℕ) (on : List Pair) (f : D
 has_each P (scan id table columns types) of = tt
 has_each P (values id types rows) of = tt
 has_each P (remote id fragment) of = tt
-has_each P (filter id predicate input) of = has_each P input of
-has_each P (project id columns input) of = has_each P input of
+has_each P (step id operator input) of = has_each P input of
 has_each P (join id kind on filters left right) of = (
   λ k f is. of id on f (inl (refl, refl, contains_at filters k f is)),
   has_each P left (λ at pairs f has. of at pairs f (inr (inl has))),
   has_each P right (λ at pairs f has. of at pairs f (inr (inr has))),
 )
-has_each P (aggregate id step keys calls input) of = has_each P input of
-has_each P (aggregate_final id input) of = has_each P input of
-has_each P (sort id keys input) of = has_each P input of
-has_each P (top_n id step count keys input) of = has_each P input of
-has_each P (top_n_final id input) of = has_each P input of
-has_each P (limit id step count input) of = has_each P input of
-has_each P (limit_final id input) of = has_each P input of
 has_each P (union id left right) of =
     (has_each P left (λ at pairs f has. of at pairs f (inl has)), has_each P right (λ at pairs f has. of at pairs f (inr has)))
 
@@ -59,19 +51,11 @@ module _ (C : JoinClaim) (P : OfFilter)
   each_has (scan id table columns types) each at pairs f has = absurd has
   each_has (values id types rows) each at pairs f has = absurd has
   each_has (remote id fragment) each at pairs f has = absurd has
-  each_has (filter id predicate input) each at pairs f has = each_has input each at pairs f has
-  each_has (project id columns input) each at pairs f has = each_has input each at pairs f has
+  each_has (step id operator input) each at pairs f has = each_has input each at pairs f has
   each_has (join id kind on filters left right) each at pairs f (inl (same, on_same, there)) =
       subst (λ (ps : List Pair). P at ps f) on_same (subst (λ (i : ℕ). P i on f) same (take id kind on filters left f each.0 there))
   each_has (join id kind on filters left right) each at pairs f (inr (inl has)) = each_has left each.1 at pairs f has
   each_has (join id kind on filters left right) each at pairs f (inr (inr has)) = each_has right each.2 at pairs f has
-  each_has (aggregate id step keys calls input) each at pairs f has = each_has input each at pairs f has
-  each_has (aggregate_final id input) each at pairs f has = each_has input each at pairs f has
-  each_has (sort id keys input) each at pairs f has = each_has input each at pairs f has
-  each_has (top_n id step count keys input) each at pairs f has = each_has input each at pairs f has
-  each_has (top_n_final id input) each at pairs f has = each_has input each at pairs f has
-  each_has (limit id step count input) each at pairs f has = each_has input each at pairs f has
-  each_has (limit_final id input) each at pairs f has = each_has input each at pairs f has
   each_has (union id left right) each at pairs f (inl has) = each_has left each.0 at pairs f has
   each_has (union id left right) each at pairs f (inr has) = each_has right each.1 at pairs f has
 

@@ -8,3 +8,4 @@ pub mod PlanLemmas
 pub mod FilterLemmas
 pub mod ReadLemmas
 pub mod NumberLemmas
+pub use Rattle.net_laws.proofs.LaterLemmas

@@ -9,14 +9,14 @@ use Rattle.plan_docs.specs.Plans.{PlanForm}
 use Rattle.plan_trees.specs.TreeForms.{TreeForm, pair_view}
 use Rattle.plan_run_laws.specs.RunPlans.{RunPlan, tree_of_run}
 use Rattle.driver_loop.specs.Drivers.{DriverState}
-use Rattle.filter_plan_laws.specs.BuiltFilters.{AreOfPlan}
+use Rattle.net_laws.specs.BuiltFilters.{AreOfPlan}
 use Rattle.plan_layout.specs.declared.filters.PlacedFilter.{PlacedFilter}
 use Rattle.plan_layout.specs.declared.pipe.Parallelism.{Parallelism}
 use Rattle.plan_layout.specs.Filters.{IsPlaced, filters_of_scan, scan_filters}
 use Rattle.plan_layout.specs.Layouts.{layout_of}
 use Rattle.plan_layout.specs.Pipes.{PipeForm, table}
 use Rattle.plan_layout.specs.Runs.{HasScan}
-use Rattle.layout_laws.specs.Reached.{AreReached}
+use Rattle.net_laws.specs.Reached.{AreReached}
 use Rattle.net_laws.specs.Filtered.{FiltersReach}
 use Rattle.net_laws.proofs.ListLemmas.{same_some}
 use Rattle.filter_count_laws.specs.ScanFilters.{IsCountOf, ScanFilter, up_to_id}

@@ -11,7 +11,7 @@ use Rattle.bag_laws.proofs.BagLemmas.{same-map}
 use Rattle.bag_laws.proofs.GatherLemmas.{gather-map}
 use Rattle.plan_trees.specs.Allowed.{Gives, strict}
 use Rattle.plan_trees.specs.TreeForms.{TreeForm}
-use Rattle.plan_run_laws.specs.Placements.{Placed, scan_whole, scan_any, values_whole, values_every, remote_whole, remote_by, remote_every, filter_stays, project_whole, project_any, project_by, project_every, join_whole, join_right_every, join_by, aggregate_whole, aggregate_by, final_whole, final_by, sort_whole, topn_whole, topn_parts_whole, limit_whole, limit_parts_whole, union_whole, union_any, union_every, any_from_by}
+use Rattle.plan_run_laws.specs.Placements.{Placed, scan_whole, scan_any, values_whole, values_every, remote_whole, remote_by, remote_every, filter_stays, step_whole, project_any, project_by, project_every, join_whole, join_right_every, join_by, aggregate_by, halves_whole, final_by, union_whole, union_any, union_every, any_from_by}
 use Rattle.plan_run_laws.specs.RunPlans.{RunPlan}
 use Rattle.plan_run_laws.specs.RunPlans as plan
 use Rattle.plan_run_laws.specs.Spreads.{Says, Spread, Tables, any, by, every, whole}
@@ -30,16 +30,9 @@ abbrev pub InputsPlaced : ℕ → RunPlan → Type 0
 InputsPlaced n (plan.scan id table columns types) = Unit {0}
 InputsPlaced n (plan.values id types rows) = Unit {0}
 InputsPlaced n (plan.remote id output m input) = IsPlaced m input
-InputsPlaced n (plan.filter id predicate input) = IsPlaced n input
-InputsPlaced n (plan.project id columns input) = IsPlaced n input
+InputsPlaced n (plan.step id s input) = IsPlaced n input
 InputsPlaced n (plan.join id kind on left right) = IsPlaced n left × IsPlaced n right
-InputsPlaced n (plan.aggregate id keys calls input) = IsPlaced n input
-InputsPlaced n (plan.aggregate_parts id source output m keys calls input) = IsPlaced m input
-InputsPlaced n (plan.sort id keys input) = IsPlaced n input
-InputsPlaced n (plan.topn id count keys input) = IsPlaced n input
-InputsPlaced n (plan.topn_parts id source output m count keys input) = IsPlaced m input
-InputsPlaced n (plan.limit id count input) = IsPlaced n input
-InputsPlaced n (plan.limit_parts id source output m count input) = IsPlaced m input
+InputsPlaced n (plan.halves id source output m h input) = IsPlaced m input
 InputsPlaced n (plan.union id left right) = IsPlaced n left × IsPlaced n right
 
 placed_with : (n : ℕ) (run : RunPlan) (s : Spread) → 0 < n → Placed n run s → IsPlaced n run
@@ -54,7 +47,7 @@ inputs_placed lt (remote_whole {m = m} {input = input} {s = s} r d) = placed_wit
 inputs_placed lt (remote_by {m = m} {input = input} {s = s} below r d) = placed_with m input s (some_tasks m s r) d
 inputs_placed lt (remote_every {m = m} {input = input} {s = s} r d) = placed_with m input s (some_tasks m s r) d
 inputs_placed {n = n} lt (filter_stays {input = input} {s = s} d) = placed_with n input s lt d
-inputs_placed lt (project_whole {input = input} d) = placed_with 1 input whole lt d
+inputs_placed lt (step_whole {input = input} d) = placed_with 1 input whole lt d
 inputs_placed {n = n} lt (project_any {input = input} d) = placed_with n input any lt d
 inputs_placed {n = n} lt (project_by {input = input} {taken = taken} plain d) = placed_with n input (by taken) lt d
 inputs_placed {n = n} lt (project_every {input = input} d) = placed_with n input every lt d
@@ -62,15 +55,9 @@ inputs_placed lt (join_whole {left = left} {right = right} d e) = (placed_with 1
 inputs_placed {n = n} lt (join_right_every {left = left} {right = right} {s = s} d e) = (placed_with n left s lt d, placed_with n right every lt e)
 inputs_placed {n = n} lt (join_by {left = left} {right = right} pairs among d e) =
     (placed_with n left (by (lefts pairs)) lt d, placed_with n right (by (rights pairs)) lt e)
-inputs_placed lt (aggregate_whole {input = input} d) = placed_with 1 input whole lt d
 inputs_placed {n = n} lt (aggregate_by {keys = keys} {places = places} {input = input} some below d) = placed_with n input (by (at_places keys places)) lt d
-inputs_placed lt (final_whole {m = m} {input = input} {s = s} r d) = placed_with m input s (some_tasks m s r) d
+inputs_placed lt (halves_whole {m = m} {input = input} {s = s} r d) = placed_with m input s (some_tasks m s r) d
 inputs_placed lt (final_by {m = m} {input = input} {s = s} some below r d) = placed_with m input s (some_tasks m s r) d
-inputs_placed lt (sort_whole {input = input} d) = placed_with 1 input whole lt d
-inputs_placed lt (topn_whole {input = input} d) = placed_with 1 input whole lt d
-inputs_placed lt (topn_parts_whole {m = m} {input = input} {s = s} r d) = placed_with m input s (some_tasks m s r) d
-inputs_placed lt (limit_whole {input = input} d) = placed_with 1 input whole lt d
-inputs_placed lt (limit_parts_whole {m = m} {input = input} {s = s} r d) = placed_with m input s (some_tasks m s r) d
 inputs_placed lt (union_whole {left = left} {right = right} d e) = (placed_with 1 left whole lt d, placed_with 1 right whole lt e)
 inputs_placed {n = n} lt (union_any {left = left} {right = right} d e) = (placed_with n left any lt d, placed_with n right any lt e)
 inputs_placed {n = n} lt (union_every {left = left} {right = right} d e) = (placed_with n left every lt d, placed_with n right every lt e)
@@ -92,22 +79,16 @@ one_task (remote_whole r d) = refl
 one_task (remote_by below r d) = tt
 one_task (remote_every r d) = tt
 one_task (filter_stays d) = one_task d
-one_task (project_whole d) = refl
+one_task (step_whole d) = refl
 one_task (project_any d) = tt
 one_task (project_by plain d) = tt
 one_task (project_every d) = tt
 one_task (join_whole d e) = refl
 one_task (join_right_every d e) = one_task d
 one_task (join_by pairs among d e) = tt
-one_task (aggregate_whole d) = refl
 one_task (aggregate_by some among d) = tt
-one_task (final_whole r d) = refl
+one_task (halves_whole r d) = refl
 one_task (final_by some among r d) = tt
-one_task (sort_whole d) = refl
-one_task (topn_whole d) = refl
-one_task (topn_parts_whole r d) = refl
-one_task (limit_whole d) = refl
-one_task (limit_parts_whole r d) = refl
 one_task (union_whole d e) = refl
 one_task (union_any d e) = tt
 one_task (union_every d e) = tt

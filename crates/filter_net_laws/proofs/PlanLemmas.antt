@@ -28,18 +28,18 @@ use Rattle.driver_loop.specs.Drivers.{DriverState}
 use Rattle.driver_loop.specs.Turns.{filter_of_stage}
 use Rattle.driver_loop.specs.contracts.stage.StageOperator.TheImpl.{ghosts}
 use Rattle.driver_loop.specs.declared.stage.Stage.{Stage}
-use Rattle.lost_row_laws.specs.Sieves.{Sieve}
-use Rattle.sieve_laws.proofs.TypedLemmas.{typed as run_typed}
-use Rattle.filter_plan_laws.specs.RunJoins.{ReachesIn}
+use Rattle.net_laws.specs.Sieves.{Sieve}
+use Rattle.net_laws.proofs.TypedLemmas.{typed as run_typed}
+use Rattle.net_laws.specs.RunJoins.{ReachesIn}
 use Rattle.plan_layout.specs.declared.filters.PlacedFilter.{PlacedFilter}
 use Rattle.plan_layout.specs.Filters.{Builds, IsPlaced, filters_of_scan, scan_filters}
 use Rattle.plan_layout.specs.Pipes.{BuildForm, PipeForm, SourceForm, cell as into_cell, driver_number, edge, fragment, rows, sides, table}
 use Rattle.plan_layout.proofs.ScanFilterLemmas.{scan_filters_are_for}
-use Rattle.layout_laws.specs.Reached.{AreReached}
-use Rattle.layout_laws.specs.RunPipes.{RunsAs}
-use Rattle.driver_net_laws.specs.Nets.{AreDriversOf, AreInFront, IsFilterFor, NetForm, front_stages}
-use Rattle.driver_net_laws.specs.Settled.{AreSettled}
-use Rattle.driver_net_laws.specs.States.{Flow, IsFlowOf, pipe_states_of}
+use Rattle.net_laws.specs.Reached.{AreReached}
+use Rattle.net_laws.specs.RunPipes.{RunsAs}
+use Rattle.net_laws.specs.Nets.{AreDriversOf, AreInFront, IsFilterFor, NetForm, front_stages}
+use Rattle.net_laws.specs.Settled.{AreSettled}
+use Rattle.net_laws.specs.States.{Flow, IsFlowOf, pipe_states_of}
 use Rattle.net_laws.specs.Filtered.{FiltersReach}
 use Rattle.net_laws.specs.Tidy.{IsOwnScan, IsTidy}
 use Rattle.net_laws.proofs.DriverLemmas.{all_known}

@@ -8,14 +8,14 @@ use Rattle.plan_trees.specs.declared.tree.Pair.{Pair}
 use Rattle.plan_trees.specs.TreeForms.{pair_view}
 use Rattle.column_origins.specs.declared.origin.Origin.{Origin}
 use Rattle.plan_run_laws.specs.RunPlans.{RunPlan, tree_of_run}
-use Rattle.lost_row_laws.specs.Sieves.{Sieve}
-use Rattle.sieve_laws.proofs.ComingLemmas.{own_arrives}
-use Rattle.filter_plan_laws.specs.BuiltFilters.{AreOfPlan}
-use Rattle.filter_plan_laws.specs.RunJoins.{FiltersReachIn, ReachesIn}
+use Rattle.net_laws.specs.Sieves.{Sieve}
+use Rattle.net_laws.proofs.ComingLemmas.{own_arrives}
+use Rattle.net_laws.specs.BuiltFilters.{AreOfPlan}
+use Rattle.net_laws.specs.RunJoins.{FiltersReachIn, ReachesIn}
 use Rattle.plan_layout.specs.declared.filters.PlacedFilter.{PlacedFilter}
 use Rattle.plan_layout.specs.Filters.{scan_filters}
 use Rattle.plan_layout.specs.Pipes.{PipeForm}
-use Rattle.layout_laws.specs.Reached.{AreReached}
+use Rattle.net_laws.specs.Reached.{AreReached}
 use Rattle.net_laws.proofs.KnownLemmas.{first_there}
 use Rattle.net_laws.proofs.StandLemmas.{in_it}
 use Rattle.filter_net_laws.specs.PlanFilters.{HasPlace, IsFilterOfPlan}

@@ -2,12 +2,11 @@
 use Rattle.std.proofs.Common.{◌≡◌, inl, inr, ℕ, List, [], ◌++◌, map, Some, refl, sym, ◌∙◌}
 use Rattle.std.specs.Prelude.{slice_get}
 use Rattle.sql_values.specs.declared.relational.JoinKind.{JoinKind}
-use Rattle.sql_exprs.specs.Calm.{is_calm}
 use Rattle.operator_core.specs.Calls.{IsLawful}
 use Rattle.plan_trees.specs.Allowed.{strict, width_of}
 use Rattle.plan_trees.specs.TreeForms.{TreeForm, pair_view}
 use Rattle.plan_trees.specs.TreeTypes.{types_of}
-use Rattle.column_origins.specs.Origins.{left_column, passed_column}
+use Rattle.column_origins.specs.Origins.{left_column}
 use Rattle.plan_run_laws.specs.Nets.{of_tasks}
 use Rattle.plan_run_laws.specs.RunPlans.{RunPlan, tree_of_run}
 use Rattle.plan_run_laws.specs.RunPlans as plan
@@ -18,17 +17,17 @@ use Rattle.pipe_laws.proofs.FitLemmas.{fits_widths}
 use Rattle.driver_loop.specs.Drivers.{DriverState}
 use Rattle.driver_loop.specs.contracts.stage.StageOperator.TheImpl.{ghosts}
 use Rattle.driver_loop.specs.declared.stage.Stage.{Stage}
-use Rattle.lost_row_laws.specs.Sieves.{Sieve, if_calm, over_input}
-use Rattle.lost_row_laws.proofs.RestoreLemmas.{put_back}
-use Rattle.lost_row_laws.proofs.WireLemmas.{wired}
-use Rattle.sieve_laws.specs.ComingDown.{ComeDown, HasJoin}
-use Rattle.sieve_laws.proofs.OverLemmas.{gave_whole}
-use Rattle.sieve_laws.proofs.TypedLemmas.{typed as run_typed}
+use Rattle.net_laws.specs.Sieves.{Sieve, over_input, under}
+use Rattle.net_laws.proofs.RestoreLemmas.{put_back}
+use Rattle.net_laws.proofs.WireLemmas.{wired}
+use Rattle.net_laws.specs.ComingDown.{ComeDown, HasJoin}
+use Rattle.net_laws.proofs.OverLemmas.{gave_whole}
+use Rattle.net_laws.proofs.TypedLemmas.{typed as run_typed}
 use Rattle.plan_layout.specs.Pipes.{BuildForm, PipeForm, SourceForm, StepForm, cell}
-use Rattle.layout_laws.specs.RunPipes.{Alone, PipeIn, RunsAs}
-use Rattle.driver_net_laws.specs.Nets.{AreDriversOf, NetForm}
-use Rattle.driver_net_laws.specs.Settled.{AreSettled}
-use Rattle.driver_net_laws.specs.States.{Flow, IsFlowOf, pipe_states_of}
+use Rattle.net_laws.specs.RunPipes.{Alone, PipeIn, RunsAs}
+use Rattle.net_laws.specs.Nets.{AreDriversOf, NetForm}
+use Rattle.net_laws.specs.Settled.{AreSettled}
+use Rattle.net_laws.specs.States.{Flow, IsFlowOf, pipe_states_of}
 use Rattle.net_laws.specs.Sifted.{IsSifted, IsSure}
 use Rattle.net_laws.specs.Throughout.{Throughout}
 use Rattle.net_laws.specs.Tidy.{IsTidy}
@@ -106,15 +105,10 @@ module _ (net : NetForm) (drivers : List DriverState) (of : AreDriversOf net dri
       let inputs : IsPlaced m input = inputs_placed placed.some placed.placed in
       within (tree_of_run input) (tree_of_run (plan.remote i output m input)) (λ at pairs s h. h) id
       (right_listed m input inputs fits r.1.at r.1.root.pipe.drivers r.1.root.pipe.source r.1.root.pipe.steps r.1.root.so sieves down sifts id kind side has)
-  right_listed n (plan.filter i predicate input) placed fits own w source steps r sieves down sifts id kind side has =
+  right_listed n (plan.step i s input) placed fits own w source steps r sieves down sifts id kind side has =
       let inputs : IsPlaced n input = inputs_placed placed.some placed.placed in
-      within (tree_of_run input) (tree_of_run (plan.filter i predicate input)) (λ at pairs s h. h) id
-      (right_listed n input inputs fits.1 own w source r.0 r.2 (if_calm (is_calm (types_of (tree_of_run input)) predicate) sieves) down sifts id kind side has)
-  right_listed n (plan.project i columns input) placed fits own w source steps r sieves down sifts id kind side has =
-      let inputs : IsPlaced n input = inputs_placed placed.some placed.placed in
-      within (tree_of_run input) (tree_of_run (plan.project i columns input)) (λ at pairs s h. h) id
-      (right_listed n input inputs fits.2 own w source r.0 r.2 (over_input (passed_column (types_of (tree_of_run input)) columns) sieves)
-      down sifts id kind side has)
+      within (tree_of_run input) (tree_of_run (plan.step i s input)) (λ at pairs s h. h) id
+      (right_listed n input inputs fits.1 own w source r.1.0 r.1.2 (under (types_of (tree_of_run input)) s sieves) down sifts id kind side has)
   right_listed n (plan.join i how on left right) placed fits own w source steps r sieves down sifts id kind side has =
       let inputs : IsPlaced n left × IsPlaced n right = inputs_placed placed.some placed.placed in
       let p = r.3 in
@@ -139,34 +133,10 @@ module _ (net : NetForm) (drivers : List DriverState) (of : AreDriversOf net dri
       (λ there. within (tree_of_run right) t (λ at pairs s h. inr (inr h)) id
       (right_listed n right inputs.1 fits.1 r.0 p.pipe.drivers p.pipe.source p.pipe.steps p.so.1 [] down.1 sifts.1 id kind side there)))
       has
-  right_listed n (plan.aggregate i keys calls input) placed fits own w source steps r sieves down sifts id kind side has =
-      let inputs : IsPlaced n input = inputs_placed placed.some placed.placed in
-      within (tree_of_run input) (tree_of_run (plan.aggregate i keys calls input)) (λ at pairs s h. h) id
-      (right_listed n input inputs fits.2 own w source r.1.0 r.1.2 [] down sifts id kind side has)
-  right_listed n (plan.aggregate_parts i remote output m keys calls input) placed fits own w source steps r sieves down sifts id kind side has =
+  right_listed n (plan.halves i remote output m half input) placed fits own w source steps r sieves down sifts id kind side has =
       let inputs : IsPlaced m input = inputs_placed placed.some placed.placed in
-      within (tree_of_run input) (tree_of_run (plan.aggregate_parts i remote output m keys calls input)) (λ at pairs s h. h) id
-      (right_listed m input inputs fits.2 r.2.at r.2.root.pipe.drivers r.2.root.pipe.source r.2.root.so.1.0 r.2.root.so.1.2 [] down sifts id kind side has)
-  right_listed n (plan.sort i keys input) placed fits own w source steps r sieves down sifts id kind side has =
-      let inputs : IsPlaced n input = inputs_placed placed.some placed.placed in
-      within (tree_of_run input) (tree_of_run (plan.sort i keys input)) (λ at pairs s h. h) id
-      (right_listed n input inputs fits own w source r.1.0 r.1.2 [] down sifts id kind side has)
-  right_listed n (plan.topn i count keys input) placed fits own w source steps r sieves down sifts id kind side has =
-      let inputs : IsPlaced n input = inputs_placed placed.some placed.placed in
-      within (tree_of_run input) (tree_of_run (plan.topn i count keys input)) (λ at pairs s h. h) id
-      (right_listed n input inputs fits own w source r.1.0 r.1.2 [] down sifts id kind side has)
-  right_listed n (plan.topn_parts i remote output m count keys input) placed fits own w source steps r sieves down sifts id kind side has =
-      let inputs : IsPlaced m input = inputs_placed placed.some placed.placed in
-      within (tree_of_run input) (tree_of_run (plan.topn_parts i remote output m count keys input)) (λ at pairs s h. h) id
-      (right_listed m input inputs fits r.2.at r.2.root.pipe.drivers r.2.root.pipe.source r.2.root.so.1.0 r.2.root.so.1.2 [] down sifts id kind side has)
-  right_listed n (plan.limit i count input) placed fits own w source steps r sieves down sifts id kind side has =
-      let inputs : IsPlaced n input = inputs_placed placed.some placed.placed in
-      within (tree_of_run input) (tree_of_run (plan.limit i count input)) (λ at pairs s h. h) id
-      (right_listed n input inputs fits own w source r.1.0 r.1.2 [] down sifts id kind side has)
-  right_listed n (plan.limit_parts i remote output m count input) placed fits own w source steps r sieves down sifts id kind side has =
-      let inputs : IsPlaced m input = inputs_placed placed.some placed.placed in
-      within (tree_of_run input) (tree_of_run (plan.limit_parts i remote output m count input)) (λ at pairs s h. h) id
-      (right_listed m input inputs fits r.2.at r.2.root.pipe.drivers r.2.root.pipe.source r.2.root.so.1.0 r.2.root.so.1.2 [] down sifts id kind side has)
+      within (tree_of_run input) (tree_of_run (plan.halves i remote output m half input)) (λ at pairs s h. h) id
+      (right_listed m input inputs fits.1 r.2.at r.2.root.pipe.drivers r.2.root.pipe.source r.2.root.so.1.0 r.2.root.so.1.2 [] down sifts id kind side has)
   right_listed n (plan.union i left right) placed fits own w source steps r sieves down sifts id kind side has =
       let inputs : IsPlaced n left × IsPlaced n right = inputs_placed placed.some placed.placed in
       let p = r.3.1 in

@@ -4,18 +4,17 @@ use Rattle.std.specs.Prelude.{Contains, ◌==◌, if◌then◌else◌}
 use Rattle.std.proofs.lemmas.Bool.{eqb-true}
 use Rattle.std.proofs.lemmas.List.Elements.{Contains-append_cases}
 use Rattle.sql_values.specs.declared.types.SqlType.{SqlType}
-use Rattle.sql_exprs.specs.Calm.{is_calm}
 use Rattle.plan_trees.specs.Allowed.{width_of}
 use Rattle.plan_trees.specs.TreeForms.{TreeForm}
 use Rattle.plan_trees.specs.TreeTypes.{types_of}
-use Rattle.column_origins.specs.Origins.{left_column, passed_column}
+use Rattle.column_origins.specs.Origins.{left_column}
 use Rattle.plan_run_laws.specs.RunPlans.{RunPlan, tree_of_run}
 use Rattle.plan_run_laws.specs.RunPlans as plan
-use Rattle.lost_row_laws.specs.Arrivals.{arriving}
-use Rattle.lost_row_laws.specs.Sieves.{Sieve, if_calm, over_input}
+use Rattle.net_laws.specs.Arrivals.{arriving}
+use Rattle.net_laws.specs.Sieves.{Sieve, over_input, under}
 use Rattle.plan_layout.specs.Pipes.{PipeForm, SourceForm, StepForm, table}
 use Rattle.plan_layout.specs.Runs.{HasScan}
-use Rattle.layout_laws.specs.RunPipes.{RunsAs}
+use Rattle.net_laws.specs.RunPipes.{RunsAs}
 use Rattle.net_laws.proofs.ListLemmas.{same_some}
 use Rattle.net_laws.proofs.StandLemmas.{IsIn, in_it}
 use Rattle.filter_net_laws.specs.RightSides.{HasTable}
@@ -78,12 +77,9 @@ module _ (layout : List PipeForm) (own : ℕ → List Sieve) (s : Sieve) (scan :
       let p = r.1.root in
       within (tree_of_run input) (tree_of_run (plan.remote id output m input)) (λ place columns has. has)
       (scan_read m input r.1.at p.pipe.drivers p.pipe.source p.pipe.steps p.so (in_it layout m r.1.at p.pipe p.is p.tasks) sieves there)
-  scan_read n (plan.filter id predicate input) at w source steps r o sieves there =
-      within (tree_of_run input) (tree_of_run (plan.filter id predicate input)) (λ place columns has. has)
-      (scan_read n input at w source r.0 r.2 o (if_calm (is_calm (types_of (tree_of_run input)) predicate) sieves) there)
-  scan_read n (plan.project id columns input) at w source steps r o sieves there =
-      within (tree_of_run input) (tree_of_run (plan.project id columns input)) (λ place cut has. has)
-      (scan_read n input at w source r.0 r.2 o (over_input (passed_column (types_of (tree_of_run input)) columns) sieves) there)
+  scan_read n (plan.step id does input) at w source steps r o sieves there =
+      within (tree_of_run input) (tree_of_run (plan.step id does input)) (λ place columns has. has)
+      (scan_read n input at w source r.1.0 r.1.2 o (under (types_of (tree_of_run input)) does sieves) there)
   scan_read n (plan.join id kind on left right) at w source steps r o sieves there =
       let p = r.3 in
       let t = tree_of_run (plan.join id kind on left right) in
@@ -93,26 +89,9 @@ module _ (layout : List PipeForm) (own : ℕ → List Sieve) (s : Sieve) (scan :
       (λ second. within (tree_of_run right) t (λ place columns has. inr has)
       (scan_read n right r.0 p.pipe.drivers p.pipe.source p.pipe.steps p.so.1 (in_it layout n r.0 p.pipe p.is p.tasks) [] second))
       (Contains-append_cases (arriving own down left scan) (arriving own [] right scan) s there)
-  scan_read n (plan.aggregate id keys calls input) at w source steps r o sieves there =
-      within (tree_of_run input) (tree_of_run (plan.aggregate id keys calls input)) (λ place columns has. has)
-      (scan_read n input at w source r.1.0 r.1.2 o [] there)
-  scan_read n (plan.aggregate_parts id remote output m keys calls input) at w source steps r o sieves there =
+  scan_read n (plan.halves id remote output m half input) at w source steps r o sieves there =
       let p = r.2.root in
-      within (tree_of_run input) (tree_of_run (plan.aggregate_parts id remote output m keys calls input)) (λ place columns has. has)
-      (scan_read m input r.2.at p.pipe.drivers p.pipe.source p.so.1.0 p.so.1.2 (in_it layout m r.2.at p.pipe p.is p.tasks) [] there)
-  scan_read n (plan.sort id keys input) at w source steps r o sieves there =
-      within (tree_of_run input) (tree_of_run (plan.sort id keys input)) (λ place columns has. has) (scan_read n input at w source r.1.0 r.1.2 o [] there)
-  scan_read n (plan.topn id count keys input) at w source steps r o sieves there =
-      within (tree_of_run input) (tree_of_run (plan.topn id count keys input)) (λ place columns has. has) (scan_read n input at w source r.1.0 r.1.2 o [] there)
-  scan_read n (plan.topn_parts id remote output m count keys input) at w source steps r o sieves there =
-      let p = r.2.root in
-      within (tree_of_run input) (tree_of_run (plan.topn_parts id remote output m count keys input)) (λ place columns has. has)
-      (scan_read m input r.2.at p.pipe.drivers p.pipe.source p.so.1.0 p.so.1.2 (in_it layout m r.2.at p.pipe p.is p.tasks) [] there)
-  scan_read n (plan.limit id count input) at w source steps r o sieves there =
-      within (tree_of_run input) (tree_of_run (plan.limit id count input)) (λ place columns has. has) (scan_read n input at w source r.1.0 r.1.2 o [] there)
-  scan_read n (plan.limit_parts id remote output m count input) at w source steps r o sieves there =
-      let p = r.2.root in
-      within (tree_of_run input) (tree_of_run (plan.limit_parts id remote output m count input)) (λ place columns has. has)
+      within (tree_of_run input) (tree_of_run (plan.halves id remote output m half input)) (λ place columns has. has)
       (scan_read m input r.2.at p.pipe.drivers p.pipe.source p.so.1.0 p.so.1.2 (in_it layout m r.2.at p.pipe p.is p.tasks) [] there)
   scan_read n (plan.union id left right) at w source steps r o sieves there =
       let p = r.3.1 in

@@ -12,7 +12,7 @@ use Rattle.driver_loop.specs.contracts.stage.StageOperator.TheImpl.{ghosts}
 use Rattle.driver_loop.specs.declared.stage.Stage.{Stage}
 use Rattle.driver_loop.specs.declared.stage.Stage.TheVariants.{Dynamic}
 use Rattle.plan_layout.specs.declared.filters.PlacedFilter.{PlacedFilter}
-use Rattle.driver_net_laws.specs.Nets.{AreInFront, NetForm}
+use Rattle.net_laws.specs.Nets.{AreInFront, NetForm}
 use Rattle.net_laws.proofs.FilterStageLemmas.{dynamic_raw, noted, one_drops}
 use Rattle.filter_count_laws.specs.FilterStages.{AreOperatorsOf, DropsExactly, IsOperatorOf}
 use Rattle.filter_count_laws.specs.ScanFilters.{ScanFilter}

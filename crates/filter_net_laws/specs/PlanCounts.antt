@@ -13,7 +13,7 @@ use Rattle.driver_loop.specs.Turns.{passed_of}
 use Rattle.plan_layout.specs.declared.filters.PlacedFilter.{PlacedFilter}
 use Rattle.plan_layout.specs.Filters.{IsPlaced, scan_filters}
 use Rattle.plan_layout.specs.Pipes.{PipeForm, SourceForm, table}
-use Rattle.driver_net_laws.specs.Settled.{in_pipe, listed}
+use Rattle.net_laws.specs.Settled.{in_pipe, listed}
 use Rattle.filter_count_laws.specs.ScanFilters.{IsCountOf, ScanFilter, up_to_id}
 use Rattle.filter_net_laws.specs.RightSides.{HasRight}
 

@@ -2,7 +2,7 @@
 use Rattle.std.specs.Prelude.{◌≡◌, ◌⊎◌, ℕ, List, All, Contains, map, slice_get, Some}
 use Rattle.std.specs.List.Sorted.{IsStrictlyIncreasing}
 use Rattle.plan_docs.specs.declared.node.DynamicFilter.{DynamicFilter}
-use Rattle.plan_docs.specs.Nodes.{NodeForm, scan, values, remote, filter, project, join, aggregate, aggregate_final, sort, top_n, top_n_final, limit, limit_final, union}
+use Rattle.plan_docs.specs.Nodes.{NodeForm, scan, values, remote, step, join, union}
 use Rattle.plan_docs.specs.Plans.{FragmentForm, PlanForm}
 use Rattle.plan_trees.specs.declared.tree.Pair.{Pair}
 use Rattle.plan_trees.specs.Allowed.{scanned}
@@ -20,17 +20,9 @@ abbrev pub HasFilter : NodeForm → ℕ → List Pair → DynamicFilter → Type
 HasFilter (scan id table columns types) at pairs f = ⊥
 HasFilter (values id types rows) at pairs f = ⊥
 HasFilter (remote id fragment) at pairs f = ⊥
-HasFilter (filter id predicate input) at pairs f = HasFilter input at pairs f
-HasFilter (project id columns input) at pairs f = HasFilter input at pairs f
+HasFilter (step id operator input) at pairs f = HasFilter input at pairs f
 HasFilter (join id kind on filters left right) at pairs f =
     ((id ≡ at) × (on ≡ pairs) × Contains filters f) ⊎ (HasFilter left at pairs f ⊎ HasFilter right at pairs f)
-HasFilter (aggregate id step keys calls input) at pairs f = HasFilter input at pairs f
-HasFilter (aggregate_final id input) at pairs f = HasFilter input at pairs f
-HasFilter (sort id keys input) at pairs f = HasFilter input at pairs f
-HasFilter (top_n id step count keys input) at pairs f = HasFilter input at pairs f
-HasFilter (top_n_final id input) at pairs f = HasFilter input at pairs f
-HasFilter (limit id step count input) at pairs f = HasFilter input at pairs f
-HasFilter (limit_final id input) at pairs f = HasFilter input at pairs f
 HasFilter (union id left right) at pairs f = HasFilter left at pairs f ⊎ HasFilter right at pairs f
 
 -- it is one of the plan's

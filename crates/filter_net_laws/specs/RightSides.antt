@@ -1,20 +1,15 @@
 -- The right sides of the joins of a tree, and the tables of its scans.
 use Rattle.std.specs.Prelude.{◌≡◌, ◌⊎◌, ℕ, List}
-use Rattle.plan_trees.specs.TreeForms.{TreeForm, scan, values, remote, filter, project, join, aggregate, sort, topn, limit, union}
+use Rattle.plan_trees.specs.TreeForms.{TreeForm, scan, values, remote, step, join, union}
 
 -- a join of this id, with these pairs of columns and this right side, is in the tree
 abbrev pub HasRight : TreeForm → ℕ → List (ℕ × ℕ) → TreeForm → Type 0
 HasRight (scan id table columns types) at pairs side = ⊥
 HasRight (values id types constants) at pairs side = ⊥
 HasRight (remote id input) at pairs side = HasRight input at pairs side
-HasRight (filter id predicate input) at pairs side = HasRight input at pairs side
-HasRight (project id columns input) at pairs side = HasRight input at pairs side
+HasRight (step id s input) at pairs side = HasRight input at pairs side
 HasRight (join id kind on left right) at pairs side =
     ((id ≡ at) × (on ≡ pairs) × (right ≡ side)) ⊎ (HasRight left at pairs side ⊎ HasRight right at pairs side)
-HasRight (aggregate id keys calls input) at pairs side = HasRight input at pairs side
-HasRight (sort id keys input) at pairs side = HasRight input at pairs side
-HasRight (topn id count keys input) at pairs side = HasRight input at pairs side
-HasRight (limit id count input) at pairs side = HasRight input at pairs side
 HasRight (union id left right) at pairs side = HasRight left at pairs side ⊎ HasRight right at pairs side
 
 -- a scan of this id, of these columns of the table, is in the tree
@@ -22,11 +17,6 @@ abbrev pub HasTable : TreeForm → ℕ → ℕ → List ℕ → Type 0
 HasTable (scan id table columns types) at place cut = (id ≡ at) × (table ≡ place) × (columns ≡ cut)
 HasTable (values id types constants) at place cut = ⊥
 HasTable (remote id input) at place cut = HasTable input at place cut
-HasTable (filter id predicate input) at place cut = HasTable input at place cut
-HasTable (project id columns input) at place cut = HasTable input at place cut
+HasTable (step id s input) at place cut = HasTable input at place cut
 HasTable (join id kind on left right) at place cut = HasTable left at place cut ⊎ HasTable right at place cut
-HasTable (aggregate id keys calls input) at place cut = HasTable input at place cut
-HasTable (sort id keys input) at place cut = HasTable input at place cut
-HasTable (topn id count keys input) at place cut = HasTable input at place cut
-HasTable (limit id count input) at place cut = HasTable input at place cut
 HasTable (union id left right) at place cut = HasTable left at place cut ⊎ HasTable right at place cut

@@ -12,8 +12,8 @@ ghost use Rattle.plan_layout.specs.declared.pipe.Parallelism.{Parallelism};
 ghost use Rattle.plan_layout.specs.Filters.{scan_filters};
 ghost use Rattle.plan_layout.specs.Layouts.{layout_of};
 ghost use Rattle.plan_layout.specs.Pipes.{PipeForm};
-ghost use Rattle.driver_net_laws.specs.Nets.{AreDriversOf, NetForm};
-ghost use Rattle.driver_net_laws.specs.Settled.{AreSettled};
+ghost use Rattle.net_laws.specs.Nets.{AreDriversOf, NetForm};
+ghost use Rattle.net_laws.specs.Settled.{AreSettled};
 ghost use Rattle.filter_net_laws.specs.PlanCounts.{AreCountable, HasCounts, rows_passed};
 ghost use Rattle.filter_net_laws.specs.PlanFilters.{HasPlace, IsCountOfFilter, IsFilterOfPlan};
 
@@ -39,9 +39,9 @@ pub fn plans_count<'w>(plan: &Plan, _of: PhantomData<Stage<'w>>)
         → HasCounts (tree_of (plan_view plan.now)) net.tables net.layout drivers pipe }
 {
     operator_core::laws::laws::<Stage<'w>>(PhantomData);
-    layout_laws::pipes_are_reached(plan);
+    net_laws::pipes_are_reached(plan);
     plan_link_laws::consistent_plans_are_placed(plan);
-    filter_plan_laws::filter_ids_rise(plan);
+    net_laws::filter_ids_rise(plan);
     net_laws::layouts_are_tidy(plan);
     net_laws::plan_filters_reach(plan);
     net_laws::tables_pass();
@@ -68,11 +68,11 @@ pub fn filters_are_counted<'w>(plan: &Plan, of: PhantomData<Stage<'w>>)
         (rows_passed drivers pipe place) }
 {
     plans_count(plan, of);
-    layout_laws::pipes_are_reached(plan);
+    net_laws::pipes_are_reached(plan);
     plan_link_laws::consistent_plans_are_placed(plan);
     net_laws::plan_filters_reach(plan);
-    filter_plan_laws::filter_ids_rise(plan);
-    filter_plan_laws::scan_filters_reach(plan);
+    net_laws::filter_ids_rise(plan);
+    net_laws::scan_filters_reach(plan);
 }
 
 /// The law that each dynamic filter of a consistent plan has its place in the plan's layout: it stands among the
@@ -83,7 +83,7 @@ pub fn filters_have_places(plan: &Plan)
         → (join : ℕ) (on : List Pair) (filter : DynamicFilter) → IsFilterOfPlan (plan_view plan.now) join on filter
         → HasPlace (layout_of p (plan_view plan.now)) filter }
 {
-    layout_laws::pipes_are_reached(plan);
-    filter_plan_laws::filters_reach_in_runs(plan);
-    filter_plan_laws::scan_filters_reach(plan);
+    net_laws::pipes_are_reached(plan);
+    net_laws::filters_reach_in_runs(plan);
+    net_laws::scan_filters_reach(plan);
 }

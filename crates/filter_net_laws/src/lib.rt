@@ -15,3 +15,4 @@
 mod laws;
 
 pub use laws::{filters_are_counted, filters_have_places, plans_count};
+pub use net_laws::{layouts_fit, plans_fail, plans_give};

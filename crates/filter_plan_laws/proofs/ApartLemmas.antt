@@ -47,19 +47,11 @@ module _ (n : ℕ) where
   sides_held s own next (node.scan id place columns types) = omega arith
   sides_held s own next (node.values id types list) = refl
   sides_held s own next (node.remote id number) = refl
-  sides_held s own next (node.filter id predicate input) = sides_held s own next input
-  sides_held s own next (node.project id columns input) = sides_held s own next input
+  sides_held s own next (node.step id operator input) = sides_held s own next input
   sides_held s own next (node.join id kind on filters left right) =
       let at = next + side_count left in
       let cut = held_append (sides_of s own next left) (pipes_of s at (built_for id on filters) right) in
       omega (arith, cut, sides_held s own next left, sides_held s at (at + 1) right)
-  sides_held s own next (node.aggregate id step keys calls input) = sides_held s own next input
-  sides_held s own next (node.aggregate_final id input) = sides_held s own next input
-  sides_held s own next (node.sort id keys input) = sides_held s own next input
-  sides_held s own next (node.top_n id step count keys input) = sides_held s own next input
-  sides_held s own next (node.top_n_final id input) = sides_held s own next input
-  sides_held s own next (node.limit id step count input) = sides_held s own next input
-  sides_held s own next (node.limit_final id input) = sides_held s own next input
   sides_held s own next (node.union id left right) =
       let at = next + 1 + side_count left in
       let cut = held_append (pipes_of s next (side own) left) (pipes_of s at (side own) right) in

@@ -41,20 +41,12 @@ module _ (B : BuildForm → Type 0) where
   sides_reach s own next (node.scan id place columns types) r = tt
   sides_reach s own next (node.values id types list) r = tt
   sides_reach s own next (node.remote id number) r = tt
-  sides_reach s own next (node.filter id predicate input) r = sides_reach s own next input r
-  sides_reach s own next (node.project id columns input) r = sides_reach s own next input r
+  sides_reach s own next (node.step id operator input) r = sides_reach s own next input r
   sides_reach s own next (node.join id kind on filters left right) r =
       let at = next + side_count left in
       let build : BuildForm = record { join = id; on = on; filters = filters } in
       each_join PipeReaches (sides_of s own next left) (pipes_of s at (built_for id on filters) right) (sides_reach s own next left r.1)
       ((λ other is. let same : build ≡ other = cc is in subst B same r.0), sides_reach s at (at + 1) right r.2)
-  sides_reach s own next (node.aggregate id step keys calls input) r = sides_reach s own next input r
-  sides_reach s own next (node.aggregate_final id input) r = sides_reach s own next input r
-  sides_reach s own next (node.sort id keys input) r = sides_reach s own next input r
-  sides_reach s own next (node.top_n id step count keys input) r = sides_reach s own next input r
-  sides_reach s own next (node.top_n_final id input) r = sides_reach s own next input r
-  sides_reach s own next (node.limit id step count input) r = sides_reach s own next input r
-  sides_reach s own next (node.limit_final id input) r = sides_reach s own next input r
   sides_reach s own next (node.union id left right) r =
       let at = next + 1 + side_count left in
       each_join PipeReaches (pipes_of s next (side own) left) (pipes_of s at (side own) right) ((λ build is. absurd cc), sides_reach s next (next + 1) left r.0)

@@ -3,7 +3,7 @@ use Rattle.std.proofs.Common.{◌≡◌, ◌⊎◌, inl, inr, ℕ, ◌+◌, ◌�
 use Rattle.std.specs.Prelude.{◌==◌}
 use Rattle.std.proofs.lemmas.Bool.{eq-eqb}
 use Rattle.std.proofs.lemmas.List.Elements.{Contains-append_cases, Contains-push_cases}
-use Rattle.plan_run_laws.specs.RunPlans.{RunPlan, scan, values, remote, filter, project, join, aggregate, aggregate_parts, sort, topn, topn_parts, limit, limit_parts, union}
+use Rattle.plan_run_laws.specs.RunPlans.{RunPlan, scan, values, remote, step, halves, join, union}
 use Rattle.plan_link_laws.proofs.CountLemmas.{one_if}
 use Rattle.filter_plan_laws.specs.JoinIds.{AreApart, JoinsApart, joins_of}
 use Rattle.sieve_laws.specs.ComingDown.{ScansApart, scans_of}
@@ -36,33 +36,19 @@ abbrev pub named_of : RunPlan → List ℕ
 named_of (scan id table columns types) = id ∷ []
 named_of (values id types rows) = []
 named_of (remote id output m input) = named_of input
-named_of (filter id predicate input) = named_of input
-named_of (project id columns input) = named_of input
+named_of (step id s input) = named_of input
 named_of (join id kind on left right) = id ∷ named_of left ++ named_of right
-named_of (aggregate id keys calls input) = named_of input
-named_of (aggregate_parts id source output m keys calls input) = named_of input
-named_of (sort id keys input) = named_of input
-named_of (topn id count keys input) = named_of input
-named_of (topn_parts id source output m count keys input) = named_of input
-named_of (limit id count input) = named_of input
-named_of (limit_parts id source output m count input) = named_of input
+named_of (halves id source output m h input) = named_of input
 named_of (union id left right) = named_of left ++ named_of right
 
 scans_named : (n : ℕ) (p : RunPlan) → ids_in n (scans_of p) ≤ ids_in n (named_of p)
 scans_named n (scan id table columns types) = omega arith
 scans_named n (values id types rows) = omega arith
 scans_named n (remote id output m input) = scans_named n input
-scans_named n (filter id predicate input) = scans_named n input
-scans_named n (project id columns input) = scans_named n input
+scans_named n (step id s input) = scans_named n input
 scans_named n (join id kind on left right) =
     omega (arith, scans_named n left, scans_named n right, ids_append n (scans_of left) (scans_of right), ids_append n (named_of left) (named_of right))
-scans_named n (aggregate id keys calls input) = scans_named n input
-scans_named n (aggregate_parts id source output m keys calls input) = scans_named n input
-scans_named n (sort id keys input) = scans_named n input
-scans_named n (topn id count keys input) = scans_named n input
-scans_named n (topn_parts id source output m count keys input) = scans_named n input
-scans_named n (limit id count input) = scans_named n input
-scans_named n (limit_parts id source output m count input) = scans_named n input
+scans_named n (halves id source output m h input) = scans_named n input
 scans_named n (union id left right) =
     omega (arith, scans_named n left, scans_named n right, ids_append n (scans_of left) (scans_of right), ids_append n (named_of left) (named_of right))
 
@@ -70,17 +56,10 @@ joins_named : (n : ℕ) (p : RunPlan) → ids_in n (joins_of p) ≤ ids_in n (na
 joins_named n (scan id table columns types) = omega arith
 joins_named n (values id types rows) = omega arith
 joins_named n (remote id output m input) = joins_named n input
-joins_named n (filter id predicate input) = joins_named n input
-joins_named n (project id columns input) = joins_named n input
+joins_named n (step id s input) = joins_named n input
 joins_named n (join id kind on left right) =
     omega (arith, joins_named n left, joins_named n right, ids_append n (joins_of left) (joins_of right), ids_append n (named_of left) (named_of right))
-joins_named n (aggregate id keys calls input) = joins_named n input
-joins_named n (aggregate_parts id source output m keys calls input) = joins_named n input
-joins_named n (sort id keys input) = joins_named n input
-joins_named n (topn id count keys input) = joins_named n input
-joins_named n (topn_parts id source output m count keys input) = joins_named n input
-joins_named n (limit id count input) = joins_named n input
-joins_named n (limit_parts id source output m count input) = joins_named n input
+joins_named n (halves id source output m h input) = joins_named n input
 joins_named n (union id left right) =
     omega (arith, joins_named n left, joins_named n right, ids_append n (joins_of left) (joins_of right), ids_append n (named_of left) (named_of right))
 
@@ -98,17 +77,10 @@ scans_once : (p : RunPlan) → ((n : ℕ) → ids_in n (scans_of p) ≤ 1) → S
 scans_once (scan id table columns types) once = tt
 scans_once (values id types rows) once = tt
 scans_once (remote id output m input) once = scans_once input once
-scans_once (filter id predicate input) once = scans_once input once
-scans_once (project id columns input) once = scans_once input once
+scans_once (step id s input) once = scans_once input once
 scans_once (join id kind on left right) once =
     (scans_once left (left_once (scans_of left) (scans_of right) once), scans_once right (right_once (scans_of left) (scans_of right) once), sides_apart (scans_of left) (scans_of right) once)
-scans_once (aggregate id keys calls input) once = scans_once input once
-scans_once (aggregate_parts id source output m keys calls input) once = scans_once input once
-scans_once (sort id keys input) once = scans_once input once
-scans_once (topn id count keys input) once = scans_once input once
-scans_once (topn_parts id source output m count keys input) once = scans_once input once
-scans_once (limit id count input) once = scans_once input once
-scans_once (limit_parts id source output m count input) once = scans_once input once
+scans_once (halves id source output m h input) once = scans_once input once
 scans_once (union id left right) once =
     (scans_once left (left_once (scans_of left) (scans_of right) once), scans_once right (right_once (scans_of left) (scans_of right) once), sides_apart (scans_of left) (scans_of right) once)
 
@@ -116,8 +88,7 @@ joins_once : (p : RunPlan) → ((n : ℕ) → ids_in n (joins_of p) ≤ 1) → J
 joins_once (scan id table columns types) once = tt
 joins_once (values id types rows) once = tt
 joins_once (remote id output m input) once = joins_once input once
-joins_once (filter id predicate input) once = joins_once input once
-joins_once (project id columns input) once = joins_once input once
+joins_once (step id s input) once = joins_once input once
 joins_once (join id kind on left right) once =
     let below : (n : ℕ) → ids_in n (joins_of left ++ joins_of right) ≤ 1 = λ n. omega (arith, once n) in
     let new : Contains (joins_of left ++ joins_of right) id → ⊥ = λ there.
@@ -128,13 +99,7 @@ joins_once (join id kind on left right) once =
       new,
       sides_apart (joins_of left) (joins_of right) below,
     )
-joins_once (aggregate id keys calls input) once = joins_once input once
-joins_once (aggregate_parts id source output m keys calls input) once = joins_once input once
-joins_once (sort id keys input) once = joins_once input once
-joins_once (topn id count keys input) once = joins_once input once
-joins_once (topn_parts id source output m count keys input) once = joins_once input once
-joins_once (limit id count input) once = joins_once input once
-joins_once (limit_parts id source output m count input) once = joins_once input once
+joins_once (halves id source output m h input) once = joins_once input once
 joins_once (union id left right) once =
     (joins_once left (left_once (joins_of left) (joins_of right) once), joins_once right (right_once (joins_of left) (joins_of right) once), sides_apart (joins_of left) (joins_of right) once)
 

@@ -15,7 +15,7 @@ use Rattle.plan_grammar.specs.declared.words.OpWord.{OpWord}
 use Rattle.plan_grammar.specs.declared.words.OpWord.TheVariants as op
 use Rattle.plan_grammar.specs.declared.words.StepWord.{StepWord}
 use Rattle.plan_grammar.specs.declared.words.StepWord.TheVariants as word
-use Rattle.plan_grammar.specs.Grammar.{aggregate_parts, depth_of, join_parts, limit_parts, parts_of_node, topn_parts}
+use Rattle.plan_grammar.specs.Grammar.{depth_of, join_parts, parts_of_node}
 use Rattle.plan_grammar.specs.Json.{entries, entries_of, entries_under, has_entry, number_of, under}
 use Rattle.plan_grammar.specs.Spots.{Spot, inner_of, item_spots, places_of, spot, spots}
 use Rattle.plan_grammar.specs.Tables.{part}
@@ -25,25 +25,18 @@ use Rattle.plan_grammar.proofs.WalkLemmas.{spots_are}
 use Rattle.plan_checks.specs.Names.{numbers_node}
 use Rattle.plan_docs.specs.Documents.{fragment_of}
 use Rattle.plan_docs.specs.Nodes.{NodeForm}
-use Rattle.plan_docs.specs.ReadNodes.{aggregate_of, id_of, inner_node, limit_of, node_at, node_by, node_form, top_n_of}
+use Rattle.plan_docs.specs.ReadNodes.{id_of, inner_node, node_at, node_by, node_form}
 use Rattle.plan_docs.specs.Words.{small}
 use Rattle.plan_link_laws.proofs.CountLemmas.{one_if}
-use Rattle.plan_link_laws.proofs.InputLemmas.{aggregate_input, join_left, join_right, limit_input, topn_input}
+use Rattle.plan_link_laws.proofs.InputLemmas.{input_at, join_left, join_right, step_node, step_parts}
 use Rattle.plan_link_laws.proofs.PlaceLemmas.{PartAt, RootAt, Sound, here, number_is, part_there, root_at}
 use Rattle.filter_plan_laws.proofs.ReadCountLemmas.{ids_at, ids_among}
 use Rattle.filter_plan_laws.proofs.SpotLemmas.{ids_join, ids_of, under_one, under_three, under_two}
 
-aggregate_ids : (n : ℕ) (s : StepWord) (d : Data) (input : NodeForm) → ids_at n (aggregate_of s d input) ≡ ids_at n input
-aggregate_ids n word.Final d input = refl
-aggregate_ids n s d input = refl
-
-top_n_ids : (n : ℕ) (s : StepWord) (d : Data) (input : NodeForm) → ids_at n (top_n_of s d input) ≡ ids_at n input
-top_n_ids n word.Final d input = refl
-top_n_ids n s d input = refl
-
-limit_ids : (n : ℕ) (s : StepWord) (d : Data) (input : NodeForm) → ids_at n (limit_of s d input) ≡ ids_at n input
-limit_ids n word.Final d input = refl
-limit_ids n s d input = refl
+step_ids : (n : ℕ) (w : OpWord) (s : StepWord) (d : Data) (input : NodeForm) → ids_at n (step_node w s d input) ≡ ids_at n input
+step_ids n op.Aggregate word.Final d input = refl
+step_ids n w word.Final d input = refl
+step_ids n w s d input = refl
 
 join_id : (b : Bool) → slice_get (join_parts b) 0 ≡ Some (part key.Id kind.NodeId)
 join_id true = refl
@@ -134,18 +127,12 @@ module _ (n : ℕ) (document : Data) (all : List Spot) where
     by_word op.Join is =
         let filtered = has_entry key.Filters d in
         join_given (join_parts filtered) (own_parts op.Join is) (join_id filtered) (join_left filtered) (join_right filtered)
-    by_word op.Aggregate is =
-        let at = aggregate_input (step_of d) in
-        omega (arith, aggregate_ids n (step_of d) d (input key.Input), one_input (aggregate_parts (step_of d)) at.place key.Input (own_parts op.Aggregate is) at.is)
     by_word op.Sort is = one_input table.sort 3 key.Input (own_parts op.Sort is) refl
-    by_word op.TopN is =
-        let at = topn_input (step_of d) in
-        omega (arith, top_n_ids n (step_of d) d (input key.Input), one_input (topn_parts (step_of d)) at.place key.Input (own_parts op.TopN is) at.is)
-    by_word op.Limit is =
-        let at = limit_input (step_of d) in
-        omega (arith, limit_ids n (step_of d) d (input key.Input), one_input (limit_parts (step_of d)) at.place key.Input (own_parts op.Limit is) at.is)
     by_word op.Union is = two_inputs table.union 2 (own_parts op.Union is) refl refl
     by_word op.Unknown is = omega arith
+    by_word w is =
+        let at = input_at w (step_of d) in
+        omega (arith, step_ids n w (step_of d) d (input key.Input), one_input (step_parts w (step_of d)) at.place key.Input (own_parts w is) at.is)
 
   node_given : (m : ℕ) (d : Data) (path : List Step) (owner : Data) (level : ℕ) → Sound document all d path owner kind.Node level
       → ids_at n (node_at m document d) ≤ ids_of (numbers_node n) (spots d path owner kind.Node level)

@@ -16,7 +16,7 @@ use Rattle.plan_grammar.specs.declared.words.OpWord.{OpWord}
 use Rattle.plan_grammar.specs.declared.words.OpWord.TheVariants as op
 use Rattle.plan_grammar.specs.declared.words.StepWord.{StepWord}
 use Rattle.plan_grammar.specs.declared.words.StepWord.TheVariants as word
-use Rattle.plan_grammar.specs.Grammar.{aggregate_parts, depth_of, join_parts, limit_parts, parts_of_node, topn_parts}
+use Rattle.plan_grammar.specs.Grammar.{depth_of, join_parts, parts_of_node}
 use Rattle.plan_grammar.specs.Json.{entries, entries_of, entries_under, has_entry, number_of, under}
 use Rattle.plan_grammar.specs.Spots.{Spot, inner_of, item_spots, places_of, spot, spots}
 use Rattle.plan_grammar.specs.Tables.{part}
@@ -26,15 +26,16 @@ use Rattle.plan_grammar.proofs.WalkLemmas.{spots_are}
 use Rattle.plan_checks.specs.Names.{numbers_filter}
 use Rattle.plan_docs.specs.declared.node.DynamicFilter.{DynamicFilter}
 use Rattle.plan_docs.specs.Documents.{fragment_of}
-use Rattle.plan_docs.specs.Nodes.{NodeForm, scan, values, remote, filter, project, join, aggregate, aggregate_final, sort, top_n, top_n_final, limit, limit_final, union}
+use Rattle.plan_docs.specs.Nodes.{NodeForm}
+use Rattle.plan_docs.specs.Nodes as node
 use Rattle.plan_docs.specs.Parts.{filter_of, filters_of}
 use Rattle.plan_docs.specs.Plans.{FragmentForm, PlanForm}
-use Rattle.plan_docs.specs.ReadNodes.{aggregate_of, inner_node, limit_of, node_at, node_by, node_form, top_n_of}
+use Rattle.plan_docs.specs.ReadNodes.{inner_node, node_at, node_by, node_form}
 use Rattle.plan_docs.specs.Words.{small}
 use Rattle.plan_link_laws.specs.Consistent.{IsConsistent}
 use Rattle.plan_link_laws.proofs.CountLemmas.{one_if}
 use Rattle.plan_link_laws.proofs.DocumentLemmas.{document_checked, fragments_of, passes_first}
-use Rattle.plan_link_laws.proofs.InputLemmas.{aggregate_input, join_left, join_right, limit_input, topn_input}
+use Rattle.plan_link_laws.proofs.InputLemmas.{input_at, join_left, join_right, step_node, step_parts}
 use Rattle.plan_link_laws.proofs.PlaceLemmas.{PartAt, RootAt, Sound, entry_there, here, number_is, part_there, root_at}
 use Rattle.filter_plan_laws.proofs.PlanLemmas.{named}
 use Rattle.filter_plan_laws.proofs.SpotLemmas.{fresh_filters, given_once, ids_join, ids_of, under_one, under_row, under_two}
@@ -46,36 +47,21 @@ filter_ids n (f ∷ fs) = one_if (f.id == n) + filter_ids n fs
 
 -- and of those of the joins of a node
 abbrev pub filters_at : ℕ → NodeForm → ℕ
-filters_at n (scan id table columns types) = 0
-filters_at n (values id types rows) = 0
-filters_at n (remote id fragment) = 0
-filters_at n (filter id predicate input) = filters_at n input
-filters_at n (project id columns input) = filters_at n input
-filters_at n (join id kind on filters left right) = filters_at n left + filters_at n right + filter_ids n filters
-filters_at n (aggregate id step keys calls input) = filters_at n input
-filters_at n (aggregate_final id input) = filters_at n input
-filters_at n (sort id keys input) = filters_at n input
-filters_at n (top_n id step count keys input) = filters_at n input
-filters_at n (top_n_final id input) = filters_at n input
-filters_at n (limit id step count input) = filters_at n input
-filters_at n (limit_final id input) = filters_at n input
-filters_at n (union id left right) = filters_at n left + filters_at n right
+filters_at n (node.scan id table columns types) = 0
+filters_at n (node.values id types rows) = 0
+filters_at n (node.remote id fragment) = 0
+filters_at n (node.step id operator input) = filters_at n input
+filters_at n (node.join id kind on filters left right) = filters_at n left + filters_at n right + filter_ids n filters
+filters_at n (node.union id left right) = filters_at n left + filters_at n right
 
 abbrev pub filters_among : ℕ → List FragmentForm → ℕ
 filters_among n [] = 0
 filters_among n (f ∷ fs) = filters_at n f.root + filters_among n fs
 
-aggregate_filters : (n : ℕ) (s : StepWord) (d : Data) (input : NodeForm) → filters_at n (aggregate_of s d input) ≡ filters_at n input
-aggregate_filters n word.Final d input = refl
-aggregate_filters n s d input = refl
-
-top_n_filters : (n : ℕ) (s : StepWord) (d : Data) (input : NodeForm) → filters_at n (top_n_of s d input) ≡ filters_at n input
-top_n_filters n word.Final d input = refl
-top_n_filters n s d input = refl
-
-limit_filters : (n : ℕ) (s : StepWord) (d : Data) (input : NodeForm) → filters_at n (limit_of s d input) ≡ filters_at n input
-limit_filters n word.Final d input = refl
-limit_filters n s d input = refl
+step_filters : (n : ℕ) (w : OpWord) (s : StepWord) (d : Data) (input : NodeForm) → filters_at n (step_node w s d input) ≡ filters_at n input
+step_filters n op.Aggregate word.Final d input = refl
+step_filters n w word.Final d input = refl
+step_filters n w s d input = refl
 
 small_id : (n : ℕ) → n < 2 ^ 32 → small n ≡ n
 small_id n low = ap (λ b. if b then n else 0) (lt-ltb n (2 ^ 32) low)
@@ -215,18 +201,12 @@ module _ (n : ℕ) (document : Data) (all : List Spot) where
     by_word op.Filter is = one_input table.filter 3 key.Input (own_parts op.Filter is) refl
     by_word op.Project is = one_input table.project 3 key.Input (own_parts op.Project is) refl
     by_word op.Join is = join_given (has_entry key.Filters d) refl (own_parts op.Join is)
-    by_word op.Aggregate is =
-        let at = aggregate_input (step_of d) in
-        omega (arith, aggregate_filters n (step_of d) d (input key.Input), one_input (aggregate_parts (step_of d)) at.place key.Input (own_parts op.Aggregate is) at.is)
     by_word op.Sort is = one_input table.sort 3 key.Input (own_parts op.Sort is) refl
-    by_word op.TopN is =
-        let at = topn_input (step_of d) in
-        omega (arith, top_n_filters n (step_of d) d (input key.Input), one_input (topn_parts (step_of d)) at.place key.Input (own_parts op.TopN is) at.is)
-    by_word op.Limit is =
-        let at = limit_input (step_of d) in
-        omega (arith, limit_filters n (step_of d) d (input key.Input), one_input (limit_parts (step_of d)) at.place key.Input (own_parts op.Limit is) at.is)
     by_word op.Union is = two_inputs table.union 2 (own_parts op.Union is) refl refl
     by_word op.Unknown is = omega arith
+    by_word w is =
+        let at = input_at w (step_of d) in
+        omega (arith, step_filters n w (step_of d) d (input key.Input), one_input (step_parts w (step_of d)) at.place key.Input (own_parts w is) at.is)
 
   node_given : (m : ℕ) (d : Data) (path : List Step) (owner : Data) (level : ℕ) → Sound document all d path owner kind.Node level
       → filters_at n (node_at m document d) ≤ given_in (spots d path owner kind.Node level)

@@ -13,16 +13,16 @@ use Rattle.plan_trees.specs.TreeForms.{TreeForm, pair_view}
 use Rattle.column_origins.specs.declared.origin.Origin.{Origin}
 use Rattle.column_origins.specs.Origins.{origin_of}
 use Rattle.plan_docs.specs.declared.node.DynamicFilter.{DynamicFilter}
-use Rattle.plan_docs.specs.Nodes.{NodeForm, scan, values, remote, filter, project, join, aggregate, aggregate_final, sort, top_n, top_n_final, limit, limit_final, union}
+use Rattle.plan_docs.specs.Nodes.{NodeForm, scan, values, remote, step, join, union}
 use Rattle.plan_docs.specs.Plans.{FragmentForm, PlanForm}
 use Rattle.plan_types.specs.declared.row_types.RowTypes.{RowTypes}
 use Rattle.plan_types.specs.Faults.{or_fault}
 use Rattle.plan_types.specs.Nodes.{node_types}
 use Rattle.plan_types.specs.Plans.{all_types, fragment_types, output_fault, plan_types, result_fault, root_path}
-use Rattle.plan_reader.specs.Filters.{trees_of}
-use Rattle.plan_reader.specs.Reaches.{NodeReaches, ReachesScan}
-use Rattle.plan_reader.specs.Trees.{node_tree}
-use Rattle.plan_reader.proofs.ReachLemmas.{second_option}
+use Rattle.plan_link_laws.specs.Filters.{trees_of}
+use Rattle.plan_link_laws.specs.Reaches.{NodeReaches, ReachesScan}
+use Rattle.plan_link_laws.specs.Trees.{node_tree}
+use Rattle.plan_link_laws.proofs.ReachLemmas.{second_option}
 use Rattle.plan_run_laws.specs.RunPlans.{RunPlan}
 use Rattle.plan_spreads.specs.declared.spread.RowSpread.{RowSpread}
 use Rattle.plan_spreads.specs.Halves.{AllMeet, HalvesMeet}
@@ -111,21 +111,13 @@ module _ (run : RunPlan) (reads : ℕ → TreeForm) where
   filters_reach_in (scan id table columns types) ours low r = tt
   filters_reach_in (values id types rows) ours low r = tt
   filters_reach_in (remote id fragment) ours low r = tt
-  filters_reach_in (filter id predicate input) ours low r = filters_reach_in input ours low r
-  filters_reach_in (project id columns input) ours low r = filters_reach_in input ours low r
+  filters_reach_in (step id operator input) ours low r = filters_reach_in input ours low r
   filters_reach_in (join id kind on filters left right) ours low r = (
     All-weaker (ReachesScan kind on (node_tree reads left)) (ReachesIn run id (map pair_view on))
         (filter_reaches run id kind on (node_tree reads left) ours.0 low.0) filters r.2,
     filters_reach_in left ours.1 low.1 r.0,
     filters_reach_in right ours.2 low.2 r.1,
   )
-  filters_reach_in (aggregate id step keys calls input) ours low r = filters_reach_in input ours low r
-  filters_reach_in (aggregate_final id input) ours low r = filters_reach_in input ours low r
-  filters_reach_in (sort id keys input) ours low r = filters_reach_in input ours low r
-  filters_reach_in (top_n id step count keys input) ours low r = filters_reach_in input ours low r
-  filters_reach_in (top_n_final id input) ours low r = filters_reach_in input ours low r
-  filters_reach_in (limit id step count input) ours low r = filters_reach_in input ours low r
-  filters_reach_in (limit_final id input) ours low r = filters_reach_in input ours low r
   filters_reach_in (union id left right) ours low r = (filters_reach_in left ours.0 low.0 r.0, filters_reach_in right ours.1 low.1 r.1)
 
   fragments_reach : (fs : List FragmentForm) → All (λ (f : FragmentForm). Ours f.root) fs → All (λ (f : FragmentForm). Low f.root) fs

@@ -7,8 +7,8 @@ use Rattle.sql_values.specs.declared.relational.JoinKind.{JoinKind}
 use Rattle.plan_docs.specs.Nodes.{NodeForm, scan, values, remote, filter, project, join, aggregate, aggregate_final, sort, top_n, top_n_final, limit, limit_final, union}
 use Rattle.plan_docs.specs.Plans.{FragmentForm, PlanForm}
 use Rattle.plan_trees.specs.TreeForms.{TreeForm}
-use Rattle.plan_reader.specs.Filters.{trees_of}
-use Rattle.plan_reader.specs.Trees.{node_tree}
+use Rattle.plan_link_laws.specs.Filters.{trees_of}
+use Rattle.plan_link_laws.specs.Trees.{node_tree}
 use Rattle.plan_run_laws.specs.RunPlans.{Output, RunPlan, tree_of_run}
 use Rattle.plan_run_laws.specs.RunPlans as run
 use Rattle.plan_spreads.specs.Reading.{AllReadOn, AreReadOnce, EachSource, IsAmong, reads_in, reads_of}
@@ -16,7 +16,8 @@ use Rattle.plan_spreads.specs.Runs.{Part, fragment_parts, fragment_run, node_run
 use Rattle.sieve_laws.specs.ComingDown.{HasJoin}
 use Rattle.filter_plan_laws.specs.RunJoins.{EachJoin, HasJoinOver, HasJoins}
 use Rattle.filter_plan_laws.proofs.PartLemmas.{part_here, part_later, reads_none}
-use Rattle.filter_plan_laws.proofs.TreeLemmas.{From, fragment_means, from_next, node_means}
+use Rattle.plan_link_laws.proofs.RunLemmas.{node_runs}
+use Rattle.filter_plan_laws.proofs.TreeLemmas.{From, fragment_means, from_next}
 
 either : (a b : ℕ) → 1 ≤ a + b → (1 ≤ a) ⊎ (1 ≤ b)
 either zero b some = inr (omega (arith, some))
@@ -149,7 +150,7 @@ module _ (reads : ℕ → TreeForm) (first : ℕ) (parts : List Part) (P : ℕ �
     record {
       side = node_run first parts left;
       has = up id kind (node_run first parts left) (inl (refl, refl, refl));
-      means = sym (node_means reads first parts P same left each.0);
+      means = sym (node_runs reads first parts P same left each.0);
     },
     node_joins left each.0 (λ at how side h. up at how side (inr (inl h))),
     node_joins right each.1 (λ at how side h. up at how side (inr (inr h))),

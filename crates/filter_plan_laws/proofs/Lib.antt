@@ -13,3 +13,11 @@ pub mod BuiltLemmas
 pub mod ApartLemmas
 pub mod FilterCountLemmas
 pub mod FilterIdLemmas
+pub use Rattle.sieve_laws.proofs.ComingLemmas
+pub use Rattle.sieve_laws.proofs.SureLemmas
+pub use Rattle.sieve_laws.proofs.DropLemmas
+pub use Rattle.sieve_laws.proofs.SplitLemmas
+pub use Rattle.sieve_laws.proofs.FailLemmas
+pub use Rattle.sieve_laws.proofs.OverLemmas
+pub use Rattle.sieve_laws.proofs.TypedLemmas
+pub use Rattle.sieve_laws.proofs.FilterOpLemmas

@@ -18,7 +18,7 @@ use Rattle.plan_types.specs.RowTypes.{plain}
 use Rattle.plan_types.specs.Faults.{entry_fault, or_fault}
 use Rattle.plan_types.specs.Nodes.{node_types, same_rows}
 use Rattle.plan_types.specs.Operators.{aggregate_types, filter_types, fits_found, is_unequal, join_types, project_types, sort_types, union_types}
-use Rattle.plan_reader.specs.Trees.{node_tree}
+use Rattle.plan_link_laws.specs.Trees.{node_tree}
 use Rattle.plan_run_laws.specs.RunPlans.{tree_of_run}
 use Rattle.plan_spreads.specs.Halves.{Halved, Meets, ReadsHalf, RootMeets, aggregates, top_ns, limits}
 use Rattle.plan_spreads.specs.Reading.{EachSource}
@@ -26,7 +26,7 @@ use Rattle.plan_spreads.specs.Runs.{Part, part_read}
 use Rattle.plan_spreads.proofs.ReadParts.{AllStand, over_half}
 use Rattle.plan_spreads.proofs.WidthLemmas.{no_entry, node_width, unless_fault}
 use Rattle.filter_plan_laws.specs.RunJoins.{EachJoin}
-use Rattle.filter_plan_laws.proofs.TreeLemmas.{node_means}
+use Rattle.plan_link_laws.proofs.RunLemmas.{node_runs}
 
 -- the left columns of pairs are among so many
 abbrev pub LeftsWithin : ℕ → List Pair → Type 0
@@ -83,7 +83,7 @@ module _ (first : ℕ) (later : List FragmentForm) (types : List RowTypes) (part
       (λ l h g. typed_then_ok (node_types first types (under path key.Right) right) (join_types path on l) t _ g
       (λ r h2 g2. (
         subst (λ (width : ℕ). LeftsWithin width on)
-            (sym (ap width_of (node_means reads first parts P same left each.0) ∙ node_width first later types parts all (under path key.Left) left l m.0 h))
+            (sym (ap width_of (node_runs reads first parts P same left each.0) ∙ node_width first later types parts all (under path key.Left) left l m.0 h))
             (joined_within path on l r t g2),
         node_within (under path key.Left) left l m.0 each.0 h,
         node_within (under path key.Right) right r m.1 each.1 h2,

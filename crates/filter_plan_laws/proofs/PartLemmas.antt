@@ -2,7 +2,7 @@
 use Rattle.std.proofs.Common.{◌≡◌, ℕ, ◌+◌, ◌-◌, ◌<◌, ◌≤◌, suc, List, [], ◌∷◌, length, Bool, ap, arith}
 use Rattle.std.specs.Prelude.{slice_get, unwrap_or, if◌then◌else◌}
 use Rattle.std.proofs.lemmas.Bool.{ne_eqb}
-use Rattle.plan_docs.specs.Nodes.{NodeForm, scan, values, remote, filter, project, join, aggregate, aggregate_final, sort, top_n, top_n_final, limit, limit_final, union}
+use Rattle.plan_docs.specs.Nodes.{NodeForm, scan, values, remote, step, join, union}
 use Rattle.plan_docs.specs.Plans.{FragmentForm}
 use Rattle.plan_spreads.specs.Reading.{AllReadOn, EachSource, IsAmong, reads_in, reads_of}
 use Rattle.plan_spreads.specs.Runs.{Part, no_part, part_read}
@@ -20,17 +20,9 @@ node_reads_none k first many (values id types rows) low each = omega arith
 node_reads_none k first many (remote id fragment) low each =
     let other : fragment ≡ k → ⊥ = λ same. omega (arith, same, low, each.0) in
     ap (λ (b : Bool). if b then 1 else 0) (ne_eqb fragment k other)
-node_reads_none k first many (filter id predicate input) low each = node_reads_none k first many input low each
-node_reads_none k first many (project id columns input) low each = node_reads_none k first many input low each
+node_reads_none k first many (step id operator input) low each = node_reads_none k first many input low each
 node_reads_none k first many (join id kind on filters left right) low each =
     omega (arith, node_reads_none k first many left low each.0, node_reads_none k first many right low each.1)
-node_reads_none k first many (aggregate id step keys calls input) low each = node_reads_none k first many input low each
-node_reads_none k first many (aggregate_final id input) low each = node_reads_none k first many input low each
-node_reads_none k first many (sort id keys input) low each = node_reads_none k first many input low each
-node_reads_none k first many (top_n id step count keys input) low each = node_reads_none k first many input low each
-node_reads_none k first many (top_n_final id input) low each = node_reads_none k first many input low each
-node_reads_none k first many (limit id step count input) low each = node_reads_none k first many input low each
-node_reads_none k first many (limit_final id input) low each = node_reads_none k first many input low each
 node_reads_none k first many (union id left right) low each =
     omega (arith, node_reads_none k first many left low each.0, node_reads_none k first many right low each.1)
 

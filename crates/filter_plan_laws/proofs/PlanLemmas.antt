@@ -12,7 +12,7 @@ use Rattle.plan_checks.specs.Names.{first_misnamed, numbers_node}
 use Rattle.plan_checks.specs.Shapes.{is_misshapen}
 use Rattle.plan_docs.specs.Documents.{fragment_of}
 use Rattle.plan_docs.specs.Plans.{PlanForm}
-use Rattle.plan_reader.proofs.ReachLemmas.{first_option, second_option}
+use Rattle.plan_link_laws.proofs.ReachLemmas.{first_option, second_option}
 use Rattle.plan_spreads.specs.Runs.{plan_run}
 use Rattle.plan_link_laws.specs.Consistent.{IsConsistent}
 use Rattle.plan_link_laws.proofs.DocumentLemmas.{document_checked, fragments_of, passes_first, plan_read_once, plan_reads}

@@ -1,7 +1,7 @@
 -- Where each fragment but the first is read once, a plan as it runs has no more scans and joins of an id than its fragments.
 use Rattle.std.proofs.Common.{◌≡◌, ℕ, ◌+◌, ◌<◌, ◌≤◌, List, [], ◌∷◌, length, refl, ap, arith}
 use Rattle.std.specs.Prelude.{◌==◌}
-use Rattle.plan_docs.specs.Nodes.{NodeForm, scan, values, remote, filter, project, join, aggregate, aggregate_final, sort, top_n, top_n_final, limit, limit_final, union}
+use Rattle.plan_docs.specs.Nodes.{NodeForm, scan, values, remote, filter, step, project, join, aggregate, aggregate_final, sort, top_n, top_n_final, limit, limit_final, union}
 use Rattle.plan_docs.specs.Plans.{FragmentForm, PlanForm}
 use Rattle.plan_run_laws.specs.RunPlans.{Output, RunPlan}
 use Rattle.plan_run_laws.specs.RunPlans as run
@@ -16,16 +16,8 @@ abbrev pub ids_at : ℕ → NodeForm → ℕ
 ids_at n (scan id table columns types) = one_if (id == n)
 ids_at n (values id types rows) = 0
 ids_at n (remote id fragment) = 0
-ids_at n (filter id predicate input) = ids_at n input
-ids_at n (project id columns input) = ids_at n input
+ids_at n (step id operator input) = ids_at n input
 ids_at n (join id kind on filters left right) = one_if (id == n) + ids_at n left + ids_at n right
-ids_at n (aggregate id step keys calls input) = ids_at n input
-ids_at n (aggregate_final id input) = ids_at n input
-ids_at n (sort id keys input) = ids_at n input
-ids_at n (top_n id step count keys input) = ids_at n input
-ids_at n (top_n_final id input) = ids_at n input
-ids_at n (limit id step count input) = ids_at n input
-ids_at n (limit_final id input) = ids_at n input
 ids_at n (union id left right) = ids_at n left + ids_at n right
 
 abbrev pub ids_among : ℕ → List FragmentForm → ℕ
@@ -58,12 +50,12 @@ module _ (n first : ℕ) (parts : List Part) (among : ℕ → Type 0) (within : 
       let cut = ids_append n (named_of (node_run first parts left)) (named_of (node_run first parts right)) in
       let both = weighed_sum n (λ k. reads_of k left) (λ k. reads_of k right) first parts in
       omega (arith, cut, both, node_held left each.0, node_held right each.1)
-  node_held (aggregate id step keys calls input) each = node_held input each
+  node_held (aggregate id half keys calls input) each = node_held input each
   node_held (aggregate_final id input) each = let same = ap (ids_in n) (with_same id (node_run first parts input)) in omega (arith, same, node_held input each)
   node_held (sort id keys input) each = node_held input each
-  node_held (top_n id step count keys input) each = node_held input each
+  node_held (top_n id half count keys input) each = node_held input each
   node_held (top_n_final id input) each = let same = ap (ids_in n) (with_same id (node_run first parts input)) in omega (arith, same, node_held input each)
-  node_held (limit id step count input) each = node_held input each
+  node_held (limit id half count input) each = node_held input each
   node_held (limit_final id input) each = let same = ap (ids_in n) (with_same id (node_run first parts input)) in omega (arith, same, node_held input each)
   node_held (union id left right) each =
       let cut = ids_append n (named_of (node_run first parts left)) (named_of (node_run first parts right)) in

@@ -1,21 +1,14 @@
 -- The ids of the joins of a run.
 use Rattle.std.specs.Prelude.{ℕ, List, [], ◌∷◌, ◌++◌, Contains}
-use Rattle.plan_run_laws.specs.RunPlans.{RunPlan, scan, values, remote, filter, project, join, aggregate, aggregate_parts, sort, topn, topn_parts, limit, limit_parts, union}
+use Rattle.plan_run_laws.specs.RunPlans.{RunPlan, scan, values, remote, step, halves, join, union}
 
 abbrev pub joins_of : RunPlan → List ℕ
 joins_of (scan id table columns types) = []
 joins_of (values id types rows) = []
 joins_of (remote id output m input) = joins_of input
-joins_of (filter id predicate input) = joins_of input
-joins_of (project id columns input) = joins_of input
+joins_of (step id s input) = joins_of input
 joins_of (join id kind on left right) = id ∷ joins_of left ++ joins_of right
-joins_of (aggregate id keys calls input) = joins_of input
-joins_of (aggregate_parts id source output m keys calls input) = joins_of input
-joins_of (sort id keys input) = joins_of input
-joins_of (topn id count keys input) = joins_of input
-joins_of (topn_parts id source output m count keys input) = joins_of input
-joins_of (limit id count input) = joins_of input
-joins_of (limit_parts id source output m count input) = joins_of input
+joins_of (halves id source output m h input) = joins_of input
 joins_of (union id left right) = joins_of left ++ joins_of right
 
 -- no id is in both
@@ -27,15 +20,8 @@ abbrev pub JoinsApart : RunPlan → Type 0
 JoinsApart (scan id table columns types) = Unit {0}
 JoinsApart (values id types rows) = Unit {0}
 JoinsApart (remote id output m input) = JoinsApart input
-JoinsApart (filter id predicate input) = JoinsApart input
-JoinsApart (project id columns input) = JoinsApart input
+JoinsApart (step id s input) = JoinsApart input
 JoinsApart (join id kind on left right) =
     JoinsApart left × JoinsApart right × (Contains (joins_of left ++ joins_of right) id → ⊥) × AreApart (joins_of left) (joins_of right)
-JoinsApart (aggregate id keys calls input) = JoinsApart input
-JoinsApart (aggregate_parts id source output m keys calls input) = JoinsApart input
-JoinsApart (sort id keys input) = JoinsApart input
-JoinsApart (topn id count keys input) = JoinsApart input
-JoinsApart (topn_parts id source output m count keys input) = JoinsApart input
-JoinsApart (limit id count input) = JoinsApart input
-JoinsApart (limit_parts id source output m count input) = JoinsApart input
+JoinsApart (halves id source output m h input) = JoinsApart input
 JoinsApart (union id left right) = JoinsApart left × JoinsApart right × AreApart (joins_of left) (joins_of right)

@@ -7,10 +7,10 @@ use Rattle.plan_trees.specs.Allowed.{width_of}
 use Rattle.plan_trees.specs.TreeForms.{TreeForm, pair_view}
 use Rattle.column_origins.specs.Origins.{origin_of}
 use Rattle.plan_docs.specs.declared.node.DynamicFilter.{DynamicFilter}
-use Rattle.plan_docs.specs.Nodes.{NodeForm, scan, values, remote, filter, project, join, aggregate, aggregate_final, sort, top_n, top_n_final, limit, limit_final, union}
+use Rattle.plan_docs.specs.Nodes.{NodeForm, scan, values, remote, step, join, union}
 use Rattle.plan_docs.specs.Plans.{FragmentForm, PlanForm}
-use Rattle.plan_reader.specs.Filters.{trees_of}
-use Rattle.plan_reader.specs.Trees.{node_tree}
+use Rattle.plan_link_laws.specs.Filters.{trees_of}
+use Rattle.plan_link_laws.specs.Trees.{node_tree}
 use Rattle.plan_run_laws.specs.RunPlans.{RunPlan, tree_of_run}
 use Rattle.sieve_laws.specs.ComingDown.{HasJoin}
 
@@ -23,16 +23,8 @@ abbrev pub EachJoin : JoinClaim → NodeForm → Type 0
 EachJoin P (scan id table columns types) = Unit {0}
 EachJoin P (values id types rows) = Unit {0}
 EachJoin P (remote id fragment) = Unit {0}
-EachJoin P (filter id predicate input) = EachJoin P input
-EachJoin P (project id columns input) = EachJoin P input
+EachJoin P (step id operator input) = EachJoin P input
 EachJoin P (join id kind on filters left right) = P id kind on filters left × EachJoin P left × EachJoin P right
-EachJoin P (aggregate id step keys calls input) = EachJoin P input
-EachJoin P (aggregate_final id input) = EachJoin P input
-EachJoin P (sort id keys input) = EachJoin P input
-EachJoin P (top_n id step count keys input) = EachJoin P input
-EachJoin P (top_n_final id input) = EachJoin P input
-EachJoin P (limit id step count input) = EachJoin P input
-EachJoin P (limit_final id input) = EachJoin P input
 EachJoin P (union id left right) = EachJoin P left × EachJoin P right
 
 -- the run has a join of the id and the kind whose left side means the tree

@@ -7,7 +7,7 @@ use Rattle.plan_docs.specs.Nodes as node
 use Rattle.plan_docs.specs.Plans.{FragmentForm}
 use Rattle.plan_run_laws.specs.RunPlans.{RunPlan}
 use Rattle.plan_run_laws.specs.RunPlans as plan
-use Rattle.plan_spreads.specs.Halves.{aggregates, top_ns, limits, half}
+use Rattle.plan_spreads.specs.Halves.{Halved, aggregates, half}
 use Rattle.plan_spreads.specs.Runs.{Part, node_run, one_over}
 use Rattle.plan_layout.specs.declared.pipe.Parallelism.{Parallelism}
 use Rattle.plan_layout.specs.Edges.{target_of}
@@ -97,38 +97,21 @@ module _ (layout : List PipeForm) (Of : ℕ → Type 0) (n m from : ℕ) (parts 
     t.root.so.1.2.1,
   )
 
-  pub final_aggregate : (root : NodeForm) → half root ≡ Some aggregates → steps ≡ final_of id root → (list_any groups_rows steps ≡ true → w ≡ 1) → RootTaken root → OneRuns root
-  final_aggregate (node.aggregate other Partial keys calls input) h are alone taken =
+  pub final_half : (operator : Halved) (root : NodeForm) → half root ≡ Some operator → steps ≡ final_of id root
+      → ((operator ≡ aggregates → list_any groups_rows steps ≡ true) → w ≡ 1) → RootTaken root → OneRuns root
+  final_half operator (node.aggregate other Partial keys calls input) h are alone taken =
       let t = half_covers (λ half. partial half keys calls) (node_run from parts input) taken in
-      ((alone (ap (list_any groups_rows) are), are, t.0), t.1)
-  final_aggregate (node.aggregate other Single keys calls input) h are alone taken = absurd cc
-  final_aggregate (node.top_n other Single count keys input) h are alone taken = absurd cc
-  final_aggregate (node.top_n other Partial count keys input) h are alone taken = absurd cc
-  final_aggregate (node.limit other Single count input) h are alone taken = absurd cc
-  final_aggregate (node.limit other Partial count input) h are alone taken = absurd cc
-  final_aggregate root h are alone taken = absurd cc
-
-  pub final_top_n : (root : NodeForm) → half root ≡ Some top_ns → steps ≡ final_of id root → w ≡ 1 → RootTaken root → OneRuns root
-  final_top_n (node.top_n other Partial count keys input) h are alone taken =
+      ((alone (λ e. ap (list_any groups_rows) are), are, t.0), t.1)
+  final_half operator (node.top_n other Partial count keys input) h are alone taken =
       let t = half_covers (λ half. top_n half count keys) (node_run from parts input) taken in
-      ((alone, are, t.0), t.1)
-  final_top_n (node.top_n other Single count keys input) h are alone taken = absurd cc
-  final_top_n (node.aggregate other Single keys calls input) h are alone taken = absurd cc
-  final_top_n (node.aggregate other Partial keys calls input) h are alone taken = absurd cc
-  final_top_n (node.limit other Single count input) h are alone taken = absurd cc
-  final_top_n (node.limit other Partial count input) h are alone taken = absurd cc
-  final_top_n root h are alone taken = absurd cc
-
-  pub final_limit : (root : NodeForm) → half root ≡ Some limits → steps ≡ final_of id root → w ≡ 1 → RootTaken root → OneRuns root
-  final_limit (node.limit other Partial count input) h are alone taken =
+      ((alone (λ e. absurd cc), are, t.0), t.1)
+  final_half operator (node.limit other Partial count input) h are alone taken =
       let t = half_covers (λ half. limit half count) (node_run from parts input) taken in
-      ((alone, are, t.0), t.1)
-  final_limit (node.limit other Single count input) h are alone taken = absurd cc
-  final_limit (node.aggregate other Single keys calls input) h are alone taken = absurd cc
-  final_limit (node.aggregate other Partial keys calls input) h are alone taken = absurd cc
-  final_limit (node.top_n other Single count keys input) h are alone taken = absurd cc
-  final_limit (node.top_n other Partial count keys input) h are alone taken = absurd cc
-  final_limit root h are alone taken = absurd cc
+      ((alone (λ e. absurd cc), are, t.0), t.1)
+  final_half operator (node.aggregate other Single keys calls input) h are alone taken = absurd cc
+  final_half operator (node.top_n other Single count keys input) h are alone taken = absurd cc
+  final_half operator (node.limit other Single count input) h are alone taken = absurd cc
+  final_half operator root h are alone taken = absurd cc
 
 -- at the place is a pipe of the fragment that begins below the node, or a place that
 -- `Told` gives a fragment that is read there

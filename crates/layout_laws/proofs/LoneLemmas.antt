@@ -92,6 +92,11 @@ fine_over placement path input spread (inl h) = inl h
 fine_over placement path (Ok s) spread (inr h) = inr (s, refl)
 fine_over placement path (Err at) spread (inr (t, h)) = absurd cc
 
+-- what has no say in the spread of its input
+pub fine_below : (placement : Placement) (input : Result RowSpread Path) → Fine placement (typed_then input (λ below. Ok below)) → Fine placement input
+fine_below placement (Ok s) h = h
+fine_below placement (Err at) h = h
+
 -- what has no spread over any other is run by one task
 pub fine_none : (placement : Placement) (path : Path) (input : Result RowSpread Path) (spread : RowSpread → Option RowSpread) → ((s : RowSpread) → spread s ≡ None)
     → Fine placement (over path input spread) → is_single placement ≡ true

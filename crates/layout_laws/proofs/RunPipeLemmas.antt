@@ -1,6 +1,7 @@
 -- The pipes of a layout run the nodes of a fragment, where those of the later fragments run theirs.
 use Rattle.std.proofs.Common.{◌≡◌, ℕ, ◌+◌, ◌-◌, ◌<◌, zero, suc, List, [], ◌∷◌, ◌++◌, map, Bool, true, false, ◌⊎◌, refl, ap, sym, ◌∙◌, subst, arith, Option, Some, None}
 use Rattle.std.specs.Prelude.{Result, slice_get, unwrap_or, ◌==◌, if◌then◌else◌}
+use Rattle.std.specs.List.{list_any}
 use Rattle.std.proofs.lemmas.Bool.{eqb-true}
 use Rattle.json_paths.specs.declared.key.Key.TheVariants as key
 use Rattle.sql_exprs.specs.Typing.{Path, under}
@@ -10,9 +11,10 @@ use Rattle.plan_docs.specs.declared.plan.Output.{Output}
 use Rattle.plan_docs.specs.declared.plan.Placement.{Placement}
 use Rattle.plan_docs.specs.Nodes.{NodeForm}
 use Rattle.plan_docs.specs.Nodes as node
+use Rattle.plan_docs.specs.Operators as operators
+use Rattle.plan_trees.specs.HalvedSteps as halved
 use Rattle.plan_docs.specs.Plans.{FragmentForm}
 use Rattle.plan_run_laws.specs.RunPlans.{RunPlan}
-use Rattle.plan_run_laws.specs.RunPlans as plan
 use Rattle.plan_spreads.specs.declared.spread.RowSpread.{RowSpread}
 use Rattle.plan_spreads.specs.Halves.{Halved, aggregates, top_ns, limits, Meets, ReadsHalf, RootMeets, half}
 use Rattle.plan_spreads.specs.Operators.{first_rows_spread}
@@ -26,11 +28,11 @@ use Rattle.plan_layout.specs.Layouts.{site_of}
 use Rattle.plan_layout.specs.Pipes.{PipeForm, SourceForm, StepForm, TargetForm, aggregate, fragment, readers, result, side}
 use Rattle.plan_layout.specs.Runs.{EndsWith, PipeAt, Runs, bare}
 use Rattle.plan_layout.specs.Sides.{Site, built_for}
-use Rattle.plan_layout.specs.Steps.{aggregate_step, builds, final_in, final_of, final_over, is_shared}
+use Rattle.plan_layout.specs.Steps.{aggregate_step, builds, final_in, final_of, final_over, groups_rows, is_shared}
 use Rattle.layout_laws.specs.Readers.{IsReader}
 use Rattle.layout_laws.specs.RunPipes.{Alone, OfPipe, PipeIn, Takes}
-use Rattle.layout_laws.proofs.CoverLemmas.{Covers, Holds, Reaches, RootHolds, RootReaches, final_aggregate, final_limit, final_top_n, in_sum, reaching, root_whole, same_pipe}
-use Rattle.layout_laws.proofs.LoneLemmas.{Fine, Lone, builder_alone, fine_left, fine_none, fine_over, fine_right, lone_before, lone_groups, lone_of}
+use Rattle.layout_laws.proofs.CoverLemmas.{Covers, Holds, Reaches, RootHolds, RootReaches, final_half, in_sum, reaching, root_whole, same_pipe}
+use Rattle.layout_laws.proofs.LoneLemmas.{Fine, Lone, builder_alone, fine_below, fine_left, fine_none, fine_over, fine_right, lone_before, lone_groups, lone_of}
 
 -- a pipe that has its numbers
 record Real (layout : List PipeForm) (at : ℕ) (known : PipeForm) : Type 0 where
@@ -215,11 +217,9 @@ module _ (layout : List PipeForm) (p : Parallelism) (fragments : List FragmentFo
 
   final_runs : (operator : Halved) (id : ℕ) (input : NodeForm) (own w : ℕ) (source : SourceForm) (steps : List StepForm) → ReadsHalf operator first later input
       → Own own w source steps → (ends : EndsWith (Runs bares s own input source) (final_over fragments id input) steps)
-      → ((Of : ℕ → Type 0) (m from : ℕ) (below : List Part) (source_id : ℕ) (output : plan.Output) (root : NodeForm) → half root ≡ Some operator → steps ≡ final_of id root
-      → Takes layout own source output m (RootReaches layout Of m from below root)
-      → Covers layout Of n (one_over id source_id output m (node_run from below root)) own w source steps)
+      → ((operator ≡ aggregates → list_any groups_rows steps ≡ true) → w ≡ 1)
       → Covers layout (λ place. Holds bares s Told place own input source ends.0 ends.2) n (one_with id (node_run first parts input)) own w source steps
-  final_runs operator id input own w source steps m o ends one =
+  final_runs operator id input own w source steps m o ends alone =
       let v = over_half first later operator input m in
       let Of : ℕ → Type 0 = Told v.fragment in
       let read : EndsWith (Runs bares s own (node.remote v.source v.fragment) source) (final_over fragments id (node.remote v.source v.fragment)) steps =
@@ -229,7 +229,7 @@ module _ (layout : List PipeForm) (p : Parallelism) (fragments : List FragmentFo
       ap (λ (rest : List StepForm). rest ++ final_over fragments id (node.remote v.source v.fragment)) read.2.1 in
       let final_is : final_over fragments id (node.remote v.source v.fragment) ≡ final_of id t.f.root = ap (λ (f : Option FragmentForm). final_in id f) t.there in
       let part = part_read first parts v.fragment in
-      let runs = one Of part.tasks t.from t.below v.source part.output t.f.root t.is (read.1 ∙ before ∙ final_is) t.takes in
+      let runs = final_half layout Of n part.tasks t.from t.below id v.source part.output own w source steps operator t.f.root t.is (read.1 ∙ before ∙ final_is) alone t.takes in
       let covers = subst (λ (x : NodeForm). Covers layout Of n (one_with id (node_run first parts x)) own w source steps) v.is
       (subst (λ (r : RunPlan). Covers layout Of n (one_over id v.source part.output part.tasks r) own w source steps) (sym t.part_is) runs) in
       (covers.0, λ place h. covers.1 place (over_told v.source v.fragment input v.is own source ends.0 ends.2 place h))
@@ -243,13 +243,14 @@ module _ (layout : List PipeForm) (p : Parallelism) (fragments : List FragmentFo
   node_runs (node.remote id other) path own w source steps m fine o r =
       source_runs id other own w source steps o (has_read first later None other (fragment_read first later other) refl m) r.0 r.1
   node_runs (node.filter id predicate input) path own w source steps m fine o r =
-      let below = node_runs input (under path key.Input) own w source r.0 m fine (own_before own w source steps r.0 _ r.1 o) r.2 in
-      ((r.0, r.1, below.0), below.1)
+      let below = node_runs input (under path key.Input) own w source r.0 m (fine_below placement (spread (under path key.Input) input) fine)
+      (own_before own w source steps r.0 _ r.1 o) r.2 in
+      ((tt, (r.0, r.1, below.0)), below.1)
   node_runs (node.project id columns input) path own w source steps m fine o r =
       let below = node_runs input (under path key.Input) own w source r.0 m
-      (fine_over placement path (spread (under path key.Input) input) (operator_spread placement first later (node.project id columns input)) fine)
+      (fine_over placement path (spread (under path key.Input) input) (operator_spread placement first later (operators.project columns) input) fine)
       (own_before own w source steps r.0 _ r.1 o) r.2 in
-      ((r.0, r.1, below.0), below.1)
+      ((tt, (r.0, r.1, below.0)), below.1)
   node_runs (node.join id kind on filters left right) path own w source steps m fine o r =
       let lefts = fine_left placement path (spread (under path key.Left) left) (spread (under path key.Right) right) (sides_spread (node.join id kind on filters left right)) fine in
       let rights = fine_right placement path (spread (under path key.Left) left) (spread (under path key.Right) right) (sides_spread (node.join id kind on filters left right)) fine in
@@ -270,40 +271,37 @@ module _ (layout : List PipeForm) (p : Parallelism) (fragments : List FragmentFo
   node_runs (node.aggregate id step keys calls input) path own w source steps m fine o r =
       let single : steps ≡ r.0 ++ aggregate id keys calls ∷ [] = r.1 ∙ ap (λ (h : NodeStep). r.0 ++ aggregate_step id h keys calls ∷ []) m.0 in
       let below = node_runs input (under path key.Input) own w source r.0 m.1
-      (fine_over placement path (spread (under path key.Input) input) (operator_spread placement first later (node.aggregate id step keys calls input)) fine)
+      (fine_over placement path (spread (under path key.Input) input) (operator_spread placement first later (operators.part step (halved.aggregate keys calls)) input) fine)
       (own_before own w source steps r.0 _ r.1 o) r.2 in
       ((lone_groups placement w source steps r.0 (aggregate id keys calls ∷ []) single refl o.lone, (r.0, single, below.0)), below.1)
   node_runs (node.aggregate_final id input) path own w source steps m fine o r =
-      final_runs aggregates id input own w source steps m o r
-      (λ Of m2 from below source_id output root is are takes. final_aggregate layout Of n m2 from below id source_id output own w source steps root is are o.lone.groups takes)
+      final_runs aggregates id input own w source steps m o r (λ groups. o.lone.groups (groups refl))
   node_runs (node.sort id keys input) path own w source steps m fine o r =
-      let alone = o.lone.single (fine_none placement path (spread (under path key.Input) input) (operator_spread placement first later (node.sort id keys input)) (λ t. refl) fine) in
+      let alone = o.lone.single (fine_none placement path (spread (under path key.Input) input) (operator_spread placement first later (operators.sort keys) input) (λ t. refl) fine) in
       let below = node_runs input (under path key.Input) own w source r.0 m
-      (fine_over placement path (spread (under path key.Input) input) (operator_spread placement first later (node.sort id keys input)) fine)
+      (fine_over placement path (spread (under path key.Input) input) (operator_spread placement first later (operators.sort keys) input) fine)
       (own_before own w source steps r.0 _ r.1 o) r.2 in
       ((alone, (r.0, r.1, below.0)), below.1)
   node_runs (node.top_n id step count keys input) path own w source steps m fine o r =
-      let alone = o.lone.single (fine_none placement path (spread (under path key.Input) input) (operator_spread placement first later (node.top_n id step count keys input))
+      let alone = o.lone.single (fine_none placement path (spread (under path key.Input) input) (operator_spread placement first later (operators.part step (halved.topn count keys)) input)
       (λ t. ap (λ (h : NodeStep). first_rows_spread h t) m.0) fine) in
       let below = node_runs input (under path key.Input) own w source r.0 m.1
-      (fine_over placement path (spread (under path key.Input) input) (operator_spread placement first later (node.top_n id step count keys input)) fine)
+      (fine_over placement path (spread (under path key.Input) input) (operator_spread placement first later (operators.part step (halved.topn count keys)) input) fine)
       (own_before own w source steps r.0 _ r.1 o) r.2 in
       ((alone, (r.0, r.1, below.0)), below.1)
   node_runs (node.top_n_final id input) path own w source steps m fine o r =
-      let alone = o.lone.single (fine_none placement path (spread (under path key.Input) input) (operator_spread placement first later (node.top_n_final id input)) (λ t. refl) fine) in
-      final_runs top_ns id input own w source steps m o r
-      (λ Of m2 from below source_id output root is are takes. final_top_n layout Of n m2 from below id source_id output own w source steps root is are alone takes)
+      let alone = o.lone.single (fine_none placement path (spread (under path key.Input) input) (operator_spread placement first later (operators.final halved.top_ns) input) (λ t. refl) fine) in
+      final_runs top_ns id input own w source steps m o r (λ groups. alone)
   node_runs (node.limit id step count input) path own w source steps m fine o r =
-      let alone = o.lone.single (fine_none placement path (spread (under path key.Input) input) (operator_spread placement first later (node.limit id step count input))
+      let alone = o.lone.single (fine_none placement path (spread (under path key.Input) input) (operator_spread placement first later (operators.part step (halved.limit count)) input)
       (λ t. ap (λ (h : NodeStep). first_rows_spread h t) m.0) fine) in
       let below = node_runs input (under path key.Input) own w source r.0 m.1
-      (fine_over placement path (spread (under path key.Input) input) (operator_spread placement first later (node.limit id step count input)) fine)
+      (fine_over placement path (spread (under path key.Input) input) (operator_spread placement first later (operators.part step (halved.limit count)) input) fine)
       (own_before own w source steps r.0 _ r.1 o) r.2 in
       ((alone, (r.0, r.1, below.0)), below.1)
   node_runs (node.limit_final id input) path own w source steps m fine o r =
-      let alone = o.lone.single (fine_none placement path (spread (under path key.Input) input) (operator_spread placement first later (node.limit_final id input)) (λ t. refl) fine) in
-      final_runs limits id input own w source steps m o r
-      (λ Of m2 from below source_id output root is are takes. final_limit layout Of n m2 from below id source_id output own w source steps root is are alone takes)
+      let alone = o.lone.single (fine_none placement path (spread (under path key.Input) input) (operator_spread placement first later (operators.final halved.limits) input) (λ t. refl) fine) in
+      final_runs limits id input own w source steps m o r (λ groups. alone)
   node_runs (node.union id left right) path own w source steps m fine o r =
       let lefts = fine_left placement path (spread (under path key.Left) left) (spread (under path key.Right) right) (sides_spread (node.union id left right)) fine in
       let rights = fine_right placement path (spread (under path key.Left) left) (spread (under path key.Right) right) (sides_spread (node.union id left right)) fine in
@@ -341,21 +339,21 @@ module _ (layout : List PipeForm) (p : Parallelism) (fragments : List FragmentFo
       → Own own w source steps → RootHolds bares s Told number own x source steps → RootReaches layout (Told number) n first parts x own w source steps
   root_runs (node.aggregate id Partial keys calls input) path own w source steps m fine o (r, told) =
       let below = node_runs input (under path key.Input) own w source r.0 m
-      (fine_over placement path (spread (under path key.Input) input) (operator_spread placement first later (node.aggregate id Partial keys calls input)) fine)
+      (fine_over placement path (spread (under path key.Input) input) (operator_spread placement first later (operators.part Partial (halved.aggregate keys calls)) input) fine)
       (own_before own w source steps r.0 _ r.1 o) r.2 in
       (id, (r.0, r.1, reaching layout (Told number) (λ place. Holds bares s Told place own input source r.0 r.2) n (node_run first parts input) own w source r.0 told below))
   root_runs (node.aggregate id Single keys calls input) path own w source steps m fine o (r, told) =
       single_runs (node.aggregate id Single keys calls input) path own w source steps (refl, m) fine o r told
   root_runs (node.top_n id Partial count keys input) path own w source steps m fine o (r, told) =
       let below = node_runs input (under path key.Input) own w source r.0 m
-      (fine_over placement path (spread (under path key.Input) input) (operator_spread placement first later (node.top_n id Partial count keys input)) fine)
+      (fine_over placement path (spread (under path key.Input) input) (operator_spread placement first later (operators.part Partial (halved.topn count keys)) input) fine)
       (own_before own w source steps r.0 _ r.1 o) r.2 in
       (id, (r.0, r.1, reaching layout (Told number) (λ place. Holds bares s Told place own input source r.0 r.2) n (node_run first parts input) own w source r.0 told below))
   root_runs (node.top_n id Single count keys input) path own w source steps m fine o (r, told) =
       single_runs (node.top_n id Single count keys input) path own w source steps (refl, m) fine o r told
   root_runs (node.limit id Partial count input) path own w source steps m fine o (r, told) =
       let below = node_runs input (under path key.Input) own w source r.0 m
-      (fine_over placement path (spread (under path key.Input) input) (operator_spread placement first later (node.limit id Partial count input)) fine)
+      (fine_over placement path (spread (under path key.Input) input) (operator_spread placement first later (operators.part Partial (halved.limit count)) input) fine)
       (own_before own w source steps r.0 _ r.1 o) r.2 in
       (id, (r.0, r.1, reaching layout (Told number) (λ place. Holds bares s Told place own input source r.0 r.2) n (node_run first parts input) own w source r.0 told below))
   root_runs (node.limit id Single count input) path own w source steps m fine o (r, told) =

@@ -18,21 +18,12 @@ IsWithin layout place n (plan.scan id table columns types) own w source steps r 
 IsWithin layout place n (plan.values id types list) own w source steps r = ⊥
 IsWithin layout place n (plan.remote id output m input) own w source steps r =
     (place ≡ r.1.at) ⊎ IsWithin layout place m input r.1.at r.1.root.pipe.drivers r.1.root.pipe.source r.1.root.pipe.steps r.1.root.so
-IsWithin layout place n (plan.filter id predicate input) own w source steps r = IsWithin layout place n input own w source r.0 r.2
-IsWithin layout place n (plan.project id columns input) own w source steps r = IsWithin layout place n input own w source r.0 r.2
+IsWithin layout place n (plan.step id s input) own w source steps r = IsWithin layout place n input own w source r.1.0 r.1.2
+IsWithin layout place n (plan.halves id remote output m h input) own w source steps r =
+    (place ≡ r.2.at) ⊎ IsWithin layout place m input r.2.at r.2.root.pipe.drivers r.2.root.pipe.source r.2.root.so.1.0 r.2.root.so.1.2
 IsWithin layout place n (plan.join id kind on left right) own w source steps r =
     ((place ≡ r.0) ⊎ IsWithin layout place n right r.0 r.3.pipe.drivers r.3.pipe.source r.3.pipe.steps r.3.so.1)
     ⊎ IsWithin layout place n left own w source r.4.0 r.4.2
-IsWithin layout place n (plan.aggregate id keys calls input) own w source steps r = IsWithin layout place n input own w source r.1.0 r.1.2
-IsWithin layout place n (plan.aggregate_parts id remote output m keys calls input) own w source steps r =
-    (place ≡ r.2.at) ⊎ IsWithin layout place m input r.2.at r.2.root.pipe.drivers r.2.root.pipe.source r.2.root.so.1.0 r.2.root.so.1.2
-IsWithin layout place n (plan.sort id keys input) own w source steps r = IsWithin layout place n input own w source r.1.0 r.1.2
-IsWithin layout place n (plan.topn id count keys input) own w source steps r = IsWithin layout place n input own w source r.1.0 r.1.2
-IsWithin layout place n (plan.topn_parts id remote output m count keys input) own w source steps r =
-    (place ≡ r.2.at) ⊎ IsWithin layout place m input r.2.at r.2.root.pipe.drivers r.2.root.pipe.source r.2.root.so.1.0 r.2.root.so.1.2
-IsWithin layout place n (plan.limit id count input) own w source steps r = IsWithin layout place n input own w source r.1.0 r.1.2
-IsWithin layout place n (plan.limit_parts id remote output m count input) own w source steps r =
-    (place ≡ r.2.at) ⊎ IsWithin layout place m input r.2.at r.2.root.pipe.drivers r.2.root.pipe.source r.2.root.so.1.0 r.2.root.so.1.2
 IsWithin layout place n (plan.union id left right) own w source steps r =
     ((place ≡ r.3.0) ⊎ IsWithin layout place n left r.3.0 r.3.1.pipe.drivers r.3.1.pipe.source r.3.1.pipe.steps r.3.1.so)
     ⊎ ((place ≡ r.4.0) ⊎ IsWithin layout place n right r.4.0 r.4.1.pipe.drivers r.4.1.pipe.source r.4.1.pipe.steps r.4.1.so)

@@ -6,8 +6,11 @@ use Rattle.plan_trees.specs.TreeForms.{pair_view}
 use Rattle.plan_run_laws.specs.Nets.{IsAlone}
 use Rattle.plan_run_laws.specs.RunPlans.{RunPlan}
 use Rattle.plan_run_laws.specs.RunPlans as plan
+use Rattle.plan_run_laws.specs.HalvedSteps.{HalvedForm, whole_step}
+use Rattle.plan_run_laws.specs.HalvedSteps as halved
+use Rattle.plan_run_laws.specs.Stages.{MayHave}
 use Rattle.plan_spreads.specs.Runs.{output_view}
-use Rattle.plan_layout.specs.Pipes.{BuildForm, PipeForm, SourceForm, StepForm, TargetForm, table, rows, sides, fragment, filter, project, probe, aggregate, partial, final, sort, top_n, limit, cell, side, readers}
+use Rattle.plan_layout.specs.Pipes.{BuildForm, PipeForm, SourceForm, StepForm, TargetForm, table, rows, sides, fragment, does, probe, partial, final, cell, side, readers}
 use Rattle.plan_layout.specs.Runs.{EndsWith, HasScan}
 
 -- what is built is the right side of this join
@@ -40,6 +43,15 @@ pub record Takes (layout : List PipeForm) (own : ℕ) (source : SourceForm) (out
 abbrev pub Into : (ℕ → StepForm) → OfPipe → OfPipe
 Into step Is own w source steps = (half : ℕ) × EndsWith (Is own w source) (step half ∷ []) steps
 
+-- the halves of an aggregate; those of another step both do what the whole does
+abbrev pub partial_step : HalvedForm → ℕ → StepForm
+partial_step (halved.aggregate keys calls) id = partial id keys calls
+partial_step h id = does id (whole_step h)
+
+abbrev pub final_step : HalvedForm → ℕ → StepForm
+final_step (halved.aggregate keys calls) id = final id keys calls
+final_step h id = does id (whole_step h)
+
 abbrev pub Alone : OfPipe → OfPipe
 Alone Is own w source steps = IsAlone w × Is own w source steps
 
@@ -50,30 +62,12 @@ RunsAs layout n (plan.scan id place columns types) own w source steps =
     (source ≡ table place columns types) × (steps ≡ []) × HasScan layout own (Some id)
 RunsAs layout n (plan.values id types list) own w source steps = IsAlone w × (source ≡ rows types list) × (steps ≡ [])
 RunsAs layout n (plan.remote id output m input) own w source steps = (steps ≡ []) × Takes layout own source output m (RunsAs layout m input)
-RunsAs layout n (plan.filter id predicate input) own w source steps =
-    EndsWith (RunsAs layout n input own w source) (filter id predicate ∷ []) steps
-RunsAs layout n (plan.project id columns input) own w source steps =
-    EndsWith (RunsAs layout n input own w source) (project id columns ∷ []) steps
+RunsAs layout n (plan.step id s input) own w source steps = MayHave s w × EndsWith (RunsAs layout n input own w source) (does id s ∷ []) steps
+RunsAs layout n (plan.halves id remote output m h input) own w source steps =
+    IsAlone w × (steps ≡ final_step h id ∷ []) × Takes layout own source output m (Into (partial_step h) (RunsAs layout m input))
 RunsAs layout n (plan.join id kind on left right) own w source steps =
     (at : ℕ) × (build : BuildForm) × IsRightSide id on build × PipeIn layout n (cell build) at (Alone (RunsAs layout n right))
     × EndsWith (RunsAs layout n left own w source) (probe id kind build.on at ∷ []) steps
-RunsAs layout n (plan.aggregate id keys calls input) own w source steps =
-    IsAlone w × EndsWith (RunsAs layout n input own w source) (aggregate id keys calls ∷ []) steps
-RunsAs layout n (plan.aggregate_parts id remote output m keys calls input) own w source steps =
-    IsAlone w × (steps ≡ final id keys calls ∷ [])
-    × Takes layout own source output m (Into (λ half. partial half keys calls) (RunsAs layout m input))
-RunsAs layout n (plan.sort id keys input) own w source steps =
-    IsAlone w × EndsWith (RunsAs layout n input own w source) (sort id keys ∷ []) steps
-RunsAs layout n (plan.topn id count keys input) own w source steps =
-    IsAlone w × EndsWith (RunsAs layout n input own w source) (top_n id count keys ∷ []) steps
-RunsAs layout n (plan.topn_parts id remote output m count keys input) own w source steps =
-    IsAlone w × (steps ≡ top_n id count keys ∷ [])
-    × Takes layout own source output m (Into (λ half. top_n half count keys) (RunsAs layout m input))
-RunsAs layout n (plan.limit id count input) own w source steps =
-    IsAlone w × EndsWith (RunsAs layout n input own w source) (limit id count ∷ []) steps
-RunsAs layout n (plan.limit_parts id remote output m count input) own w source steps =
-    IsAlone w × (steps ≡ limit id count ∷ [])
-    × Takes layout own source output m (Into (λ half. limit half count) (RunsAs layout m input))
 RunsAs layout n (plan.union id left right) own w source steps =
     IsAlone w × (source ≡ sides) × (steps ≡ [])
     × (first : (i : ℕ) × PipeIn layout n (side own) i (RunsAs layout n left))

@@ -1,17 +1,18 @@
 -- A sieve comes down to the scan from which its column comes.
-use Rattle.std.proofs.Common.{◌≡◌, ℕ, List, [], ◌∷◌, ◌++◌, Bool, true, false, Option, Some, None, Contains, refl, sym, subst, ◌⊎◌, inl, inr, arith}
+use Rattle.std.proofs.Common.{◌≡◌, ℕ, List, [], ◌∷◌, ◌++◌, Bool, true, Option, Some, None, Contains, refl, sym, subst, ◌⊎◌, inl, inr, arith}
 use Rattle.std.specs.Prelude.{◌==◌, if◌then◌else◌, option_and_then}
 use Rattle.std.proofs.lemmas.List.Elements.{Contains-append_cases, Contains-append_left, Contains-append_right, Contains-push, Contains-push_cases}
+use Rattle.sql_values.specs.declared.types.SqlType.{SqlType}
 use Rattle.sql_values.specs.declared.value.Value.{Value}
-use Rattle.sql_exprs.specs.Calm.{is_calm}
 use Rattle.plan_trees.specs.Allowed.{width_of}
 use Rattle.plan_trees.specs.TreeTypes.{types_of}
 use Rattle.column_origins.specs.declared.origin.Origin.{Origin}
-use Rattle.column_origins.specs.Origins.{left_column, origin_of, passed_column}
+use Rattle.column_origins.specs.Origins.{left_column, origin_of, passed_by}
+use Rattle.plan_run_laws.specs.HalvedSteps.{HalvedForm, aggregate, whole_step}
 use Rattle.plan_run_laws.specs.RunPlans.{RunPlan, tree_of_run}
 use Rattle.plan_run_laws.specs.RunPlans as plan
 use Rattle.lost_row_laws.specs.Arrivals.{arriving}
-use Rattle.lost_row_laws.specs.Sieves.{Sieve, if_calm, over_input, sieve_at}
+use Rattle.lost_row_laws.specs.Sieves.{Sieve, over_input, sieve_at}
 
 abbrev sieve : ℕ → (Value → Bool) → Sieve
 sieve column pass = record { column = column; pass = pass }
@@ -60,10 +61,6 @@ came : {A : Type 0} (f : ℕ → Option A) (place : Option ℕ) (o : A) → opti
 came f None o h = absurd cc
 came f (Some c) o h = (c, refl, h)
 
-came_if : {A : Type 0} (b : Bool) (there : Option A) (o : A) → (if b then there else None) ≡ Some o → (b ≡ true) × (there ≡ Some o)
-came_if true there o h = (refl, h)
-came_if false there o h = absurd cc
-
 same_number : (n : ℕ) → n == n ≡ true
 same_number n = grind arith
 
@@ -76,32 +73,27 @@ at_scan id sieves s o h is =
     same_origin : (p q : Origin) → Some p ≡ Some q → p ≡ q
     same_origin p q e = cc
 
+-- what is cut in halves passes no column on
+no_halves : (h : HalvedForm) (types : List SqlType) (place : ℕ) (origins : ℕ → Option Origin) (o : Origin) → option_and_then origins (passed_by (whole_step h) types place) ≡ Some o → ⊥
+no_halves (aggregate keys calls) types place origins o is = cc
+no_halves h types place origins o is = cc
+
 module _ (own : ℕ → List Sieve) (o : Origin) where
   pub comes_down : (p : RunPlan) (sieves : List Sieve) (s : Sieve) → Contains sieves s → origin_of (tree_of_run p) s.column ≡ Some o
       → Contains (arriving own sieves p o.scan) (sieve o.column s.pass)
   comes_down (plan.scan id table columns types) sieves s h is = at_scan id sieves s o h is
   comes_down (plan.values id types rows) sieves s h is = absurd cc
   comes_down (plan.remote id output m input) sieves s h is = comes_down input sieves s h is
-  comes_down (plan.filter id predicate input) sieves s h is =
-      let calm = is_calm (types_of (tree_of_run input)) predicate in
-      let split = came_if calm (origin_of (tree_of_run input) s.column) o is in
-      comes_down input (if_calm calm sieves) s
-      (subst (λ (b : Bool). Contains (if b then sieves else []) s) (sym split.0) h) split.1
-  comes_down (plan.project id columns input) sieves s h is =
-      let comes = passed_column (types_of (tree_of_run input)) columns in
+  comes_down (plan.step id does input) sieves s h is =
+      let comes = passed_by does (types_of (tree_of_run input)) in
       let split = came (origin_of (tree_of_run input)) (comes s.column) o is in
       comes_down input (over_input comes sieves) (sieve split.0 s.pass) (moved_down comes s split.0 split.1 sieves h) split.2
+  comes_down (plan.halves id source output m half input) sieves s h is =
+      absurd (no_halves half (types_of (tree_of_run input)) s.column (origin_of (tree_of_run input)) o is)
   comes_down (plan.join id kind on left right) sieves s h is =
       let comes = left_column kind (width_of (tree_of_run left)) in
       let split = came (origin_of (tree_of_run left)) (comes s.column) o is in
       Contains-append_left (arriving own (over_input comes (own id ++ sieves)) left o.scan) (arriving own [] right o.scan) (sieve o.column s.pass)
       (comes_down left (over_input comes (own id ++ sieves)) (sieve split.0 s.pass)
       (moved_down comes s split.0 split.1 (own id ++ sieves) (Contains-append_right (own id) sieves s h)) split.2)
-  comes_down (plan.aggregate id keys calls input) sieves s h is = absurd cc
-  comes_down (plan.aggregate_parts id source output m keys calls input) sieves s h is = absurd cc
-  comes_down (plan.sort id keys input) sieves s h is = absurd cc
-  comes_down (plan.topn id count keys input) sieves s h is = absurd cc
-  comes_down (plan.topn_parts id source output m count keys input) sieves s h is = absurd cc
-  comes_down (plan.limit id count input) sieves s h is = absurd cc
-  comes_down (plan.limit_parts id source output m count input) sieves s h is = absurd cc
   comes_down (plan.union id left right) sieves s h is = absurd cc

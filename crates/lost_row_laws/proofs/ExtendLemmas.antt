@@ -1,29 +1,27 @@
 -- A stopped run whose scans lost rows is the beginning of a whole one that leaves out what fails.
-use Rattle.std.proofs.Common.{◌≡◌, ℕ, ◌<◌, List, [], ◌∷◌, ◌++◌, true, refl, ap, sym, ◌∙◌, subst, arith}
-use Rattle.std.specs.Prelude.{Option, Some, None, filter}
+use Rattle.std.proofs.Common.{◌≡◌, ℕ, ◌<◌, List, [], ◌∷◌, ◌++◌, true, refl, ap, ◌∙◌, arith}
+use Rattle.std.specs.Prelude.{filter}
 use Rattle.std.proofs.lemmas.List.{append-nil}
 use Rattle.std.proofs.lemmas.List.Sums.{sum_by-append}
 use Rattle.sql_values.specs.declared.value.Value.{Value}
 use Rattle.bag_laws.specs.Gather.{gather}
-use Rattle.bag_laws.specs.Laws.{TaskRows}
 use Rattle.bag_laws.specs.Weights.{SameWeights}
 use Rattle.bag_laws.proofs.BagLemmas.{same-append, same-exchange, same-from_equal, same-refl, same-sym, same-trans}
-use Rattle.bag_laws.proofs.GatherLemmas.{gather-none, same-gather_append}
+use Rattle.bag_laws.proofs.GatherLemmas.{same-gather_append}
 use Rattle.plan_trees.specs.Allowed.{skipping}
-use Rattle.plan_run_laws.specs.Nets.{AreFor, Pipe, StagesMake, Lanes, Stage, WentInto, limit, partial, of_tasks, topn}
+use Rattle.plan_run_laws.specs.Nets.{AreFor, Lanes, of_tasks}
+use Rattle.plan_run_laws.specs.Stages.{Stage, StagesMake, first_half}
 use Rattle.plan_run_laws.specs.RunPlans.{Output, RunPlan, single, hashed, broadcast}
 use Rattle.plan_run_laws.specs.RunPlans as plan
-use Rattle.plan_run_laws.specs.Runs.{EdgePassed, sent}
-use Rattle.plan_run_laws.specs.Stops.{AllSet, AreNoted, AreOpen, Flags, StoppedPipe, IsNoted, MayCome, Notes, PassedSoFar}
+use Rattle.plan_run_laws.specs.Runs.{sent}
+use Rattle.plan_run_laws.specs.Stops.{AreOpen, Flags, StoppedPipe, MayCome, Notes, PassedSoFar}
 use Rattle.plan_run_laws.specs.Wholes.{longer}
 use Rattle.plan_run_laws.proofs.DealLemmas.{Fed, deal_out, fed}
-use Rattle.plan_run_laws.proofs.ExtendLemmas.{Rest, rest_went, same-longer}
+use Rattle.plan_run_laws.proofs.ExtendLemmas.{Rest, all_passed, none_noted, noted_build, passed_on, pipe_of, rest_into, rest_went, same-longer, task_nothing}
 use Rattle.plan_run_laws.proofs.LaneLemmas.{chosen_lanes}
 use Rattle.lost_row_laws.specs.Runs.{AreAlone}
-use Rattle.lost_row_laws.proofs.SameLemmas.{sent_append, sent_none, sent_same}
-use Rattle.lost_row_laws.specs.Sieves.{Sieve, fits_in, if_calm, over_input}
+use Rattle.lost_row_laws.specs.Sieves.{Sieve, fits_in, over_input, under}
 use Rattle.lost_row_laws.specs.Stops.{AreSure, StopsLosing, WholeLosing}
-use Rattle.sql_exprs.specs.Calm.{is_calm}
 use Rattle.sql_values.specs.declared.types.SqlType.{SqlType}
 use Rattle.relation_laws.specs.Joins.{are_partners}
 use Rattle.bag_laws.specs.Buckets.{Sits}
@@ -31,9 +29,8 @@ use Rattle.bag_laws.proofs.BucketLemmas.{sits-cons, sits-nil}
 use Rattle.bag_laws.proofs.GatherLemmas.{gather-agree}
 use Rattle.plan_trees.specs.Allowed.{width_of}
 use Rattle.plan_trees.specs.TreeTypes.{types_of}
-use Rattle.column_origins.specs.Origins.{left_column, passed_column}
+use Rattle.column_origins.specs.Origins.{left_column}
 use Rattle.plan_run_laws.specs.RunPlans.{tree_of_run}
-use Rattle.plan_run_laws.proofs.WireLemmas.{into_last}
 
 -- some rows with others in their middle
 same-aside : (A B C : List (List Value)) → SameWeights ((A ++ B) ++ C) ((A ++ C) ++ B)
@@ -68,53 +65,6 @@ module _ (tables : List (List (List Value))) where
       let g = o.2 (whole.more k d) (whole.none k d lt less) in
       (g.rest, ((o.0, o.1, g.chain), g.none))) in
       record { rest = all.0; chains = λ k d lt less. (all.1 k d lt less).0; none = λ k d lt less. (all.1 k d lt less).1 }
-
-  rest_into : (stage : Stage) (n w : ℕ) (node : RunPlan) (builds : List TaskRows) (took gave : Lanes) (done : Flags) (r : Rest (stage ∷ []) n w node builds took gave done)
-      → WentInto stage skipping n w node builds took (longer gave r.rest)
-  rest_into stage n w node builds took gave done r =
-      into_last skipping tables n w node builds stage took (longer gave r.rest)
-      (λ k d lt less. let c = r.chains k d lt less in (c.0 ++ stage ∷ [], (c.0, refl, c.1), c.2))
-
-  -- where all that are done give no more, nothing more is there
-  rest_nothing : (n w : ℕ) (done : Flags) (rest : Lanes) → ((k d : ℕ) → k < n → d < w → MayCome (done k d) (rest k d)) → AllSet n w done → gather n (of_tasks w rest) ≡ []
-  rest_nothing n w done rest none all =
-      gather-none n (of_tasks w rest) (λ k lt. gather-none w (rest k) (λ d less. none k d lt less (all k d lt less)))
-
-  task_nothing : (w k : ℕ) (done : Flags) (rest : Lanes) → ((d : ℕ) → d < w → MayCome (done k d) (rest k d)) → ((d : ℕ) → d < w → done k d ≡ true) → of_tasks w rest k ≡ []
-  task_nothing w k done rest none all = gather-none w (rest k) (λ d less. none d less (all d less))
-
-  -- over an edge: what the givers still give reaches drivers that have not ended
-  passed_on : (output : Output) (m n : ℕ) (g : StoppedPipe) (w : ℕ) (took : Lanes) (ended : Flags) → PassedSoFar output m n g w took ended
-      → (rest : Lanes) → ((k d : ℕ) → k < m → d < g.drivers → MayCome (g.done k d) (rest k d))
-      → Fed n w took ended (λ k. sent output n k (gather m (of_tasks g.drivers g.gave))) (λ k. sent output n k (gather m (of_tasks g.drivers rest)))
-  passed_on output m n g w took ended passed rest none =
-      fed n w took ended (λ k. sent output n k (gather m (of_tasks g.drivers g.gave))) (λ k. sent output n k (gather m (of_tasks g.drivers rest)))
-      (λ k. AllSet m g.drivers g.done) passed
-      (λ k lt all. sent_none output n k (gather m (of_tasks g.drivers rest)) (rest_nothing m g.drivers g.done rest none all))
-
-  all_passed : (output : Output) (m n : ℕ) (g : StoppedPipe) (w : ℕ) (took : Lanes) (ended : Flags) (rest : Lanes)
-      (f : Fed n w took ended (λ k. sent output n k (gather m (of_tasks g.drivers g.gave))) (λ k. sent output n k (gather m (of_tasks g.drivers rest))))
-      → EdgePassed output m n (of_tasks g.drivers (longer g.gave rest)) (of_tasks w (longer took f.more))
-  all_passed output m n g w took ended rest f k lt =
-      same-trans (sent_same output n k (same-longer m g.drivers g.gave rest))
-      (same-trans (same-from_equal (sent_append output n k (gather m (of_tasks g.drivers g.gave)) (gather m (of_tasks g.drivers rest)))) (f.same k lt))
-
-  -- a build that a note knows is whole
-  noted_build : (w k : ℕ) (gave rest : Lanes) (done : Flags) (known : Option (List (List Value)))
-      → ((built : List (List Value)) → known ≡ Some built → ((e : ℕ) → e < w → done k e ≡ true) × SameWeights (of_tasks w gave k) built)
-      → ((e : ℕ) → e < w → MayCome (done k e) (rest k e)) → IsNoted known (of_tasks w (longer gave rest) k)
-  noted_build w k gave rest done None knows none = tt
-  noted_build w k gave rest done (Some built) knows none =
-      let h = knows built refl in
-      same-trans (same-gather_append w (gave k) (rest k))
-      (same-trans (same-from_equal (ap (λ rows. of_tasks w gave k ++ rows) (task_nothing w k done rest none h.0) ∙ append-nil (of_tasks w gave k))) h.1)
-
-  -- where there are no notes, no build is known
-  none_noted : (notes : Notes) → notes ≡ [] → (k d : ℕ) → AreNoted notes [] k d
-  none_noted notes e k d = subst (λ ns. AreNoted ns [] k d) (sym e) tt  -- a pipeline that others take from, gone on to its end
-
-  abbrev pipe_of : StoppedPipe → List TaskRows → Lanes → Lanes → Pipe
-  pipe_of g builds more rest = record { drivers = g.drivers; builds = builds; took = longer g.took more; gave = longer g.gave rest }
 
   -- an edge below a node with no joins, extended
   record Edge (sieves : List Sieve) (output : Output) (m n w : ℕ) (input : RunPlan) (g : StoppedPipe) (took : Lanes) (ended : Flags) (last : List Stage) : Type 0 where
@@ -169,12 +119,25 @@ module _ (tables : List (List (List Value))) where
         noted = λ k d lt less. none_noted notes no_notes k d;
         none = e.fed.none;
       }
-  extend sieves n w (plan.filter id predicate input) notes took ended stops =
-      let whole = extend (if_calm (is_calm (types_of (tree_of_run input)) predicate) sieves) n w input notes took ended stops in
-      record { more = whole.more; builds = whole.builds; below = whole.below; noted = whole.noted; none = whole.none }
-  extend sieves n w (plan.project id columns input) notes took ended stops =
-      let whole = extend (over_input (passed_column (types_of (tree_of_run input)) columns) sieves) n w input notes took ended stops in
-      record { more = whole.more; builds = whole.builds; below = whole.below; noted = whole.noted; none = whole.none }
+  extend sieves n w (plan.step id s input) notes took ended (some, stops) =
+      let whole = extend (under (types_of (tree_of_run input)) s sieves) n w input notes took ended stops in
+      record { more = whole.more; builds = whole.builds; below = (some, whole.below); noted = whole.noted; none = whole.none }
+  extend sieves n w (plan.halves id source output m h input) notes took ended (g, no_notes, one, stops, opened, passed) =
+      let half = first_half (types_of (tree_of_run input)) h in
+      let e = edge [] output m n w input g took ended (half ∷ []) (extend [] m g.drivers input g.notes g.took g.ended stops) opened passed in
+      record {
+        more = e.fed.more;
+        builds = [];
+        below = (
+          pipe_of g e.whole.builds e.whole.more e.given.rest,
+          one,
+          e.whole.below,
+          rest_into tables half m g.drivers input e.whole.builds (longer g.took e.whole.more) g.gave g.done e.given,
+          all_passed output m n g w took ended e.given.rest e.fed,
+        );
+        noted = λ k d lt less. none_noted notes no_notes k d;
+        none = e.fed.none;
+      }
   extend sieves n w (plan.join id kind on left right) [] took ended none = absurd none
   extend sieves n w (plan.join id kind on left right) (note ∷ notes) took ended (own, g, stops, opened, knows, sure, below) =
       let built = extend [] n g.drivers right g.notes g.took g.ended stops in
@@ -195,63 +158,6 @@ module _ (tables : List (List (List Value))) where
         );
         noted = λ k d lt less. (noted_build g.drivers k g.gave given.rest g.done (note k d) (knows k d lt less) (λ e under. given.none k e lt under), whole.noted k d lt less);
         none = whole.none;
-      }
-  extend sieves n w (plan.aggregate id keys calls input) notes took ended (one, stops) =
-      let whole = extend [] n w input notes took ended stops in
-      record { more = whole.more; builds = whole.builds; below = (one, whole.below); noted = whole.noted; none = whole.none }
-  extend sieves n w (plan.aggregate_parts id source output m keys calls input) notes took ended (g, no_notes, one, stops, opened, passed) =
-      let e = edge [] output m n w input g took ended (partial keys calls ∷ []) (extend [] m g.drivers input g.notes g.took g.ended stops) opened passed in
-      record {
-        more = e.fed.more;
-        builds = [];
-        below = (
-          pipe_of g e.whole.builds e.whole.more e.given.rest,
-          one,
-          e.whole.below,
-          rest_into (partial keys calls) m g.drivers input e.whole.builds (longer g.took e.whole.more) g.gave g.done e.given,
-          all_passed output m n g w took ended e.given.rest e.fed,
-        );
-        noted = λ k d lt less. none_noted notes no_notes k d;
-        none = e.fed.none;
-      }
-  extend sieves n w (plan.sort id keys input) notes took ended (one, stops) =
-      let whole = extend [] n w input notes took ended stops in
-      record { more = whole.more; builds = whole.builds; below = (one, whole.below); noted = whole.noted; none = whole.none }
-  extend sieves n w (plan.topn id count keys input) notes took ended (one, stops) =
-      let whole = extend [] n w input notes took ended stops in
-      record { more = whole.more; builds = whole.builds; below = (one, whole.below); noted = whole.noted; none = whole.none }
-  extend sieves n w (plan.topn_parts id source output m count keys input) notes took ended (g, no_notes, one, stops, opened, passed) =
-      let e = edge [] output m n w input g took ended (topn count keys ∷ []) (extend [] m g.drivers input g.notes g.took g.ended stops) opened passed in
-      record {
-        more = e.fed.more;
-        builds = [];
-        below = (
-          pipe_of g e.whole.builds e.whole.more e.given.rest,
-          one,
-          e.whole.below,
-          rest_into (topn count keys) m g.drivers input e.whole.builds (longer g.took e.whole.more) g.gave g.done e.given,
-          all_passed output m n g w took ended e.given.rest e.fed,
-        );
-        noted = λ k d lt less. none_noted notes no_notes k d;
-        none = e.fed.none;
-      }
-  extend sieves n w (plan.limit id count input) notes took ended (one, stops) =
-      let whole = extend [] n w input notes took ended stops in
-      record { more = whole.more; builds = whole.builds; below = (one, whole.below); noted = whole.noted; none = whole.none }
-  extend sieves n w (plan.limit_parts id source output m count input) notes took ended (g, no_notes, one, stops, opened, passed) =
-      let e = edge [] output m n w input g took ended (limit count ∷ []) (extend [] m g.drivers input g.notes g.took g.ended stops) opened passed in
-      record {
-        more = e.fed.more;
-        builds = [];
-        below = (
-          pipe_of g e.whole.builds e.whole.more e.given.rest,
-          one,
-          e.whole.below,
-          rest_into (limit count) m g.drivers input e.whole.builds (longer g.took e.whole.more) g.gave g.done e.given,
-          all_passed output m n g w took ended e.given.rest e.fed,
-        );
-        noted = λ k d lt less. none_noted notes no_notes k d;
-        none = e.fed.none;
       }
   extend sieves n w (plan.union id left right) notes took ended (g, h, no_notes, stops, opened, also, opened_too, passed) =
       let first = extend [] n g.drivers left g.notes g.took g.ended stops in

@@ -1,6 +1,6 @@
 -- The lost rows are put back, from a scan up to the join at which they give nothing.
 use Rattle.std.proofs.Common.{◌≡◌, ℕ, ◌<◌, List, [], ◌∷◌, ◌++◌, Bool, true, false, refl, ap, sym, ◌∙◌, arith, subst, inl, inr, ◌⊎◌, length, map}
-use Rattle.std.specs.Prelude.{◌&&◌, ◌||◌, filter, if◌then◌else◌, Ok, Err, Result}
+use Rattle.std.specs.Prelude.{◌&&◌, ◌||◌, if◌then◌else◌, Ok, Err, Result, Some, None, filter}
 use Rattle.std.proofs.lemmas.List.{append-nil}
 use Rattle.sql_values.specs.declared.types.SqlType.{SqlType}
 use Rattle.sql_values.specs.declared.value.Value.{Value}
@@ -26,7 +26,9 @@ use Rattle.bag_laws.proofs.GatherLemmas.{gather-filter, length-gather-le}
 use Rattle.bag_laws.proofs.JoinLemmas.{join-append_left}
 use Rattle.bag_laws.proofs.VerdictLemmas.{sits-kept_rows}
 use Rattle.page_processor.specs.Typed.{AllTyped, IsTyped}
-use Rattle.plan_trees.specs.Allowed.{Judged, Mode, width_of}
+use Rattle.plan_trees.specs.Allowed.{Judged, Mode, StepGives, width_of}
+use Rattle.plan_trees.specs.Steps.{StepForm}
+use Rattle.plan_trees.specs.Steps as steps
 use Rattle.plan_trees.specs.Judges.{filter_judge, filtered, project_judge}
 use Rattle.plan_trees.specs.TreeTypes.{types_of}
 use Rattle.column_origins.specs.Origins.{left_column, passed_column}
@@ -34,11 +36,11 @@ use Rattle.plan_run_laws.specs.RunPlans.{Output, RunPlan, tree_of_run}
 use Rattle.plan_run_laws.specs.RunPlans as plan
 use Rattle.plan_run_laws.specs.Runs.{EdgePassed, Ran, sent}
 use Rattle.plan_run_laws.proofs.ReadLemmas.{sits-gather}
-use Rattle.lost_row_laws.specs.Runs.{AreAlone, AreTyped, RanLosing}
-use Rattle.lost_row_laws.specs.Sieves.{Sieve, fits_in, if_calm, is_held, is_lost, over_input}
+use Rattle.lost_row_laws.specs.Runs.{AreAlone, AreTyped, IsTypedStep, RanLosing}
+use Rattle.lost_row_laws.specs.Sieves.{Sieve, fits_in, is_held, is_lost, over_input, under}
 use Rattle.lost_row_laws.proofs.CalmLemmas.{fit_project, quiet_filter, quiet_project}
 use Rattle.lost_row_laws.proofs.SameLemmas.{judged_more, passed_more, ran_same, sent_sits, sits_none}
-use Rattle.lost_row_laws.proofs.SieveLemmas.{and_first, and_second, both, calm_if_held, column_kept, fit_beside, held_above, held_by_either, held_if_calm, held_somewhere, left_cell, left_place, over_both, passed}
+use Rattle.lost_row_laws.proofs.SieveLemmas.{and_first, and_second, both, calm_if_held, column_kept, fit_beside, held_above, held_by_either, held_if_calm, if_calm, held_somewhere, left_cell, left_place, over_both, passed}
 
 -- with some rows that may be lost, each task has what a run of all rows gave
 pub record Restored (mode : Mode) (tables : List (List (List Value))) (sieves : List Sieve) (n : ℕ) (p : RunPlan) (out : TaskRows) : Type 0 where
@@ -52,6 +54,16 @@ none_is_lost mode types row = with_false (fits_in mode types row)
     with_false : (b : Bool) → b && false ≡ false
     with_false true = refl
     with_false false = refl
+
+-- what hands down no column hands down no sieve
+over_nothing : (sieves : List Sieve) → over_input (λ place. None) sieves ≡ []
+over_nothing [] = refl
+over_nothing (s ∷ sieves) = over_nothing sieves
+
+over_calm : (calm : Bool) (sieves : List Sieve) → over_input (λ place. if calm then Some place else None) sieves ≡ if_calm calm sieves
+over_calm true [] = refl
+over_calm true (s ∷ sieves) = ap (λ (all : List Sieve). s ∷ all) (over_calm true sieves)
+over_calm false sieves = over_nothing sieves
 
 module _ (mode : Mode) (tables : List (List (List Value))) where
   -- where no sieve holds anything back, nothing was lost
@@ -166,6 +178,17 @@ module _ (mode : Mode) (tables : List (List (List Value))) where
               (fit_project types row mode columns typed (fit row h) (calm row h))) (r.lost k) (r.held k lt);
         }
 
+    at_step : (id : ℕ) (s : StepForm) (input : RunPlan) (ins out : TaskRows) → IsTypedStep (types_of (tree_of_run input)) s
+        → ((k : ℕ) → k < n → StepGives mode (types_of (tree_of_run input)) s (ins k) (out k))
+        → Restored mode tables (under (types_of (tree_of_run input)) s sieves) n input ins → Restored mode tables sieves n (plan.step id s input) out
+    at_step id (steps.filter predicate) input ins out typed judged r =
+        at_filter id predicate input ins out typed judged
+        (subst (λ (all : List Sieve). Restored mode tables all n input ins) (over_calm (is_calm (types_of (tree_of_run input)) predicate) sieves) r)
+    at_step id (steps.project columns) input ins out typed judged r = at_project id columns input ins out typed judged r
+    at_step id s input ins out typed gives r =
+        unlost sieves n (plan.step id s input) out
+        (ins, plain n input ins (subst (λ (all : List Sieve). Restored mode tables all n input ins) (over_nothing sieves) r), gives)
+
     -- a join gives nothing for what its own sieves hold back, and passes on what those from above do
     module _ (kind : JoinKind) (on : List (ℕ × ℕ)) (lefts rights : List SqlType) (own : List Sieve) (rs : TaskRows)
         (alone : AreAlone on (gather n rs) own) (fit : (k : ℕ) → k < n → Sits (fits_in mode rights) (rs k)) where
@@ -257,33 +280,15 @@ module _ (mode : Mode) (tables : List (List (List Value))) where
   restored n (plan.values id types rows) sieves typed out ran = unlost sieves n (plan.values id types rows) out ran
   restored n (plan.remote id output m input) sieves typed out (ins, ran, sent_on) =
       at_remote sieves n id output m input ins out sent_on (restored m input sieves typed ins ran)
-  restored n (plan.filter id predicate input) sieves (own, typed) out (ins, ran, judged) =
-      at_filter sieves n id predicate input ins out own judged
-      (restored n input (if_calm (is_calm (types_of (tree_of_run input)) predicate) sieves) typed ins ran)
-  restored n (plan.project id columns input) sieves (own, typed) out (ins, ran, judged) =
-      at_project sieves n id columns input ins out own judged
-      (restored n input (over_input (passed_column (types_of (tree_of_run input)) columns) sieves) typed ins ran)
+  restored n (plan.step id s input) sieves (own, typed) out (ins, ran, gives) =
+      at_step sieves n id s input ins out own gives (restored n input (under (types_of (tree_of_run input)) s sieves) typed ins ran)
+  restored n (plan.halves id source output m h input) sieves typed out (ins, parts, got, ran, pieces, sent_on, makes) =
+      unlost sieves n (plan.halves id source output m h input) out
+      (ins, parts, got, plain m input ins (restored m input [] typed ins ran), pieces, sent_on, makes)
   restored n (plan.join id kind on left right) sieves (typed, also) out (own, ls, rs, ran, others, alone, fit, joined) =
       let whole = plain n right rs (restored n right [] also rs others) in
       at_join sieves n id kind on left right own ls rs out fit whole alone joined
       (restored n left (over_input (left_column kind (width_of (tree_of_run left))) (own ++ sieves)) typed ls ran)
-  restored n (plan.aggregate id keys calls input) sieves typed out (ins, ran, taken) =
-      unlost sieves n (plan.aggregate id keys calls input) out (ins, plain n input ins (restored n input [] typed ins ran), taken)
-  restored n (plan.aggregate_parts id source output m keys calls input) sieves typed out (ins, parts, got, ran, pieces, sent_on, taken) =
-      unlost sieves n (plan.aggregate_parts id source output m keys calls input) out
-      (ins, parts, got, plain m input ins (restored m input [] typed ins ran), pieces, sent_on, taken)
-  restored n (plan.sort id keys input) sieves typed out (ins, ran, sorted) =
-      unlost sieves n (plan.sort id keys input) out (ins, plain n input ins (restored n input [] typed ins ran), sorted)
-  restored n (plan.topn id count keys input) sieves typed out (ins, ran, top) =
-      unlost sieves n (plan.topn id count keys input) out (ins, plain n input ins (restored n input [] typed ins ran), top)
-  restored n (plan.topn_parts id source output m count keys input) sieves typed out (ins, parts, got, ran, pieces, sent_on, top) =
-      unlost sieves n (plan.topn_parts id source output m count keys input) out
-      (ins, parts, got, plain m input ins (restored m input [] typed ins ran), pieces, sent_on, top)
-  restored n (plan.limit id count input) sieves typed out (ins, ran, first) =
-      unlost sieves n (plan.limit id count input) out (ins, plain n input ins (restored n input [] typed ins ran), first)
-  restored n (plan.limit_parts id source output m count input) sieves typed out (ins, parts, got, ran, pieces, sent_on, first) =
-      unlost sieves n (plan.limit_parts id source output m count input) out
-      (ins, parts, got, plain m input ins (restored m input [] typed ins ran), pieces, sent_on, first)
   restored n (plan.union id left right) sieves (typed, also) out (ls, rs, ran, others, put) =
       unlost sieves n (plan.union id left right) out
       (ls, rs, plain n left ls (restored n left [] typed ls ran), plain n right rs (restored n right [] also rs others), put)

@@ -1,30 +1,26 @@
 -- Rows of tasks that are the same below their number; rows that were judged, and sent, with others behind them.
 use Rattle.std.proofs.Common.{◌≡◌, ℕ, ◌<◌, List, [], ◌∷◌, ◌++◌, Bool, true, false, refl, ap, sym, ◌∙◌, arith, subst, map}
-use Rattle.std.specs.Prelude.{filter, take, length, ◌==◌}
+use Rattle.std.specs.Prelude.{◌==◌}
 use Rattle.std.proofs.lemmas.List.{map-append}
 use Rattle.std.proofs.lemmas.List.Concat.{flat_map-append}
-use Rattle.std.proofs.lemmas.List.Elements.{filter-append}
 use Rattle.sql_values.specs.declared.value.Value.{Value}
 use Rattle.bag_laws.specs.Buckets.{Sits, key_bucket}
-use Rattle.bag_laws.specs.Firsts.{IsTopOf}
 use Rattle.bag_laws.specs.Gather.{gather}
 use Rattle.bag_laws.specs.Laws.{TaskRows}
-use Rattle.bag_laws.specs.Pieces.{finals_of}
 use Rattle.bag_laws.specs.Weights.{SameWeights}
-use Rattle.bag_laws.proofs.BagLemmas.{same-append, same-filter, same-from_equal, same-refl, same-trans}
+use Rattle.bag_laws.proofs.BagLemmas.{same-append, same-from_equal, same-refl, same-trans}
 use Rattle.bag_laws.proofs.BucketLemmas.{sits-filter, sits-head, sits-tail}
 use Rattle.bag_laws.proofs.GatherLemmas.{gather-agree, same-gather_append}
 use Rattle.bag_laws.proofs.VerdictLemmas.{failures-append}
-use Rattle.relation_laws.specs.Groups.{groups_of}
 use Rattle.relation_laws.specs.Joins.{join_of}
-use Rattle.relation_laws.specs.Sorts.{IsSortOf}
 use Rattle.relation_laws.specs.Verdicts.{Verdict, drops, fails, failures, is_failure, keeps, kept, kept_rows}
-use Rattle.plan_trees.specs.Allowed.{Judged, Mode, Taken, scanned, skipping, strict, width_of}
-use Rattle.plan_trees.specs.Judges.{filter_judge, project_judge}
+use Rattle.plan_trees.specs.Allowed.{Judged, Mode, StepGives, scanned, skipping, strict, width_of}
 use Rattle.plan_trees.specs.TreeTypes.{types_of}
 use Rattle.plan_run_laws.specs.RunPlans.{Output, RunPlan, tree_of_run, single, hashed, broadcast}
 use Rattle.plan_run_laws.specs.RunPlans as plan
 use Rattle.plan_run_laws.specs.Runs.{EdgePassed, Ran, sent}
+use Rattle.plan_run_laws.specs.Stages.{Makes, second_half}
+use Rattle.plan_run_laws.proofs.ExtendLemmas.{same-sent, sent-append}
 
 -- no row passes a test that none can
 pub sits_none : {X : Type 0} (test : X → Bool) → ((x : X) → test x ≡ false) → (xs : List X) → Sits test xs → xs ≡ []
@@ -46,10 +42,10 @@ module _ (mode : Mode) (tables : List (List (List Value))) where
   ran_same n (plan.values id types rows) out other same ran = each_same n (λ k given. SameWeights given rows) out other same ran
   ran_same n (plan.remote id output m input) out other same (ins, ran, passed) =
       (ins, ran, each_same n (λ k given. SameWeights (sent output n k (gather m ins)) given) out other same passed)
-  ran_same n (plan.filter id predicate input) out other same (ins, ran, judged) =
-      (ins, ran, each_same n (λ k given. Judged mode (filter_judge (types_of (tree_of_run input)) predicate) (ins k) given) out other same judged)
-  ran_same n (plan.project id columns input) out other same (ins, ran, judged) =
-      (ins, ran, each_same n (λ k given. Judged mode (project_judge (types_of (tree_of_run input)) columns) (ins k) given) out other same judged)
+  ran_same n (plan.step id s input) out other same (ins, ran, gives) =
+      (ins, ran, each_same n (λ k given. StepGives mode (types_of (tree_of_run input)) s (ins k) given) out other same gives)
+  ran_same n (plan.halves id source output m h input) out other same (ins, parts, got, ran, pieces, passed, makes) =
+      (ins, parts, got, ran, pieces, passed, each_same n (λ k given. Makes mode (second_half (types_of (tree_of_run input)) h) (got k) given) out other same makes)
   ran_same n (plan.join id kind on left right) out other same (ls, rs, ran, also, joined) = (
     ls,
     rs,
@@ -58,28 +54,6 @@ module _ (mode : Mode) (tables : List (List (List Value))) where
     each_same n
         (λ k given. SameWeights (join_of kind on (width_of (tree_of_run left)) (width_of (tree_of_run right)) (ls k) (rs k)) given) out other same joined,
   )
-  ran_same n (plan.aggregate id keys calls input) out other same (ins, ran, taken) =
-      (ins, ran, each_same n (λ k given. Taken mode (groups_of (types_of (tree_of_run input)) keys calls (ins k)) given) out other same taken)
-  ran_same n (plan.aggregate_parts id source output m keys calls input) out other same (ins, parts, got, ran, pieces, passed, taken) = (
-    ins,
-    parts,
-    got,
-    ran,
-    pieces,
-    passed,
-    each_same n
-        (λ k given. Taken mode (finals_of (types_of (tree_of_run input)) (length keys) calls (got k)) given) out other same taken,
-  )
-  ran_same n (plan.sort id keys input) out other same (ins, ran, sorted) =
-      (ins, ran, each_same n (λ k given. IsSortOf keys (ins k) given) out other same sorted)
-  ran_same n (plan.topn id count keys input) out other same (ins, ran, top) =
-      (ins, ran, each_same n (λ k given. IsTopOf keys count (ins k) given) out other same top)
-  ran_same n (plan.topn_parts id source output m count keys input) out other same (ins, parts, got, ran, pieces, passed, top) =
-      (ins, parts, got, ran, pieces, passed, each_same n (λ k given. IsTopOf keys count (got k) given) out other same top)
-  ran_same n (plan.limit id count input) out other same (ins, ran, first) =
-      (ins, ran, each_same n (λ k given. given ≡ take count (ins k)) out other same first)
-  ran_same n (plan.limit_parts id source output m count input) out other same (ins, parts, got, ran, pieces, passed, first) =
-      (ins, parts, got, ran, pieces, passed, each_same n (λ k given. given ≡ take count (got k)) out other same first)
   ran_same n (plan.union id left right) out other same (ls, rs, ran, also, put) =
       (ls, rs, ran, also, each_same n (λ k given. SameWeights (ls k ++ rs k) given) out other same put)
 
@@ -117,26 +91,11 @@ module _ (judge : List Value → Verdict) (test : List Value → Bool) where
   }
 
 -- rows that are sent with others behind them
-pub sent_append : (output : Output) (n k : ℕ) (A B : List (List Value)) → sent output n k (A ++ B) ≡ sent output n k A ++ sent output n k B
-sent_append single n k A B = refl
-sent_append (hashed columns) n k A B = filter-append (λ row. key_bucket n columns row == k) A B
-sent_append broadcast n k A B = refl
-
-pub sent_same : (output : Output) (n k : ℕ) {A B : List (List Value)} → SameWeights A B → SameWeights (sent output n k A) (sent output n k B)
-sent_same single n k s = s
-sent_same (hashed columns) n k s = same-filter (λ row. key_bucket n columns row == k) s
-sent_same broadcast n k s = s
-
-pub sent_none : (output : Output) (n k : ℕ) (A : List (List Value)) → A ≡ [] → sent output n k A ≡ []
-sent_none single n k A e = e
-sent_none (hashed columns) n k A e = ap (filter (λ row. key_bucket n columns row == k)) e
-sent_none broadcast n k A e = e
-
 pub passed_more : (output : Output) (m n : ℕ) (ins lost out : TaskRows) → EdgePassed output m n ins out
     → EdgePassed output m n (λ j. ins j ++ lost j) (λ k. out k ++ sent output n k (gather m lost))
 passed_more output m n ins lost out passed k lt =
-    same-trans (sent_same output n k (same-gather_append m ins lost))
-    (same-trans (same-from_equal (sent_append output n k (gather m ins) (gather m lost)))
+    same-trans (same-sent output n k (same-gather_append m ins lost))
+    (same-trans (same-from_equal (sent-append output n k (gather m ins) (gather m lost)))
     (same-append (passed k lt) (same-refl (sent output n k (gather m lost)))))
 
 pub sent_sits : (test : List Value → Bool) (output : Output) (n k : ℕ) (rows : List (List Value)) → Sits test rows → Sits test (sent output n k rows)

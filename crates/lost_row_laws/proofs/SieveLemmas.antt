@@ -18,7 +18,7 @@ use Rattle.sql_exprs.specs.Meaning.{value_of}
 use Rattle.relation_laws.specs.Aggregates.{all_values, with_first}
 use Rattle.plan_trees.specs.Allowed.{Mode, skipping, strict}
 use Rattle.column_origins.specs.Origins.{left_column, named_column, passed_column}
-use Rattle.lost_row_laws.specs.Sieves.{Sieve, fits_in, holds_back, if_calm, is_held, over_input, sieve_at}
+use Rattle.lost_row_laws.specs.Sieves.{Sieve, fits_in, holds_back, is_held, over_input, sieve_at}
 
 pub and_first : (a b : Bool) → a && b ≡ true → a ≡ true
 and_first true b h = refl
@@ -91,6 +91,10 @@ module _ (comes : ℕ → Option ℕ) (row above : List Value)
   held_above (s ∷ sieves) h = held_one s (over_input comes sieves) sieves (held_above sieves) (comes s.column) refl h
 
 -- no sieve holds a row back where nothing may go down
+-- the sieves below what may fail, if it is calm
+abbrev pub if_calm : Bool → List Sieve → List Sieve
+if_calm calm sieves = if calm then sieves else []
+
 pub calm_if_held : (calm : Bool) (sieves : List Sieve) (row : List Value) → is_held (if_calm calm sieves) row ≡ true → calm ≡ true
 calm_if_held true sieves row h = refl
 calm_if_held false sieves row h = absurd cc

@@ -1,19 +1,16 @@
--- A driver that failed at a node, in a run that it stopped and whose scans lost rows. Below a filter or a project rows may
--- have been lost by any sieves.
-use Rattle.std.specs.Prelude.{◌≡◌, ◌⊎◌, ℕ, ◌<◌, List, [], ◌∷◌, ◌++◌, length}
+-- A driver that failed at a node, in a run that it stopped and whose scans lost rows.
+use Rattle.std.specs.Prelude.{◌≡◌, ◌⊎◌, ℕ, ◌<◌, List, [], ◌∷◌, ◌++◌}
 use Rattle.sql_values.specs.declared.value.Value.{Value}
 use Rattle.sql_values.specs.declared.fail.Fail.{Fail}
-use Rattle.relation_laws.specs.Groups.{groups_of}
-use Rattle.bag_laws.specs.Pieces.{finals_of}
-use Rattle.plan_trees.specs.Judges.{filter_judge, project_judge}
+use Rattle.plan_trees.specs.Steps.{StepFails}
 use Rattle.plan_trees.specs.TreeTypes.{types_of}
-use Rattle.plan_run_laws.specs.Faults.{FailsOnGroupOf, FailsOnOneOf}
-use Rattle.plan_run_laws.specs.Nets.{IsAlone, Lanes}
+use Rattle.plan_run_laws.specs.Nets.{Lanes}
 use Rattle.plan_run_laws.specs.RunPlans.{RunPlan, tree_of_run}
 use Rattle.plan_run_laws.specs.RunPlans as plan
+use Rattle.plan_run_laws.specs.Stages.{MayHave, StageFails, second_half}
 use Rattle.plan_run_laws.specs.Spreads.{Tables}
 use Rattle.plan_run_laws.specs.Stops.{AreOpen, Flags, MayCome, Notes, StoppedPipe}
-use Rattle.lost_row_laws.specs.Sieves.{Sieve}
+use Rattle.lost_row_laws.specs.Sieves.{MayLose, Sieve}
 use Rattle.lost_row_laws.specs.Stops.{StopsLosing}
 
 -- a driver's stage over the input failed: what it took fails, with whatever it would still take
@@ -49,43 +46,19 @@ FailedLosing tables n w (plan.scan id table columns types) notes took ended node
 FailedLosing tables n w (plan.values id types rows) notes took ended node kind = ⊥
 FailedLosing tables n w (plan.remote id output m input) notes took ended node kind =
     (p : StoppedPipe) × FailedLosing tables m p.drivers input p.notes p.took p.ended node kind
-FailedLosing tables n w (plan.filter id predicate input) notes took ended node kind =
-    ((id ≡ node) × (sieves : List Sieve)
-    × FailedOverLosing (FailsOnOneOf (filter_judge (types_of (tree_of_run input)) predicate) kind)
-    tables sieves n w input notes took ended)
+FailedLosing tables n w (plan.step id s input) notes took ended node kind =
+    ((id ≡ node) × MayHave s w × (sieves : List Sieve) × MayLose s sieves
+    × FailedOverLosing (λ rows. StepFails (types_of (tree_of_run input)) s rows kind) tables sieves n w input notes took ended)
     ⊎ FailedLosing tables n w input notes took ended node kind
-FailedLosing tables n w (plan.project id columns input) notes took ended node kind =
-    ((id ≡ node) × (sieves : List Sieve)
-    × FailedOverLosing (FailsOnOneOf (project_judge (types_of (tree_of_run input)) columns) kind)
-    tables sieves n w input notes took ended)
-    ⊎ FailedLosing tables n w input notes took ended node kind
+FailedLosing tables n w (plan.halves id source output m h input) notes took ended node kind =
+    ((id ≡ node)
+    × FailedFinalLosing (λ rows. StageFails (second_half (types_of (tree_of_run input)) h) rows kind)
+    tables n w (plan.halves id source output m h input) notes took ended)
+    ⊎ (p : StoppedPipe) × FailedLosing tables m p.drivers input p.notes p.took p.ended node kind
 FailedLosing tables n w (plan.join id how on left right) [] took ended node kind = ⊥
 FailedLosing tables n w (plan.join id how on left right) (note ∷ notes) took ended node kind =
     FailedLosing tables n w left notes took ended node kind
     ⊎ (p : StoppedPipe) × FailedLosing tables n p.drivers right p.notes p.took p.ended node kind
-FailedLosing tables n w (plan.aggregate id keys calls input) notes took ended node kind =
-    ((id ≡ node) × IsAlone w
-    × FailedOverLosing (FailsOnGroupOf (groups_of (types_of (tree_of_run input)) keys calls) kind)
-    tables [] n w input notes took ended)
-    ⊎ FailedLosing tables n w input notes took ended node kind
-FailedLosing tables n w (plan.aggregate_parts id source output m keys calls input) notes took ended
-    node kind =
-    ((id ≡ node)
-    × FailedFinalLosing
-    (FailsOnGroupOf (finals_of (types_of (tree_of_run input)) (length keys) calls) kind)
-    tables n w (plan.aggregate_parts id source output m keys calls input) notes took ended)
-    ⊎ (p : StoppedPipe) × FailedLosing tables m p.drivers input p.notes p.took p.ended node kind
-FailedLosing tables n w (plan.sort id keys input) notes took ended node kind =
-    FailedLosing tables n w input notes took ended node kind
-FailedLosing tables n w (plan.topn id count keys input) notes took ended node kind =
-    FailedLosing tables n w input notes took ended node kind
-FailedLosing tables n w (plan.topn_parts id source output m count keys input) notes took ended
-    node kind =
-    (p : StoppedPipe) × FailedLosing tables m p.drivers input p.notes p.took p.ended node kind
-FailedLosing tables n w (plan.limit id count input) notes took ended node kind =
-    FailedLosing tables n w input notes took ended node kind
-FailedLosing tables n w (plan.limit_parts id source output m count input) notes took ended node kind =
-    (p : StoppedPipe) × FailedLosing tables m p.drivers input p.notes p.took p.ended node kind
 FailedLosing tables n w (plan.union id left right) notes took ended node kind =
     (p : StoppedPipe)
     × (FailedLosing tables n p.drivers left p.notes p.took p.ended node kind

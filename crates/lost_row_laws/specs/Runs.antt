@@ -1,26 +1,24 @@
 -- Runs whose scans lost rows that have no partner in a join above.
-use Rattle.std.specs.Prelude.{◌≡◌, ℕ, ◌<◌, List, [], ◌++◌, length, take, filter, true}
+use Rattle.std.specs.Prelude.{◌≡◌, ℕ, ◌<◌, List, [], ◌++◌, true, filter}
 use Rattle.sql_values.specs.declared.value.Value.{Value}
-use Rattle.sql_exprs.specs.Calm.{is_calm}
+use Rattle.sql_values.specs.declared.types.SqlType.{SqlType}
 use Rattle.bag_laws.specs.Buckets.{Sits}
-use Rattle.bag_laws.specs.Firsts.{IsFirstOf, IsTopOf}
 use Rattle.bag_laws.specs.Gather.{gather}
 use Rattle.bag_laws.specs.Laws.{TaskRows}
-use Rattle.bag_laws.specs.Pieces.{finals_of}
 use Rattle.bag_laws.specs.Weights.{SameWeights}
-use Rattle.relation_laws.specs.Groups.{groups_of}
 use Rattle.relation_laws.specs.Joins.{are_partners, join_of}
-use Rattle.relation_laws.specs.Sorts.{IsSortOf}
 use Rattle.page_processor.specs.Typed.{AllTyped, IsTyped}
-use Rattle.plan_trees.specs.Allowed.{Judged, Mode, Taken, scanned, width_of}
-use Rattle.plan_trees.specs.Judges.{filter_judge, project_judge}
+use Rattle.plan_trees.specs.Allowed.{Mode, StepGives, scanned, width_of}
+use Rattle.plan_trees.specs.Steps.{StepForm}
+use Rattle.plan_trees.specs.Steps as steps
 use Rattle.plan_trees.specs.TreeTypes.{types_of}
-use Rattle.column_origins.specs.Origins.{left_column, passed_column}
+use Rattle.column_origins.specs.Origins.{left_column}
 use Rattle.plan_run_laws.specs.Spreads.{Tables}
 use Rattle.plan_run_laws.specs.RunPlans.{RunPlan, tree_of_run}
 use Rattle.plan_run_laws.specs.RunPlans as plan
-use Rattle.plan_run_laws.specs.Runs.{AllInPieces, ArePartialsOf, EdgePassed}
-use Rattle.lost_row_laws.specs.Sieves.{Sieve, fits_in, if_calm, is_held, is_lost, over_input}
+use Rattle.plan_run_laws.specs.Runs.{AllInPieces, EdgePassed}
+use Rattle.plan_run_laws.specs.Stages.{Makes, first_half, second_half}
+use Rattle.lost_row_laws.specs.Sieves.{Sieve, fits_in, is_held, is_lost, over_input, under}
 
 -- what the sieves hold back has no partner among the rows of a right side
 abbrev pub AreAlone : List (ℕ × ℕ) → List (List Value) → List Sieve → Type 0
@@ -36,14 +34,13 @@ RanLosing mode tables sieves n (plan.scan id table columns types) out =
 RanLosing mode tables sieves n (plan.values id types rows) out = (k : ℕ) → k < n → SameWeights (out k) rows
 RanLosing mode tables sieves n (plan.remote id output m input) out =
     (ins : TaskRows) × RanLosing mode tables sieves m input ins × EdgePassed output m n ins out
-RanLosing mode tables sieves n (plan.filter id predicate input) out =
-    (ins : TaskRows)
-    × RanLosing mode tables (if_calm (is_calm (types_of (tree_of_run input)) predicate) sieves) n input ins
-    × ((k : ℕ) → k < n → Judged mode (filter_judge (types_of (tree_of_run input)) predicate) (ins k) (out k))
-RanLosing mode tables sieves n (plan.project id columns input) out =
-    (ins : TaskRows)
-    × RanLosing mode tables (over_input (passed_column (types_of (tree_of_run input)) columns) sieves) n input ins
-    × ((k : ℕ) → k < n → Judged mode (project_judge (types_of (tree_of_run input)) columns) (ins k) (out k))
+RanLosing mode tables sieves n (plan.step id s input) out =
+    (ins : TaskRows) × RanLosing mode tables (under (types_of (tree_of_run input)) s sieves) n input ins
+    × ((k : ℕ) → k < n → StepGives mode (types_of (tree_of_run input)) s (ins k) (out k))
+RanLosing mode tables sieves n (plan.halves id source output m h input) out =
+    (ins : TaskRows) × (parts : TaskRows) × (got : TaskRows) × RanLosing mode tables [] m input ins
+    × AllInPieces (Makes mode (first_half (types_of (tree_of_run input)) h)) m ins parts × EdgePassed output m n parts got
+    × ((k : ℕ) → k < n → Makes mode (second_half (types_of (tree_of_run input)) h) (got k) (out k))
 RanLosing mode tables sieves n (plan.join id kind on left right) out =
     (own : List Sieve) × (ls : TaskRows) × (rs : TaskRows)
     × RanLosing mode tables (over_input (left_column kind (width_of (tree_of_run left))) (own ++ sieves)) n left ls
@@ -54,50 +51,22 @@ RanLosing mode tables sieves n (plan.join id kind on left right) out =
     → SameWeights
     (join_of kind on (width_of (tree_of_run left)) (width_of (tree_of_run right)) (ls k) (rs k))
     (out k))
-RanLosing mode tables sieves n (plan.aggregate id keys calls input) out =
-    (ins : TaskRows) × RanLosing mode tables [] n input ins
-    × ((k : ℕ) → k < n
-    → Taken mode (groups_of (types_of (tree_of_run input)) keys calls (ins k)) (out k))
-RanLosing mode tables sieves n (plan.aggregate_parts id source output m keys calls input) out =
-    (ins : TaskRows) × (parts : TaskRows) × (got : TaskRows) × RanLosing mode tables [] m input ins
-    × AllInPieces (ArePartialsOf keys calls) m ins parts × EdgePassed output m n parts got
-    × ((k : ℕ) → k < n
-    → Taken mode (finals_of (types_of (tree_of_run input)) (length keys) calls (got k)) (out k))
-RanLosing mode tables sieves n (plan.sort id keys input) out =
-    (ins : TaskRows) × RanLosing mode tables [] n input ins
-    × ((k : ℕ) → k < n → IsSortOf keys (ins k) (out k))
-RanLosing mode tables sieves n (plan.topn id count keys input) out =
-    (ins : TaskRows) × RanLosing mode tables [] n input ins
-    × ((k : ℕ) → k < n → IsTopOf keys count (ins k) (out k))
-RanLosing mode tables sieves n (plan.topn_parts id source output m count keys input) out =
-    (ins : TaskRows) × (parts : TaskRows) × (got : TaskRows) × RanLosing mode tables [] m input ins
-    × AllInPieces (IsTopOf keys count) m ins parts × EdgePassed output m n parts got
-    × ((k : ℕ) → k < n → IsTopOf keys count (got k) (out k))
-RanLosing mode tables sieves n (plan.limit id count input) out =
-    (ins : TaskRows) × RanLosing mode tables [] n input ins
-    × ((k : ℕ) → k < n → out k ≡ take count (ins k))
-RanLosing mode tables sieves n (plan.limit_parts id source output m count input) out =
-    (ins : TaskRows) × (parts : TaskRows) × (got : TaskRows) × RanLosing mode tables [] m input ins
-    × AllInPieces (IsFirstOf count) m ins parts × EdgePassed output m n parts got
-    × ((k : ℕ) → k < n → out k ≡ take count (got k))
 RanLosing mode tables sieves n (plan.union id left right) out =
     (ls : TaskRows) × (rs : TaskRows) × RanLosing mode tables [] n left ls
     × RanLosing mode tables [] n right rs
     × ((k : ℕ) → k < n → SameWeights (ls k ++ rs k) (out k))
 
--- the expressions of filters and projects have types
+-- the expressions of a step have types
+abbrev pub IsTypedStep : List SqlType → StepForm → Type 0
+IsTypedStep types (steps.filter predicate) = IsTyped types predicate
+IsTypedStep types (steps.project columns) = AllTyped types columns
+IsTypedStep types s = Unit {0}
+
 abbrev pub AreTyped : RunPlan → Type 0
 AreTyped (plan.scan id table columns types) = Unit {0}
 AreTyped (plan.values id types rows) = Unit {0}
 AreTyped (plan.remote id output m input) = AreTyped input
-AreTyped (plan.filter id predicate input) = IsTyped (types_of (tree_of_run input)) predicate × AreTyped input
-AreTyped (plan.project id columns input) = AllTyped (types_of (tree_of_run input)) columns × AreTyped input
+AreTyped (plan.step id s input) = IsTypedStep (types_of (tree_of_run input)) s × AreTyped input
+AreTyped (plan.halves id source output m h input) = AreTyped input
 AreTyped (plan.join id kind on left right) = AreTyped left × AreTyped right
-AreTyped (plan.aggregate id keys calls input) = AreTyped input
-AreTyped (plan.aggregate_parts id source output m keys calls input) = AreTyped input
-AreTyped (plan.sort id keys input) = AreTyped input
-AreTyped (plan.topn id count keys input) = AreTyped input
-AreTyped (plan.topn_parts id source output m count keys input) = AreTyped input
-AreTyped (plan.limit id count input) = AreTyped input
-AreTyped (plan.limit_parts id source output m count input) = AreTyped input
 AreTyped (plan.union id left right) = AreTyped left × AreTyped right

@@ -1,10 +1,12 @@
 -- Which rows a scan may leave out: those of which a value in some column can't have a partner in a join above.
-use Rattle.std.specs.Prelude.{ℕ, List, [], ◌∷◌, length, Bool, true, false, not, ◌&&◌, ◌||◌, nat_lt, if◌then◌else◌, Option, Some, None}
+use Rattle.std.specs.Prelude.{◌≡◌, ℕ, List, [], ◌∷◌, length, Bool, true, false, not, ◌&&◌, ◌||◌, nat_lt, Option, Some, None}
 use Rattle.sql_values.specs.declared.types.SqlType.{SqlType}
 use Rattle.sql_values.specs.declared.value.Value.{Value}
 use Rattle.sql_values.specs.Cells.{cell}
 use Rattle.sql_values.specs.ColumnRows.{fits_row}
 use Rattle.plan_trees.specs.Allowed.{Mode, skipping, strict}
+use Rattle.plan_trees.specs.Steps.{StepForm, filter, project}
+use Rattle.column_origins.specs.Origins.{passed_by}
 
 -- a column of a node's rows, and which of its values pass
 pub record Sieve : Type 0 where
@@ -38,6 +40,12 @@ abbrev pub over_input : (ℕ → Option ℕ) → List Sieve → List Sieve
 over_input comes [] = []
 over_input comes (s ∷ sieves) = sieve_at (comes s.column) s (over_input comes sieves)
 
--- no sieve goes below what can fail
-abbrev pub if_calm : Bool → List Sieve → List Sieve
-if_calm calm sieves = if calm then sieves else []
+-- the sieves that a step hands down: none goes below what can fail, or what gives other rows than it takes
+abbrev pub under : List SqlType → StepForm → List Sieve → List Sieve
+under types s sieves = over_input (passed_by s types) sieves
+
+-- below what goes row by row any sieves may have lost rows, below the others none
+abbrev pub MayLose : StepForm → List Sieve → Type 0
+MayLose (filter predicate) sieves = Unit {0}
+MayLose (project columns) sieves = Unit {0}
+MayLose s sieves = sieves ≡ []

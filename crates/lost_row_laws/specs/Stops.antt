@@ -1,7 +1,6 @@
 -- Runs that something stopped, whose scans lost rows.
 use Rattle.std.specs.Prelude.{◌≡◌, ℕ, ◌<◌, List, [], ◌∷◌, ◌++◌, filter, true, Some}
 use Rattle.sql_values.specs.declared.value.Value.{Value}
-use Rattle.sql_exprs.specs.Calm.{is_calm}
 use Rattle.bag_laws.specs.Buckets.{Sits}
 use Rattle.bag_laws.specs.Gather.{gather}
 use Rattle.bag_laws.specs.Laws.{TaskRows}
@@ -9,15 +8,16 @@ use Rattle.bag_laws.specs.Weights.{SameWeights}
 use Rattle.relation_laws.specs.Joins.{are_partners}
 use Rattle.plan_trees.specs.Allowed.{scanned, skipping, width_of}
 use Rattle.plan_trees.specs.TreeTypes.{types_of}
-use Rattle.column_origins.specs.Origins.{left_column, passed_column}
-use Rattle.plan_run_laws.specs.Nets.{IsAlone, Lanes, limit, partial, of_tasks, topn}
+use Rattle.column_origins.specs.Origins.{left_column}
+use Rattle.plan_run_laws.specs.Nets.{Lanes, of_tasks}
+use Rattle.plan_run_laws.specs.Stages.{IsAlone, MayHave, first_half}
 use Rattle.plan_run_laws.specs.RunPlans.{RunPlan, tree_of_run}
 use Rattle.plan_run_laws.specs.RunPlans as plan
 use Rattle.plan_run_laws.specs.Spreads.{Tables}
 use Rattle.plan_run_laws.specs.Stops.{AllSet, AreNoted, AreOpen, Flags, Hop, MayCome, Notes, PassedSoFar, StoppedPipe, TookOf}
 use Rattle.plan_run_laws.specs.Wholes.{longer}
 use Rattle.lost_row_laws.specs.Nets.{BelowLosing}
-use Rattle.lost_row_laws.specs.Sieves.{Sieve, if_calm, is_held, is_lost, over_input}
+use Rattle.lost_row_laws.specs.Sieves.{Sieve, is_held, is_lost, over_input, under}
 
 -- where a sieve of a join holds anything back, its right side is whole in all tasks, and that has no partner there
 abbrev pub AreSure : List (ℕ × ℕ) → ℕ → StoppedPipe → List Sieve → Type 0
@@ -38,10 +38,13 @@ StopsLosing tables sieves n w (plan.remote id output m input) notes took ended =
     (p : StoppedPipe) × (notes ≡ []) × StopsLosing tables sieves m p.drivers input p.notes p.took p.ended
     × AreOpen [] m p.drivers input p.notes p.took p.gave p.ended p.done
     × PassedSoFar output m n p w took ended
-StopsLosing tables sieves n w (plan.filter id predicate input) notes took ended =
-    StopsLosing tables (if_calm (is_calm (types_of (tree_of_run input)) predicate) sieves) n w input notes took ended
-StopsLosing tables sieves n w (plan.project id columns input) notes took ended =
-    StopsLosing tables (over_input (passed_column (types_of (tree_of_run input)) columns) sieves) n w input notes took ended
+StopsLosing tables sieves n w (plan.step id s input) notes took ended =
+    MayHave s w × StopsLosing tables (under (types_of (tree_of_run input)) s sieves) n w input notes took ended
+StopsLosing tables sieves n w (plan.halves id source output m h input) notes took ended =
+    (p : StoppedPipe) × (notes ≡ []) × IsAlone w
+    × StopsLosing tables [] m p.drivers input p.notes p.took p.ended
+    × AreOpen (first_half (types_of (tree_of_run input)) h ∷ []) m p.drivers input p.notes p.took p.gave p.ended p.done
+    × PassedSoFar output m n p w took ended
 StopsLosing tables sieves n w (plan.join id kind on left right) [] took ended = ⊥
 StopsLosing tables sieves n w (plan.join id kind on left right) (note ∷ notes) took ended =
     (own : List Sieve) × (p : StoppedPipe) × StopsLosing tables [] n p.drivers right p.notes p.took p.ended
@@ -51,29 +54,6 @@ StopsLosing tables sieves n w (plan.join id kind on left right) (note ∷ notes)
     × SameWeights (of_tasks p.drivers p.gave k) built)
     × AreSure on n p own
     × StopsLosing tables (over_input (left_column kind (width_of (tree_of_run left))) (own ++ sieves)) n w left notes took ended
-StopsLosing tables sieves n w (plan.aggregate id keys calls input) notes took ended =
-    IsAlone w × StopsLosing tables [] n w input notes took ended
-StopsLosing tables sieves n w (plan.aggregate_parts id source output m keys calls input) notes took ended =
-    (p : StoppedPipe) × (notes ≡ []) × IsAlone w
-    × StopsLosing tables [] m p.drivers input p.notes p.took p.ended
-    × AreOpen (partial keys calls ∷ []) m p.drivers input p.notes p.took p.gave p.ended p.done
-    × PassedSoFar output m n p w took ended
-StopsLosing tables sieves n w (plan.sort id keys input) notes took ended =
-    IsAlone w × StopsLosing tables [] n w input notes took ended
-StopsLosing tables sieves n w (plan.topn id count keys input) notes took ended =
-    IsAlone w × StopsLosing tables [] n w input notes took ended
-StopsLosing tables sieves n w (plan.topn_parts id source output m count keys input) notes took ended =
-    (p : StoppedPipe) × (notes ≡ []) × IsAlone w
-    × StopsLosing tables [] m p.drivers input p.notes p.took p.ended
-    × AreOpen (topn count keys ∷ []) m p.drivers input p.notes p.took p.gave p.ended p.done
-    × PassedSoFar output m n p w took ended
-StopsLosing tables sieves n w (plan.limit id count input) notes took ended =
-    IsAlone w × StopsLosing tables [] n w input notes took ended
-StopsLosing tables sieves n w (plan.limit_parts id source output m count input) notes took ended =
-    (p : StoppedPipe) × (notes ≡ []) × IsAlone w
-    × StopsLosing tables [] m p.drivers input p.notes p.took p.ended
-    × AreOpen (limit count ∷ []) m p.drivers input p.notes p.took p.gave p.ended p.done
-    × PassedSoFar output m n p w took ended
 StopsLosing tables sieves n w (plan.union id left right) notes took ended =
     (p : StoppedPipe) × (q : StoppedPipe) × (notes ≡ [])
     × StopsLosing tables [] n p.drivers left p.notes p.took p.ended

@@ -10,14 +10,14 @@ use Rattle.sql_values.specs.declared.relational.JoinKind.{JoinKind}
 use Rattle.driver_loop.specs.Drivers.{DriverState}
 use Rattle.driver_loop.specs.contracts.stage.StageOperator.TheImpl.{ghosts}
 use Rattle.driver_loop.specs.declared.stage.Stage.{Stage}
-use Rattle.driver_loop.specs.declared.stage.Stage.TheVariants.{Dynamic, Filter, Final, Limit, Partial, Probe, Single, Sort, TopN}
+use Rattle.driver_loop.specs.declared.stage.Stage.TheVariants.{Probe}
 use Rattle.driver_loop.specs.declared.target.Target.{Target}
 use Rattle.driver_loop.specs.declared.target.Target.TheVariants.{Build, Deal, Put, Result}
 use Rattle.driver_net_laws.specs.Cells.{AreNamed, cell_of, cells_of, target_cell}
 use Rattle.driver_net_laws.specs.Stages.{ProbesFor}
 use Rattle.plan_layout.specs.declared.filters.PlacedFilter.{PlacedFilter}
 use Rattle.plan_layout.specs.Filters.{scan_filters}
-use Rattle.plan_layout.specs.Pipes.{PipeForm, StepForm, TargetForm, filter, project, probe, aggregate, partial, final, sort, top_n, limit, result, cell, side, readers, takers}
+use Rattle.plan_layout.specs.Pipes.{PipeForm, StepForm, TargetForm, probe, result, cell, side, readers, takers}
 use Rattle.driver_net_laws.specs.Nets.{AreDriversOf, AreInFront, AreStagesFor, IsDriverOf, IsResultTarget, IsStageFor, IsTargetFor, NetForm, front_stages, step_stages}
 use Rattle.driver_net_laws.specs.Types.{types_after}
 use Rattle.net_closing.specs.Covered.{IsCovered}
@@ -25,15 +25,8 @@ use Rattle.net_closing.proofs.PipeLemmas.{all_flat}
 
 -- the cell of a stage is that of the stage as it was made
 made_cells : (s : Stage) → cell_of (ghosts.as_made s) ≡ cell_of s
-made_cells (Filter op) = refl
-made_cells (Limit op types) = refl
-made_cells (Sort op) = refl
-made_cells (TopN op) = refl
-made_cells (Single op) = refl
-made_cells (Partial op) = refl
-made_cells (Final op) = refl
 made_cells (Probe op types) = refl
-made_cells (Dynamic op types) = refl
+made_cells s = refl
 
 module _ (net : NetForm) where
   abbrev Holds : ℕ × ℕ → Type 0
@@ -48,15 +41,8 @@ module _ (net : NetForm) where
       (All-cons Holds (p.op.bell, p.op.note.cell) [] (p.cell ∙ ap net.links.names (sym p.rings)) (All-nil Holds))
 
   stage_named : (task : ℕ) (halved : List SqlType) (step : StepForm) (between given : List SqlType) (s : Stage) → IsStageFor net task halved step between given (ghosts.as_made s) → All Holds (cell_of s)
-  stage_named task halved (filter id predicate) between given s is = apart_named s is.apart
-  stage_named task halved (project id columns) between given s is = apart_named s is.apart
   stage_named task halved (probe id kind on at) between given s is = probe_named s _ _ _ is.probes
-  stage_named task halved (aggregate id keys calls) between given s is = apart_named s is.apart
-  stage_named task halved (partial id keys calls) between given s is = apart_named s is.apart
-  stage_named task halved (final id keys calls) between given s is = apart_named s is.apart
-  stage_named task halved (sort id keys) between given s is = apart_named s is.apart
-  stage_named task halved (top_n id count keys) between given s is = apart_named s is.apart
-  stage_named task halved (limit id count) between given s is = apart_named s is.apart
+  stage_named task halved step between given s is = apart_named s is.apart
 
   stages_named : (task : ℕ) (halved : List SqlType) (steps : List StepForm) (between : List SqlType) (stages : List Stage) → AreStagesFor net task halved steps between stages
       → All Holds (flat_map cell_of stages)

@@ -9,7 +9,7 @@ use Rattle.driver_loop.specs.Ends.{is_build}
 use Rattle.driver_loop.specs.Turns.{note_of_stage, note_of_target, notes_of}
 use Rattle.driver_loop.specs.declared.pieces.CellNote.{CellNote}
 use Rattle.driver_loop.specs.declared.stage.Stage.{Stage}
-use Rattle.driver_loop.specs.declared.stage.Stage.TheVariants.{Dynamic, Filter, Final, Limit, Partial, Probe, Single, Sort, TopN}
+use Rattle.driver_loop.specs.declared.stage.Stage.TheVariants.{Probe}
 use Rattle.driver_loop.specs.declared.target.Target.{Target}
 use Rattle.driver_loop.specs.declared.target.Target.TheVariants.{Build, Deal, Put, Result}
 use Rattle.driver_net_laws.specs.Cells.{AreNamed, AreOfCells, Names, cell_of, cells_of, target_cell}
@@ -23,15 +23,8 @@ abbrev pub cell_noted : CellNote → ℕ × ℕ
 cell_noted n = (n.bell, n.note.cell)
 
 stage_noted : (s : Stage) → map cell_noted (note_of_stage s) ≡ cell_of s
-stage_noted (Filter op) = refl
-stage_noted (Limit op types) = refl
-stage_noted (Sort op) = refl
-stage_noted (TopN op) = refl
-stage_noted (Single op) = refl
-stage_noted (Partial op) = refl
-stage_noted (Final op) = refl
 stage_noted (Probe op types) = refl
-stage_noted (Dynamic op types) = refl
+stage_noted s = refl
 
 stages_noted : (ss : List Stage) → map cell_noted (flat_map note_of_stage ss) ≡ flat_map cell_of ss
 stages_noted [] = refl

@@ -16,7 +16,7 @@ use Rattle.driver_loop.specs.Turns.{KnowsParts, filter_note_of_stage, filter_of_
 use Rattle.driver_loop.specs.contracts.stage.StageOperator.TheImpl.{ghosts}
 use Rattle.driver_loop.specs.declared.pieces.FilterCellNote.{FilterCellNote}
 use Rattle.driver_loop.specs.declared.stage.Stage.{Stage}
-use Rattle.driver_loop.specs.declared.stage.Stage.TheVariants.{Dynamic, Filter, Final, Limit, Partial, Probe, Single, Sort, TopN}
+use Rattle.driver_loop.specs.declared.stage.Stage.TheVariants.{Dynamic}
 use Rattle.driver_loop.specs.declared.target.Target.{Target}
 use Rattle.driver_loop.specs.declared.target.Target.TheVariants.{Build, Deal, Put, Result}
 use Rattle.driver_net_laws.specs.Cells.{Names}
@@ -28,7 +28,7 @@ use Rattle.driver_net_laws.specs.Types.{types_after}
 use Rattle.plan_docs.specs.declared.node.DynamicFilter.{DynamicFilter}
 use Rattle.plan_layout.specs.declared.filters.PlacedFilter.{PlacedFilter}
 use Rattle.plan_layout.specs.Filters.{scan_filters}
-use Rattle.plan_layout.specs.Pipes.{PipeForm, StepForm, TargetForm, filter, project, probe, aggregate, partial, final, sort, top_n, limit, result, cell, side, readers, takers}
+use Rattle.plan_layout.specs.Pipes.{PipeForm, StepForm, TargetForm, probe, result, cell, side, readers, takers}
 use Rattle.plan_trees.specs.declared.tree.Pair.{Pair}
 use Rattle.net_closing.specs.Closing.{AreNone, HaveKept}
 use Rattle.net_closing.specs.Covered.{IsCovered}
@@ -38,31 +38,17 @@ use Rattle.net_closing.proofs.PipeLemmas.{all_at, all_flat}
 
 -- a stage that never learns drops no rows by a filter
 fixed_looks : (s : Stage) → NeverLearns (ghosts.as_made s) → filter_note_of_stage s ≡ []
-fixed_looks (Filter op) fixed = refl
-fixed_looks (Limit op types) fixed = refl
-fixed_looks (Sort op) fixed = refl
-fixed_looks (TopN op) fixed = refl
-fixed_looks (Single op) fixed = refl
-fixed_looks (Partial op) fixed = refl
-fixed_looks (Final op) fixed = refl
-fixed_looks (Probe op types) fixed = refl
 fixed_looks (Dynamic op types) fixed =
     let later : FilterState = record op { note = unlooked op.parts; known = Some Nothing; held = []; passed = 0; is_told = false } in
     absurd (fixed (Dynamic later types) (later, refl, (Nothing, refl)))
+fixed_looks s fixed = refl
 
 -- nor does one that probes
 probe_looks : (names : Names) (bell : ℕ) (kind : JoinKind) (on : List (ℕ × ℕ)) (right between given : List SqlType) (s : Stage) → IsProbeOf names bell kind on right between given (ghosts.as_made s) → filter_note_of_stage s ≡ []
-probe_looks names bell kind on right between given (Filter op) is = refl
-probe_looks names bell kind on right between given (Limit op types) is = refl
-probe_looks names bell kind on right between given (Sort op) is = refl
-probe_looks names bell kind on right between given (TopN op) is = refl
-probe_looks names bell kind on right between given (Single op) is = refl
-probe_looks names bell kind on right between given (Partial op) is = refl
-probe_looks names bell kind on right between given (Final op) is = refl
-probe_looks names bell kind on right between given (Probe op types) is = refl
 probe_looks names bell kind on right between given (Dynamic op types) is =
     let none : Some (record op { note = unlooked op.parts; held = []; passed = 0; is_told = false }) ≡ None = ap filter_of_stage is.probes.is in
     absurd cc
+probe_looks names bell kind on right between given s is = refl
 
 module _ (net : NetForm) where
   -- the note is one of the cell of its bell
@@ -70,19 +56,12 @@ module _ (net : NetForm) where
   IsOfCell note = part_names note ≡ net.links.parts note.bell
 
   front_of : (types : List SqlType) (f : PlacedFilter) (s : Stage) → IsFilterFor net types f (ghosts.as_made s) → KnowsParts s → All IsOfCell (filter_note_of_stage s)
-  front_of types f (Filter op) is knows = All-nil IsOfCell
-  front_of types f (Limit op own) is knows = All-nil IsOfCell
-  front_of types f (Sort op) is knows = All-nil IsOfCell
-  front_of types f (TopN op) is knows = All-nil IsOfCell
-  front_of types f (Single op) is knows = All-nil IsOfCell
-  front_of types f (Partial op) is knows = All-nil IsOfCell
-  front_of types f (Final op) is knows = All-nil IsOfCell
-  front_of types f (Probe op own) is knows = All-nil IsOfCell
   front_of types f (Dynamic op own) is knows =
       let made : FilterState = record op { note = unlooked op.parts; held = []; passed = 0; is_told = false } in
       let same : made ≡ is.op = same_Some made is.op (ap filter_of_stage is.is) in
       All-cons IsOfCell (record { bell = op.bell; part = None; note = op.note }) []
       (knows.of_cell ∙ ap (λ (o : FilterState). o.parts) same ∙ is.parts ∙ ap (λ (o : FilterState). net.links.parts o.bell) (sym same)) (All-nil IsOfCell)
+  front_of types f s is knows = All-nil IsOfCell
 
   fronts_of : (types : List SqlType) (fs : List PlacedFilter) (stages : List Stage) → AreInFront net types fs stages → All KnowsParts stages → All IsOfCell (flat_map filter_note_of_stage stages)
   fronts_of types [] stages are knows = subst (λ (ss : List Stage). All IsOfCell (flat_map filter_note_of_stage ss)) (sym are) (All-nil IsOfCell)
@@ -93,15 +72,8 @@ module _ (net : NetForm) where
 
   step_looks : (task : ℕ) (halved : List SqlType) (step : StepForm) (between given : List SqlType) (s : Stage) → IsStageFor net task halved step between given (ghosts.as_made s)
       → filter_note_of_stage s ≡ []
-  step_looks task halved (filter id predicate) between given s is = fixed_looks s is.fixed
-  step_looks task halved (project id columns) between given s is = fixed_looks s is.fixed
   step_looks task halved (probe id kind on at) between given s is = probe_looks _ _ _ _ _ between given s is
-  step_looks task halved (aggregate id keys calls) between given s is = fixed_looks s is.fixed
-  step_looks task halved (partial id keys calls) between given s is = fixed_looks s is.fixed
-  step_looks task halved (final id keys calls) between given s is = fixed_looks s is.fixed
-  step_looks task halved (sort id keys) between given s is = fixed_looks s is.fixed
-  step_looks task halved (top_n id count keys) between given s is = fixed_looks s is.fixed
-  step_looks task halved (limit id count) between given s is = fixed_looks s is.fixed
+  step_looks task halved step between given s is = fixed_looks s is.fixed
 
   steps_look : (task : ℕ) (halved : List SqlType) (steps : List StepForm) (between : List SqlType) (stages : List Stage) → AreStagesFor net task halved steps between stages
       → flat_map filter_note_of_stage stages ≡ []

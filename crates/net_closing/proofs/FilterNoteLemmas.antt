@@ -7,7 +7,7 @@ use Rattle.driver_loop.specs.Drivers.{DriverState}
 use Rattle.driver_loop.specs.Turns.{filter_note_of_stage, filter_notes_of, filters_of, note_of_build_filter}
 use Rattle.driver_loop.specs.declared.pieces.FilterCellNote.{FilterCellNote}
 use Rattle.driver_loop.specs.declared.stage.Stage.{Stage}
-use Rattle.driver_loop.specs.declared.stage.Stage.TheVariants.{Dynamic, Filter, Final, Limit, Partial, Probe, Single, Sort, TopN}
+use Rattle.driver_loop.specs.declared.stage.Stage.TheVariants.{Dynamic}
 use Rattle.driver_net_laws.specs.Settled.{filter_builds_of, filter_looks_of}
 use Rattle.net_closing.specs.Closing.{publishes}
 
@@ -15,26 +15,12 @@ abbrev only_looks : List FilterCellNote → List FilterCellNote
 only_looks notes = filter (λ n. not (publishes n)) notes
 
 stage_looks : (s : Stage) → only_looks (filter_note_of_stage s) ≡ filter_note_of_stage s
-stage_looks (Filter op) = refl
-stage_looks (Limit op types) = refl
-stage_looks (Sort op) = refl
-stage_looks (TopN op) = refl
-stage_looks (Single op) = refl
-stage_looks (Partial op) = refl
-stage_looks (Final op) = refl
-stage_looks (Probe op types) = refl
 stage_looks (Dynamic op types) = refl
+stage_looks s = refl
 
 stage_publishes : (s : Stage) → filter publishes (filter_note_of_stage s) ≡ []
-stage_publishes (Filter op) = refl
-stage_publishes (Limit op types) = refl
-stage_publishes (Sort op) = refl
-stage_publishes (TopN op) = refl
-stage_publishes (Single op) = refl
-stage_publishes (Partial op) = refl
-stage_publishes (Final op) = refl
-stage_publishes (Probe op types) = refl
 stage_publishes (Dynamic op types) = refl
+stage_publishes s = refl
 
 stages_look : (ss : List Stage) → only_looks (flat_map filter_note_of_stage ss) ≡ flat_map filter_note_of_stage ss
 stages_look [] = refl

@@ -11,7 +11,7 @@ use Rattle.operator_core.specs.Stages.{last_finished}
 use Rattle.plan_trees.specs.Allowed.{Gives, strict}
 use Rattle.plan_trees.specs.Stopped.{MayFail}
 use Rattle.tree_evaluator.specs.Fits.{FitsTables}
-use Rattle.pipe_laws.proofs.FitLemmas.{fits_widths}
+use Rattle.driver_net_laws.proofs.FitLemmas.{fits_widths}
 use Rattle.plan_run_laws.specs.Nets.{IsAlone, Went, of_tasks}
 use Rattle.plan_run_laws.specs.Placements.{Placed}
 use Rattle.plan_run_laws.specs.RunPlans.{RunPlan, tree_of_run}
@@ -24,11 +24,11 @@ use Rattle.lost_row_laws.specs.Sieves.{Sieve}
 use Rattle.lost_row_laws.proofs.FailedLemmas.{failed}
 use Rattle.lost_row_laws.proofs.RestoreLemmas.{put_back}
 use Rattle.lost_row_laws.proofs.WireLemmas.{wired}
-use Rattle.sieve_laws.proofs.DropLemmas.{calm_front}
-use Rattle.sieve_laws.proofs.FailLemmas.{failed_in}
-use Rattle.sieve_laws.proofs.OverLemmas.{gave_root}
-use Rattle.sieve_laws.proofs.SplitLemmas.{fails_after}
-use Rattle.sieve_laws.proofs.TypedLemmas.{typed as run_typed}
+use Rattle.filter_plan_laws.proofs.DropLemmas.{calm_front}
+use Rattle.filter_plan_laws.proofs.FailLemmas.{failed_in}
+use Rattle.filter_plan_laws.proofs.OverLemmas.{gave_root}
+use Rattle.filter_plan_laws.proofs.SplitLemmas.{fails_after}
+use Rattle.filter_plan_laws.proofs.TypedLemmas.{typed as run_typed}
 use Rattle.driver_loop.specs.Drivers.{DriverState, HasFailed}
 use Rattle.driver_loop.specs.declared.run_fault.RunFault.TheVariants.{ExprFailed}
 use Rattle.driver_loop.specs.Ends.{has_ended, rows_handed, rows_taken, was_given}
@@ -37,8 +37,8 @@ use Rattle.driver_loop.specs.contracts.stage.StageOperator.TheImpl.{ghosts}
 use Rattle.driver_loop.specs.declared.stage.Stage.{Stage}
 use Rattle.driver_loop.specs.declared.target.Target.{Target}
 use Rattle.driver_loop.specs.declared.target.Target.TheVariants.{Build, Deal, Put, Result}
-use Rattle.pipe_laws.specs.Lanes.{notes_of_lanes}
-use Rattle.pipe_laws.specs.Pipes.{AreOver, HasFailing, PipeState}
+use Rattle.driver_net_laws.specs.Lanes.{notes_of_lanes}
+use Rattle.driver_net_laws.specs.Pipes.{AreOver, HasFailing, PipeState}
 use Rattle.plan_layout.specs.declared.filters.PlacedFilter.{PlacedFilter}
 use Rattle.plan_layout.specs.Filters.{scan_filters}
 use Rattle.plan_layout.specs.Layouts.{drivers_in}

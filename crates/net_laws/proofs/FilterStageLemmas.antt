@@ -5,10 +5,10 @@ use Rattle.dyn_filter.specs.Filters.{FilterState}
 use Rattle.dyn_filter.specs.contracts.filter.FilterOpOperator.TheImpl.{ghosts as filter_ghosts}
 use Rattle.driver_loop.specs.contracts.stage.StageOperator.TheImpl.{ghosts}
 use Rattle.driver_loop.specs.declared.stage.Stage.{Stage}
-use Rattle.driver_loop.specs.declared.stage.Stage.TheVariants.{Dynamic, Filter, Final, Limit, Partial, Probe, Single, Sort, TopN}
+use Rattle.driver_loop.specs.declared.stage.Stage.TheVariants.{Dynamic}
 use Rattle.plan_layout.specs.declared.filters.PlacedFilter.{PlacedFilter}
-use Rattle.sieve_laws.specs.FilterLanes.{AllDrop, Drops, FilterNoted}
-use Rattle.sieve_laws.proofs.FilterOpLemmas.{filter_drops}
+use Rattle.filter_plan_laws.specs.FilterLanes.{AllDrop, Drops, FilterNoted}
+use Rattle.filter_plan_laws.proofs.FilterOpLemmas.{filter_drops}
 use Rattle.driver_net_laws.specs.Nets.{AreInFront, NetForm}
 
 -- a stage that is made as a dynamic filter is one
@@ -18,18 +18,11 @@ pub record IsDynamic (s : Stage) (op : FilterState) (types : List SqlType) : Typ
   pub made : filter_ghosts.as_made raw ≡ op
 
 pub dynamic_raw : (s : Stage) (op : FilterState) (types : List SqlType) → ghosts.as_made s ≡ Dynamic op types → IsDynamic s op types
-dynamic_raw (Filter f) op types same = absurd cc
-dynamic_raw (Limit l ts) op types same = absurd cc
-dynamic_raw (Sort s) op types same = absurd cc
-dynamic_raw (TopN s) op types same = absurd cc
-dynamic_raw (Single s) op types same = absurd cc
-dynamic_raw (Partial s) op types same = absurd cc
-dynamic_raw (Final s) op types same = absurd cc
-dynamic_raw (Probe p ts) op types same = absurd cc
 dynamic_raw (Dynamic raw ts) op types same =
     let own : ts ≡ types = cc in
     let made : filter_ghosts.as_made raw ≡ op = cc in
     record { raw = raw; is = ap (λ (t : List SqlType). Dynamic raw t) own; made = made }
+dynamic_raw s op types same = absurd cc
 
 -- what it tests
 abbrev pub noted : FilterState → FilterNoted

@@ -12,7 +12,7 @@ use Rattle.bag_laws.proofs.TopLemmas.{All-back, All-front, All-gather}
 use Rattle.plan_run_laws.specs.RunPlans.{Output, broadcast, hashed, single}
 use Rattle.plan_run_laws.specs.Runs.{sent}
 use Rattle.plan_run_laws.specs.Stops.{Hop}
-use Rattle.pipe_laws.proofs.FitLemmas.{front_of_source}
+use Rattle.driver_net_laws.proofs.FitLemmas.{front_of_source}
 
 abbrev Fits : List SqlType → Row → Type 0
 Fits types row = IsTrue (fits_row types row)

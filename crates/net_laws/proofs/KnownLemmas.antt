@@ -16,7 +16,7 @@ use Rattle.plan_docs.specs.declared.node.DynamicFilter.{DynamicFilter}
 use Rattle.plan_run_laws.specs.Nets.{of_tasks}
 use Rattle.plan_run_laws.specs.RunPlans.{RunPlan}
 use Rattle.plan_run_laws.specs.Stops.{StoppedPipe}
-use Rattle.pipe_laws.specs.Pipes.{PipeState, stopped}
+use Rattle.driver_net_laws.specs.Pipes.{PipeState, stopped}
 use Rattle.dyn_filter.specs.declared.domain.Domain.{Domain}
 use Rattle.dyn_filter.specs.Cells.{AreDomainsOf, domain_at, note_at}
 use Rattle.dyn_filter.specs.Domains.{IsDomainOf}
@@ -28,8 +28,8 @@ use Rattle.driver_loop.specs.Turns.{KnowsParts, filter_note_of_stage, filter_of_
 use Rattle.driver_loop.specs.contracts.stage.StageOperator.TheImpl.{ghosts}
 use Rattle.driver_loop.specs.declared.pieces.FilterCellNote.{FilterCellNote}
 use Rattle.driver_loop.specs.declared.stage.Stage.{Stage}
-use Rattle.sieve_laws.specs.KnownDomains.{AreKnownOf, IsKnownOf, JoinFilter}
-use Rattle.sieve_laws.proofs.SureLemmas.{domain_of_parts}
+use Rattle.filter_plan_laws.specs.KnownDomains.{AreKnownOf, IsKnownOf, JoinFilter}
+use Rattle.filter_plan_laws.proofs.SureLemmas.{domain_of_parts}
 use Rattle.plan_layout.specs.Pipes.{BuildForm, TargetForm, driver_number}
 use Rattle.plan_layout.specs.Pipes as form
 use Rattle.layout_laws.specs.RunPipes.{Alone, OfPipe, PipeIn}

@@ -9,14 +9,14 @@ use Rattle.operator_core.specs.Calls.{IsLawful}
 use Rattle.operator_core.specs.Stages.{ToldInTurn, last_finished}
 use Rattle.plan_trees.specs.TreeTypes.{types_of}
 use Rattle.plan_run_laws.specs.RunPlans.{RunPlan, tree_of_run}
-use Rattle.pipe_laws.specs.Pipelines.{NodeStage, at_node}
-use Rattle.pipe_laws.specs.Operators.{types_of_source}
+use Rattle.driver_net_laws.specs.Pipelines.{NodeStage, at_node}
+use Rattle.driver_net_laws.specs.Operators.{types_of_source}
 use Rattle.driver_loop.specs.Drivers.{DriverState}
 use Rattle.driver_loop.specs.Ends.{has_ended}
 use Rattle.driver_loop.specs.contracts.stage.StageOperator.TheImpl.{ghosts}
 use Rattle.driver_loop.specs.declared.stage.Stage.{Stage}
-use Rattle.pipe_laws.specs.Lanes.{IsHalved, IsLane, Noted}
-use Rattle.pipe_laws.specs.Pipes.{GaveTyped, IsHalfPipeOf, IsPipeOf, PipeState, TookTyped}
+use Rattle.driver_net_laws.specs.Lanes.{IsHalved, IsLane, Noted}
+use Rattle.driver_net_laws.specs.Pipes.{GaveTyped, IsHalfPipeOf, IsPipeOf, PipeState, TookTyped}
 use Rattle.driver_net_laws.specs.Made.{AreMadeFor, Behind, KnowSources, notes_known}
 use Rattle.driver_net_laws.proofs.MadeLemmas.{half_gives, halved, lane, lane_gives}
 use Rattle.plan_layout.specs.Pipes.{PipeForm, driver_number}
@@ -25,7 +25,8 @@ use Rattle.driver_net_laws.specs.Nets.{AreDriversOf, HasDriver, NetForm, front_s
 use Rattle.driver_net_laws.specs.Settled.{AreSettled}
 use Rattle.driver_net_laws.specs.States.{CameThrough, Flow, IsFlowOf, pipe_of}
 use Rattle.net_laws.specs.Along.{Along, BuiltTyped, Follows, bells_in}
-use Rattle.net_laws.specs.Halves.{Half, half_stage, half_step, half_types}
+use Rattle.plan_run_laws.specs.HalvedSteps.{HalvedForm}
+use Rattle.net_laws.specs.Halves.{half_stage, half_step, half_types}
 use Rattle.net_laws.proofs.FrontLemmas.{behind, cut, done_behind, told_behind}
 use Rattle.net_laws.proofs.TypeLemmas.{at_pipe}
 use Rattle.net_laws.proofs.StageLemmas.{are_made, halves_made}
@@ -136,9 +137,9 @@ module _ (net : NetForm) (drivers : List DriverState) (of : AreDriversOf net dri
       lanes_give = subst (GaveTyped (types_of (tree_of_run run)) n) (sym same) gave_at
 
   -- with the first half of an operator behind the plan
-  module _ (run : RunPlan) (half : Half) (r : Into (half_step half) (RunsAs net.layout n run) own pipe.drivers pipe.source pipe.steps) where
+  module _ (run : RunPlan) (half : HalvedForm) (r : Into (half_step half) (RunsAs net.layout n run) own pipe.drivers pipe.source pipe.steps) where
     abbrev at : NodeStage
-    at = at_node r.0 (half_stage half)
+    at = at_node r.0 (half_stage half (types_of (tree_of_run run)))
 
     half_made : (k d : ℕ) (h : HasDriver net drivers own pipe k d)
         → Behind (AreMadeFor net.links.names run (bells_in net.links k net.layout n run own pipe.drivers pipe.source r.1.0 r.1.2)) at (rest k d h) (half_types half (types_of (tree_of_run run)))

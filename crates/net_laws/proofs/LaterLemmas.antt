@@ -30,13 +30,13 @@ use Rattle.driver_loop.specs.declared.stage.Stage.{Stage}
 use Rattle.driver_loop.specs.declared.target.Target.{Target}
 use Rattle.driver_loop.specs.declared.target.Target.TheVariants.{Build, Deal, Put, Result}
 use Rattle.plan_docs.specs.declared.node.DynamicFilter.{DynamicFilter}
-use Rattle.plan_run_laws.specs.Nets as stage
+use Rattle.plan_run_laws.specs.Stages as stage
 use Rattle.plan_run_laws.specs.RunPlans as plan
 use Rattle.plan_trees.specs.Allowed.{table_rows}
 use Rattle.plan_trees.specs.declared.tree.Pair.{Pair}
 use Rattle.plan_trees.specs.TreeForms.{pair_view}
 use Rattle.plan_spreads.specs.Runs.{output_view}
-use Rattle.pipe_laws.specs.Pipelines.{NodeStage, at_node}
+use Rattle.driver_net_laws.specs.Pipelines.{NodeStage, at_node}
 use Rattle.source_laws.specs.Edges.{output_of}
 use Rattle.driver_net_laws.specs.Cells.{Names}
 use Rattle.driver_net_laws.specs.Stages.{IsProbeOf, IsStageOf}
@@ -304,15 +304,11 @@ module _ (net : NetForm) (task : ℕ) (halved : List SqlType) where
   step_on : (step : StepForm) (between given : List SqlType) (made now : Stage) → IsStageFor net task halved step between given made → CameFrom ghosts made now
       → IsStageFor net task halved step between given (ghosts.as_made now)
   step_on (form.filter id predicate) between given made now is came = stage_on (at_node id (stage.filter between predicate)) between given made now is came
-  step_on (form.project id columns) between given made now is came = stage_on (at_node id (stage.project between columns)) between given made now is came
+  step_on (form.does id s) between given made now is came = stage_on (at_node id (stage.does between s)) between given made now is came
   step_on (form.probe id kind on at) between given made now is came =
       probe_on net.links.names (net.links.cells at task) kind (map pair_view on) (net.types at).given between given made now is came
-  step_on (form.aggregate id keys calls) between given made now is came = stage_on (at_node id (stage.grouping between keys calls)) between given made now is came
   step_on (form.partial id keys calls) between given made now is came = stage_on (at_node id (stage.partial keys calls)) between given made now is came
   step_on (form.final id keys calls) between given made now is came = stage_on (at_node id (stage.final halved (length keys) calls)) between given made now is came
-  step_on (form.sort id keys) between given made now is came = stage_on (at_node id (stage.sort keys)) between given made now is came
-  step_on (form.top_n id count keys) between given made now is came = stage_on (at_node id (stage.topn count keys)) between given made now is came
-  step_on (form.limit id count) between given made now is came = stage_on (at_node id (stage.limit count)) between given made now is came
 
   stages_on : (steps : List StepForm) (between : List SqlType) (all now : List Stage) → AreStagesFor net task halved steps between all → AllCameFrom ghosts (map ghosts.as_made all) now
       → AreStagesFor net task halved steps between now

@@ -27,3 +27,10 @@ pub mod ScanLemmas
 pub mod PlanLemmas
 mod MakeLemmas
 mod LayoutLemmas
+pub use Rattle.filter_plan_laws.proofs.ComingLemmas
+pub use Rattle.filter_plan_laws.proofs.TypedLemmas
+pub use Rattle.filter_plan_laws.proofs.OverLemmas
+pub use Rattle.filter_plan_laws.proofs.SplitLemmas
+pub use Rattle.lost_row_laws.proofs.RestoreLemmas
+pub use Rattle.lost_row_laws.proofs.WireLemmas
+pub use Rattle.filter_plan_laws.proofs.BuiltLemmas

@@ -4,22 +4,26 @@ use Rattle.std.specs.Prelude.{IsTrue, slice_get}
 use Rattle.sql_values.specs.declared.table.Table.{Table}
 use Rattle.sql_values.specs.declared.types.SqlType.{SqlType}
 use Rattle.accumulators.specs.Limits.{are_allowed}
+use Rattle.plan_trees.specs.Steps.{StepForm as StepOf}
+use Rattle.plan_trees.specs.Steps as steps_of
 use Rattle.plan_trees.specs.TreeTypes.{types_of}
 use Rattle.plan_run_laws.specs.RunPlans.{RunPlan, tree_of_run}
 use Rattle.plan_run_laws.specs.RunPlans as plan
 use Rattle.plan_trees.specs.Layouts.{partial_types}
 use Rattle.plan_layout.specs.Pipes.{PipeForm, SourceForm, StepForm}
 use Rattle.plan_layout.specs.Pipes as form
-use Rattle.tree_evaluator.specs.Fits.{FitsTables}
+use Rattle.tree_evaluator.specs.Fits.{FitsTables, StepFits as TreeStepFits}
 use Rattle.tree_evaluator.specs.Stops.{rows_of_table}
 use Rattle.tree_evaluator.proofs.SortLemmas.{has_column}
 use Rattle.plan_fit_laws.specs.Reads.{ReadsTables}
 use Rattle.layout_laws.specs.Reached.{IsWithin}
-use Rattle.layout_laws.specs.RunPipes.{Into, RunsAs, Takes}
+use Rattle.layout_laws.specs.RunPipes.{Into, RunsAs, Takes, final_step}
 use Rattle.driver_net_laws.specs.Makes.{PipeFits, SourceFits, StepFits, StepsFit}
 use Rattle.driver_net_laws.specs.Types.{PipesAreTyped, PipeTypes, types_after, types_through}
-use Rattle.net_laws.specs.Halves.{Half, half_step, limit, partial, top_n}
-use Rattle.net_laws.proofs.TypeLemmas.{IsAt, are_through, at_pipe, halved_by, through}
+use Rattle.plan_run_laws.specs.HalvedSteps.{HalvedForm, whole_step}
+use Rattle.plan_run_laws.specs.HalvedSteps as halved_form
+use Rattle.net_laws.specs.Halves.{half_step}
+use Rattle.net_laws.proofs.TypeLemmas.{IsAt, IsHalved, are_through, at_pipe, halved_by, through}
 
 module _ (layout : List PipeForm) (types : ℕ → PipeTypes) (typed : PipesAreTyped layout types) (tables : List Table) where
   abbrev pub Fits : RunPlan → Type 0
@@ -100,7 +104,7 @@ module _ (layout : List PipeForm) (types : ℕ → PipeTypes) (typed : PipesAreT
       record { made = made; read = plain; below = below }
 
   -- the root of a fragment with a half behind its plan
-  half_root : (n : ℕ) (run : RunPlan) (half : Half) (own : ℕ) (source : SourceForm) (output : plan.Output) (t : Takes layout own source output n (Into (half_step half) (RunsAs layout n run)))
+  half_root : (n : ℕ) (run : RunPlan) (half : HalvedForm) (own : ℕ) (source : SourceForm) (output : plan.Output) (t : Takes layout own source output n (Into (half_step half) (RunsAs layout n run)))
       (Within : ℕ → Type 0) → Makes t.at t.root.pipe.source t.root.so.1.0 Within → StepFits (types t.at).halved (half_step half t.root.so.0) (TypesOf run)
       → (place : ℕ) → (place ≡ t.at) ⊎ Within place → Good place
   half_root n run half own source output t Within m fit place which =
@@ -108,6 +112,29 @@ module _ (layout : List PipeForm) (types : ℕ → PipeTypes) (typed : PipesAreT
       let whole = over t.at t.root.pipe.source t.root.pipe.steps t.root.so.1.0 (half_step half t.root.so.0) Within (TypesOf run) t.root.so.1.1
       (comes n run t.at t.root.pipe.drivers t.root.pipe.source t.root.so.1.0 at t.root.so.1.2) m fit in
       pipe_good t.at t.root.pipe Within t.root.is whole place which
+
+  -- a stage can be made for a step whose tree fits
+  step_makes : (halved : List SqlType) (id : ℕ) (s : StepOf) (input : RunPlan) → TreeStepFits (TypesOf input) s → Fits input → StepFits halved (form.does id s) (TypesOf input)
+  step_makes halved id (steps_of.filter predicate) input own fits = (has_column (tree_of_run input) (map rows_of_table tables) fits, own)
+  step_makes halved id (steps_of.project columns) input own fits = own
+  step_makes halved id (steps_of.aggregate keys calls) input own fits = own
+  step_makes halved id (steps_of.limit count) input own fits = tt
+  step_makes halved id s input own fits = has_column (tree_of_run input) (map rows_of_table tables) fits
+
+  first_makes : (halved : List SqlType) (half : HalvedForm) (id : ℕ) (input : RunPlan) → TreeStepFits (TypesOf input) (whole_step half) → Fits input
+      → StepFits halved (half_step half id) (TypesOf input)
+  first_makes halved (halved_form.aggregate keys calls) id input own fits = own
+  first_makes halved half id input own fits = step_makes halved id (whole_step half) input own fits
+
+  final_makes : (own : ℕ) (half : HalvedForm) (id : ℕ) (input : RunPlan) → TreeStepFits (TypesOf input) (whole_step half) → Fits input → IsHalved layout types typed own input half
+      → StepFits (types own).halved (final_step half id) (types own).taken
+  final_makes own (halved_form.aggregate keys calls) id input fit fits h = (
+    fit.0,
+    subst (λ (ts : List SqlType). IsTrue (are_allowed ts calls)) (sym h.halved) fit.1,
+    h.taken ∙ ap (λ (ts : List SqlType). partial_types ts keys calls) (sym h.halved),
+  )
+  final_makes own half id input fit fits h =
+      subst (λ (ts : List SqlType). StepFits (types own).halved (form.does id (whole_step half)) ts) (sym h.taken) (step_makes (types own).halved id (whole_step half) input fit fits)
 
   pub run_makes : (n : ℕ) (run : RunPlan) (own w : ℕ) (source : SourceForm) (steps : List StepForm) → IsAt layout own source → (r : RunsAs layout n run own w source steps)
       → Fits run → ReadsTables tables run → Makes own source steps (λ place. IsWithin layout place n run own w source steps r)
@@ -122,12 +149,9 @@ module _ (layout : List PipeForm) (types : ℕ → PipeTypes) (typed : PipesAreT
       let m2 = run_makes m input t.at t.root.pipe.drivers t.root.pipe.source t.root.pipe.steps (at_pipe layout t.at t.root.pipe t.root.is) t.root.so fits reads in
       reads_root own source steps t.number (λ place. IsWithin layout place n (plan.remote id output m input) own w source steps r) t.is (no_steps own steps r.0)
       (pipe_good t.at t.root.pipe (λ place. IsWithin layout place m input t.at t.root.pipe.drivers t.root.pipe.source t.root.pipe.steps t.root.so) t.root.is m2)
-  run_makes n (plan.filter id predicate input) own w source steps at r fits reads =
-      behind n input (plan.filter id predicate input) own w source steps r.0 (form.filter id predicate) at r.1 r.2 (λ place. IsWithin layout place n input own w source r.0 r.2)
-      (run_makes n input own w source r.0 at r.2 fits.1 reads) (has_column (tree_of_run input) (map rows_of_table tables) fits.1, fits.0)
-  run_makes n (plan.project id columns input) own w source steps at r fits reads =
-      behind n input (plan.project id columns input) own w source steps r.0 (form.project id columns) at r.1 r.2 (λ place. IsWithin layout place n input own w source r.0 r.2)
-      (run_makes n input own w source r.0 at r.2 fits.2 reads) (fits.0, fits.1)
+  run_makes n (plan.step id does input) own w source steps at r fits reads =
+      behind n input (plan.step id does input) own w source steps r.1.0 (form.does id does) at r.1.1 r.1.2 (λ place. IsWithin layout place n input own w source r.1.0 r.1.2)
+      (run_makes n input own w source r.1.0 at r.1.2 fits.1 reads) (step_makes (types own).halved id does input fits.0 fits.1)
   run_makes n (plan.join id kind on left right) own w source steps at r fits reads =
       let p = r.3 in
       let lefts = run_makes n left own w source r.4.0 at r.4.2 fits.0 reads.0 in
@@ -145,46 +169,16 @@ module _ (layout : List PipeForm) (types : ℕ → PipeTypes) (typed : PipesAreT
           → Makes own source r.4.0 (λ k. IsWithin layout k n left own w source r.4.0 r.4.2) → Good place
       by place (inl h) rights lefts = pipe_good r.0 r.3.pipe (λ k. IsWithin layout k n right r.0 r.3.pipe.drivers r.3.pipe.source r.3.pipe.steps r.3.so.1) r.3.is rights place h
       by place (inr h) rights lefts = lefts.below place h
-  run_makes n (plan.aggregate id keys calls input) own w source steps at r fits reads =
-      behind n input (plan.aggregate id keys calls input) own w source steps r.1.0 (form.aggregate id keys calls) at r.1.1 r.1.2 (λ place. IsWithin layout place n input own w source r.1.0 r.1.2)
-      (run_makes n input own w source r.1.0 at r.1.2 fits.2 reads) (fits.0, fits.1)
-  run_makes n (plan.aggregate_parts id remote output m keys calls input) own w source steps at r fits reads =
+  run_makes n (plan.halves id remote output m half input) own w source steps at r fits reads =
       let t = r.2 in
       let root_at = at_pipe layout t.at t.root.pipe t.root.is in
-      let m2 = run_makes m input t.at t.root.pipe.drivers t.root.pipe.source t.root.so.1.0 root_at t.root.so.1.2 fits.2 reads in
-      let h = halved_by layout types typed m input (partial keys calls) own source output at t
+      let m2 = run_makes m input t.at t.root.pipe.drivers t.root.pipe.source t.root.so.1.0 root_at t.root.so.1.2 fits.1 reads in
+      let h = halved_by layout types typed m input half own source output at t
       (are_through layout types typed m input t.at t.root.pipe.drivers t.root.pipe.source t.root.so.1.0 root_at t.root.so.1.2) in
-      let allowed : IsTrue (are_allowed (types own).halved calls) = subst (λ (ts : List SqlType). IsTrue (are_allowed ts calls)) (sym h.halved) fits.1 in
-      let same : (types own).taken ≡ partial_types (types own).halved keys calls = h.taken ∙ ap (λ (ts : List SqlType). partial_types ts keys calls) (sym h.halved) in
-      reads_root own source steps t.number (λ place. IsWithin layout place n (plan.aggregate_parts id remote output m keys calls input) own w source steps r) t.is
-      (one_step own steps (form.final id keys calls) r.1 (fits.0, allowed, same))
-      (half_root m input (partial keys calls) own source output t (λ place. IsWithin layout place m input t.at t.root.pipe.drivers t.root.pipe.source t.root.so.1.0 t.root.so.1.2) m2 (fits.0, fits.1))
-  run_makes n (plan.sort id keys input) own w source steps at r fits reads =
-      behind n input (plan.sort id keys input) own w source steps r.1.0 (form.sort id keys) at r.1.1 r.1.2 (λ place. IsWithin layout place n input own w source r.1.0 r.1.2)
-      (run_makes n input own w source r.1.0 at r.1.2 fits reads) (has_column (tree_of_run input) (map rows_of_table tables) fits)
-  run_makes n (plan.topn id count keys input) own w source steps at r fits reads =
-      behind n input (plan.topn id count keys input) own w source steps r.1.0 (form.top_n id count keys) at r.1.1 r.1.2 (λ place. IsWithin layout place n input own w source r.1.0 r.1.2)
-      (run_makes n input own w source r.1.0 at r.1.2 fits reads) (has_column (tree_of_run input) (map rows_of_table tables) fits)
-  run_makes n (plan.topn_parts id remote output m count keys input) own w source steps at r fits reads =
-      let t = r.2 in
-      let root_at = at_pipe layout t.at t.root.pipe t.root.is in
-      let m2 = run_makes m input t.at t.root.pipe.drivers t.root.pipe.source t.root.so.1.0 root_at t.root.so.1.2 fits reads in
-      let h = halved_by layout types typed m input (top_n count keys) own source output at t
-      (are_through layout types typed m input t.at t.root.pipe.drivers t.root.pipe.source t.root.so.1.0 root_at t.root.so.1.2) in
-      let some = has_column (tree_of_run input) (map rows_of_table tables) fits in
-      reads_root own source steps t.number (λ place. IsWithin layout place n (plan.topn_parts id remote output m count keys input) own w source steps r) t.is
-      (one_step own steps (form.top_n id count keys) r.1 (subst (λ (ts : List SqlType). 0 < length ts) (sym h.taken) some))
-      (half_root m input (top_n count keys) own source output t (λ place. IsWithin layout place m input t.at t.root.pipe.drivers t.root.pipe.source t.root.so.1.0 t.root.so.1.2) m2 some)
-  run_makes n (plan.limit id count input) own w source steps at r fits reads =
-      behind n input (plan.limit id count input) own w source steps r.1.0 (form.limit id count) at r.1.1 r.1.2 (λ place. IsWithin layout place n input own w source r.1.0 r.1.2)
-      (run_makes n input own w source r.1.0 at r.1.2 fits reads) tt
-  run_makes n (plan.limit_parts id remote output m count input) own w source steps at r fits reads =
-      let t = r.2 in
-      let root_at = at_pipe layout t.at t.root.pipe t.root.is in
-      let m2 = run_makes m input t.at t.root.pipe.drivers t.root.pipe.source t.root.so.1.0 root_at t.root.so.1.2 fits reads in
-      reads_root own source steps t.number (λ place. IsWithin layout place n (plan.limit_parts id remote output m count input) own w source steps r) t.is
-      (one_step own steps (form.limit id count) r.1 tt)
-      (half_root m input (limit count) own source output t (λ place. IsWithin layout place m input t.at t.root.pipe.drivers t.root.pipe.source t.root.so.1.0 t.root.so.1.2) m2 tt)
+      reads_root own source steps t.number (λ place. IsWithin layout place n (plan.halves id remote output m half input) own w source steps r) t.is
+      (one_step own steps (final_step half id) r.1 (final_makes own half id input fits.0 fits.1 h))
+      (half_root m input half own source output t (λ place. IsWithin layout place m input t.at t.root.pipe.drivers t.root.pipe.source t.root.so.1.0 t.root.so.1.2) m2
+      (first_makes (types t.at).halved half t.root.so.0 input fits.0 fits.1))
   run_makes n (plan.union id left right) own w source steps at r fits reads =
       let plain = subst Plain (sym r.1) tt in
       let p = r.3.1 in

@@ -18,20 +18,20 @@ use Rattle.plan_trees.specs.declared.tree.Pair.{Pair}
 use Rattle.plan_trees.specs.TreeForms.{pair_view}
 use Rattle.plan_trees.specs.TreeTypes.{types_of}
 use Rattle.plan_run_laws.specs.Nets.{of_tasks}
-use Rattle.plan_run_laws.specs.Nets as stage
-use Rattle.pipe_laws.specs.Pipelines.{NodeStage, at_node}
+use Rattle.plan_run_laws.specs.Stages as stage
+use Rattle.driver_net_laws.specs.Pipelines.{NodeStage, at_node}
 use Rattle.plan_run_laws.specs.RunPlans.{RunPlan, tree_of_run}
 use Rattle.plan_run_laws.specs.RunPlans as plan
-use Rattle.pipe_laws.specs.Lookups.{IsSourceOf, rows_known}
+use Rattle.driver_net_laws.specs.Lookups.{IsSourceOf, rows_known}
 use Rattle.driver_loop.specs.Drivers.{DriverState, IsBuiltAs}
 use Rattle.driver_loop.specs.Ends.{has_ended, was_given}
 use Rattle.driver_loop.specs.Turns.{note_of_stage, note_of_target}
 use Rattle.driver_loop.specs.contracts.stage.StageOperator.TheImpl.{ghosts}
 use Rattle.driver_loop.specs.declared.pieces.CellNote.{CellNote}
 use Rattle.driver_loop.specs.declared.stage.Stage.{Stage}
-use Rattle.driver_loop.specs.declared.stage.Stage.TheVariants.{Dynamic, Filter, Final, Limit, Partial, Probe, Single, Sort, TopN}
-use Rattle.pipe_laws.specs.Lanes.{Noted, first_note, other_notes}
-use Rattle.pipe_laws.specs.Pipes.{PipeState}
+use Rattle.driver_loop.specs.declared.stage.Stage.TheVariants.{Probe}
+use Rattle.driver_net_laws.specs.Lanes.{Noted, first_note, other_notes}
+use Rattle.driver_net_laws.specs.Pipes.{PipeState}
 use Rattle.driver_net_laws.specs.Stages.{IsProbeOf}
 use Rattle.driver_net_laws.specs.Cells.{LearnedFrom, cell_of}
 use Rattle.driver_net_laws.specs.Made.{AreMadeFor, Behind, KnowSources, note_known, notes_known}
@@ -58,30 +58,16 @@ record IsProbe (s : Stage) (op : ProbeState) (types : List SqlType) : Type 0 whe
   made : probe_ghosts.as_made raw ≡ op
 
 probe_raw : (s : Stage) (op : ProbeState) (types : List SqlType) → ghosts.as_made s ≡ Probe op types → IsProbe s op types
-probe_raw (Filter f) op types same = absurd cc
-probe_raw (Limit l ts) op types same = absurd cc
-probe_raw (Sort s) op types same = absurd cc
-probe_raw (TopN s) op types same = absurd cc
-probe_raw (Single s) op types same = absurd cc
-probe_raw (Partial s) op types same = absurd cc
-probe_raw (Final s) op types same = absurd cc
-probe_raw (Dynamic d ts) op types same = absurd cc
 probe_raw (Probe raw ts) op types same =
     let own : ts ≡ types = cc in
     let made : probe_ghosts.as_made raw ≡ op = cc in
     record { raw = raw; is = ap (λ (t : List SqlType). Probe raw t) own; made = made }
+probe_raw s op types same = absurd cc
 
 -- a stage that looks into no cell of a join has no note of one
 no_note : (s : Stage) → cell_of (ghosts.as_made s) ≡ [] → note_known s ≡ []
-no_note (Filter f) apart = refl
-no_note (Limit l ts) apart = refl
-no_note (Sort s) apart = refl
-no_note (TopN s) apart = refl
-no_note (Single s) apart = refl
-no_note (Partial s) apart = refl
-no_note (Final s) apart = refl
 no_note (Probe raw ts) apart = absurd cc
-no_note (Dynamic d ts) apart = refl
+no_note s apart = refl
 
 -- the notes of the last stage come first
 notes-snoc : (before : List Stage) (last : Stage) → notes_known (before ++ last ∷ []) ≡ note_known last ++ notes_known before
@@ -105,16 +91,9 @@ module _ (Of : RunPlan → ℕ → Noted → Type 0) (layout : List PipeForm) wh
   AlongLane n (plan.scan id table columns types) own w source steps r notes = Unit {0}
   AlongLane n (plan.values id types list) own w source steps r notes = Unit {0}
   AlongLane n (plan.remote id output m input) own w source steps r notes = Unit {0}
-  AlongLane n (plan.filter id predicate input) own w source steps r notes = AlongLane n input own w source r.0 r.2 notes
-  AlongLane n (plan.project id columns input) own w source steps r notes = AlongLane n input own w source r.0 r.2 notes
+  AlongLane n (plan.step id s input) own w source steps r notes = AlongLane n input own w source r.1.0 r.1.2 notes
   AlongLane n (plan.join id kind on left right) own w source steps r notes = Of right r.0 notes × AlongLane n left own w source r.4.0 r.4.2 (other_notes notes)
-  AlongLane n (plan.aggregate id keys calls input) own w source steps r notes = AlongLane n input own w source r.1.0 r.1.2 notes
-  AlongLane n (plan.aggregate_parts id remote output m keys calls input) own w source steps r notes = Unit {0}
-  AlongLane n (plan.sort id keys input) own w source steps r notes = AlongLane n input own w source r.1.0 r.1.2 notes
-  AlongLane n (plan.topn id count keys input) own w source steps r notes = AlongLane n input own w source r.1.0 r.1.2 notes
-  AlongLane n (plan.topn_parts id remote output m count keys input) own w source steps r notes = Unit {0}
-  AlongLane n (plan.limit id count input) own w source steps r notes = AlongLane n input own w source r.1.0 r.1.2 notes
-  AlongLane n (plan.limit_parts id remote output m count input) own w source steps r notes = Unit {0}
+  AlongLane n (plan.halves id remote output m h input) own w source steps r notes = Unit {0}
   AlongLane n (plan.union id left right) own w source steps r notes = Unit {0}
 
 -- and where it is said of each driver
@@ -127,17 +106,10 @@ module _ (Of : ℕ → RunPlan → ℕ → Noted → Type 0) (layout : List Pipe
   along_all (plan.scan id table columns types) own w source steps r notes each = tt
   along_all (plan.values id types list) own w source steps r notes each = tt
   along_all (plan.remote id output m input) own w source steps r notes each = tt
-  along_all (plan.filter id predicate input) own w source steps r notes each = along_all input own w source r.0 r.2 notes each
-  along_all (plan.project id columns input) own w source steps r notes each = along_all input own w source r.0 r.2 notes each
+  along_all (plan.step id s input) own w source steps r notes each = along_all input own w source r.1.0 r.1.2 notes each
   along_all (plan.join id kind on left right) own w source steps r notes each =
       ((λ k d in_task in_lane. (each k d in_task in_lane).0), along_all left own w source r.4.0 r.4.2 (λ k d. other_notes (notes k d)) (λ k d in_task in_lane. (each k d in_task in_lane).1))
-  along_all (plan.aggregate id keys calls input) own w source steps r notes each = along_all input own w source r.1.0 r.1.2 notes each
-  along_all (plan.aggregate_parts id remote output m keys calls input) own w source steps r notes each = tt
-  along_all (plan.sort id keys input) own w source steps r notes each = along_all input own w source r.1.0 r.1.2 notes each
-  along_all (plan.topn id count keys input) own w source steps r notes each = along_all input own w source r.1.0 r.1.2 notes each
-  along_all (plan.topn_parts id remote output m count keys input) own w source steps r notes each = tt
-  along_all (plan.limit id count input) own w source steps r notes each = along_all input own w source r.1.0 r.1.2 notes each
-  along_all (plan.limit_parts id remote output m count input) own w source steps r notes each = tt
+  along_all (plan.halves id remote output m h input) own w source steps r notes each = tt
   along_all (plan.union id left right) own w source steps r notes each = tt
 
 abbrev look_of : ProbeState → CellNote
@@ -214,21 +186,14 @@ module _ (net : NetForm) (drivers : List DriverState) (of : AreDriversOf net dri
   knows n (plan.scan id table columns types) own w source steps r notes typed task lt d there = tt
   knows n (plan.values id types list) own w source steps r notes typed task lt d there = tt
   knows n (plan.remote id output m input) own w source steps r notes typed task lt d there = tt
-  knows n (plan.filter id predicate input) own w source steps r notes typed task lt d there = knows n input own w source r.0 r.2 notes typed task lt d there
-  knows n (plan.project id columns input) own w source steps r notes typed task lt d there = knows n input own w source r.0 r.2 notes typed task lt d there
+  knows n (plan.step id s input) own w source steps r notes typed task lt d there = knows n input own w source r.1.0 r.1.2 notes typed task lt d there
   knows n (plan.join id kind on left right) own w source steps r notes typed task lt d there = (
     (λ op types is rings x known.
         source_of n r.0 r.1 on right r.3 r.2.pairs task lt x
         (built_by n r.0 r.1 (RunsAs net.layout n right) r.3 task lt op (looked d op types there is) rings x known) typed.0),
     knows n left own w source r.4.0 r.4.2 (λ k e. other_notes (notes k e)) typed.1 task lt d there,
   )
-  knows n (plan.aggregate id keys calls input) own w source steps r notes typed task lt d there = knows n input own w source r.1.0 r.1.2 notes typed task lt d there
-  knows n (plan.aggregate_parts id remote output m keys calls input) own w source steps r notes typed task lt d there = tt
-  knows n (plan.sort id keys input) own w source steps r notes typed task lt d there = knows n input own w source r.1.0 r.1.2 notes typed task lt d there
-  knows n (plan.topn id count keys input) own w source steps r notes typed task lt d there = knows n input own w source r.1.0 r.1.2 notes typed task lt d there
-  knows n (plan.topn_parts id remote output m count keys input) own w source steps r notes typed task lt d there = tt
-  knows n (plan.limit id count input) own w source steps r notes typed task lt d there = knows n input own w source r.1.0 r.1.2 notes typed task lt d there
-  knows n (plan.limit_parts id remote output m count input) own w source steps r notes typed task lt d there = tt
+  knows n (plan.halves id remote output m h input) own w source steps r notes typed task lt d there = tt
   knows n (plan.union id left right) own w source steps r notes typed task lt d there = tt
 
   -- where the first note of a driver in the task knows rows, the drivers of the right side are done there, and gave these
@@ -291,31 +256,14 @@ module _ (net : NetForm) (drivers : List DriverState) (of : AreDriversOf net dri
   follow n (plan.scan id table columns kinds) own w source steps r task lt d there stages types are e = tt
   follow n (plan.values id kinds list) own w source steps r task lt d there stages types are e = tt
   follow n (plan.remote id output m input) own w source steps r task lt d there stages types are e = tt
-  follow n (plan.filter id predicate input) own w source steps r task lt d there stages types are e =
-      behind n input own w source r.0 r.2 task d (at_node id (stage.filter (types_of (tree_of_run input)) predicate)) stages types e
-      (follow n input own w source r.0 r.2 task lt d there e.before e.between (before_of d stages e.before e.last e.are are) e.input)
-  follow n (plan.project id columns input) own w source steps r task lt d there stages types are e =
-      behind n input own w source r.0 r.2 task d (at_node id (stage.project (types_of (tree_of_run input)) columns)) stages types e
-      (follow n input own w source r.0 r.2 task lt d there e.before e.between (before_of d stages e.before e.last e.are are) e.input)
+  follow n (plan.step id s input) own w source steps r task lt d there stages types are e =
+      behind n input own w source r.1.0 r.1.2 task d (at_node id (stage.does (types_of (tree_of_run input)) s)) stages types e
+      (follow n input own w source r.1.0 r.1.2 task lt d there e.before e.between (before_of d stages e.before e.last e.are are) e.input)
   follow n (plan.join id kind on left right) own w source steps r task lt d there stages types are e =
       let (noted, is_note, same) = joined n r.0 kind r.1 on (RunsAs net.layout n right) r.3 task lt d there (types_of (tree_of_run right)) e.between types e.last (last_of d stages e.before e.last e.are are) e.is in
       let notes : noted ∷ notes_known e.before ≡ notes_known stages =
       sym (ap notes_known e.are ∙ notes-snoc e.before e.last ∙ ap (λ (ns : Noted). ns ++ notes_known e.before) is_note) in
       subst (AlongLane (FollowsIn task) net.layout n (plan.join id kind on left right) own w source steps r) notes
       (same, follow n left own w source r.4.0 r.4.2 task lt d there e.before e.between (before_of d stages e.before e.last e.are are) e.input)
-  follow n (plan.aggregate id keys calls input) own w source steps r task lt d there stages types are e =
-      behind n input own w source r.1.0 r.1.2 task d (at_node id (stage.grouping (types_of (tree_of_run input)) keys calls)) stages types e
-      (follow n input own w source r.1.0 r.1.2 task lt d there e.before e.between (before_of d stages e.before e.last e.are are) e.input)
-  follow n (plan.aggregate_parts id remote output m keys calls input) own w source steps r task lt d there stages types are e = tt
-  follow n (plan.sort id keys input) own w source steps r task lt d there stages types are e =
-      behind n input own w source r.1.0 r.1.2 task d (at_node id (stage.sort keys)) stages types e
-      (follow n input own w source r.1.0 r.1.2 task lt d there e.before e.between (before_of d stages e.before e.last e.are are) e.input)
-  follow n (plan.topn id count keys input) own w source steps r task lt d there stages types are e =
-      behind n input own w source r.1.0 r.1.2 task d (at_node id (stage.topn count keys)) stages types e
-      (follow n input own w source r.1.0 r.1.2 task lt d there e.before e.between (before_of d stages e.before e.last e.are are) e.input)
-  follow n (plan.topn_parts id remote output m count keys input) own w source steps r task lt d there stages types are e = tt
-  follow n (plan.limit id count input) own w source steps r task lt d there stages types are e =
-      behind n input own w source r.1.0 r.1.2 task d (at_node id (stage.limit count)) stages types e
-      (follow n input own w source r.1.0 r.1.2 task lt d there e.before e.between (before_of d stages e.before e.last e.are are) e.input)
-  follow n (plan.limit_parts id remote output m count input) own w source steps r task lt d there stages types are e = tt
+  follow n (plan.halves id remote output m h input) own w source steps r task lt d there stages types are e = tt
   follow n (plan.union id left right) own w source steps r task lt d there stages types are e = tt

@@ -25,19 +25,11 @@ plain_sides : (s : Site) (own next : ℕ) (n : NodeForm) → Each IsPlain (sides
 plain_sides s own next (node.scan id place columns types) = tt
 plain_sides s own next (node.values id types list) = tt
 plain_sides s own next (node.remote id number) = tt
-plain_sides s own next (node.filter id predicate input) = plain_sides s own next input
-plain_sides s own next (node.project id columns input) = plain_sides s own next input
+plain_sides s own next (node.step id operator input) = plain_sides s own next input
 plain_sides s own next (node.join id kind on filters left right) =
     let at = next + side_count left in
     each_join IsPlain (sides_of s own next left) (pipes_of s at (built_for id on filters) right) (plain_sides s own next left)
     (stays s (at + 1) (built_for id on filters) right refl, plain_sides s at (at + 1) right)
-plain_sides s own next (node.aggregate id step keys calls input) = plain_sides s own next input
-plain_sides s own next (node.aggregate_final id input) = plain_sides s own next input
-plain_sides s own next (node.sort id keys input) = plain_sides s own next input
-plain_sides s own next (node.top_n id step count keys input) = plain_sides s own next input
-plain_sides s own next (node.top_n_final id input) = plain_sides s own next input
-plain_sides s own next (node.limit id step count input) = plain_sides s own next input
-plain_sides s own next (node.limit_final id input) = plain_sides s own next input
 plain_sides s own next (node.union id left right) =
     let at = next + 1 + side_count left in
     each_join IsPlain (pipes_of s next (side own) left) (pipes_of s at (side own) right)

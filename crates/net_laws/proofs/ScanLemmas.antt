@@ -20,16 +20,8 @@ own_scan : (n : NodeForm) → IsOwnScan (source_of n) (scan_read n)
 own_scan (node.scan id place columns types) = tt
 own_scan (node.values id types list) = refl
 own_scan (node.remote id number) = refl
-own_scan (node.filter id predicate input) = own_scan input
-own_scan (node.project id columns input) = own_scan input
+own_scan (node.step id operator input) = own_scan input
 own_scan (node.join id kind on filters left right) = own_scan left
-own_scan (node.aggregate id step keys calls input) = own_scan input
-own_scan (node.aggregate_final id input) = own_scan input
-own_scan (node.sort id keys input) = own_scan input
-own_scan (node.top_n id step count keys input) = own_scan input
-own_scan (node.top_n_final id input) = own_scan input
-own_scan (node.limit id step count input) = own_scan input
-own_scan (node.limit_final id input) = own_scan input
 own_scan (node.union id left right) = refl
 
 all_scans : (p : Parallelism) (fragments : List FragmentForm) (fs : List FragmentForm) (number : ℕ) (done : List PipeForm) → Each HasOwnScan done

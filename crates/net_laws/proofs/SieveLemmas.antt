@@ -9,7 +9,7 @@ use Rattle.sql_values.specs.declared.types.SqlType.{SqlType}
 use Rattle.plan_docs.specs.declared.node.DynamicFilter.{DynamicFilter}
 use Rattle.plan_trees.specs.TreeForms.{pair_view}
 use Rattle.plan_run_laws.specs.RunPlans.{RunPlan}
-use Rattle.pipe_laws.specs.Pipes.{PipeState, stopped}
+use Rattle.driver_net_laws.specs.Pipes.{PipeState, stopped}
 use Rattle.dyn_filter.specs.declared.domain.Domain.{Domain}
 use Rattle.dyn_filter.specs.Cells.{IsNoteOf, NotesState}
 use Rattle.dyn_filter.specs.Filters.{FilterState}
@@ -22,9 +22,9 @@ use Rattle.lost_row_laws.specs.Domains.{sieve_of}
 use Rattle.lost_row_laws.specs.Runs.{AreTyped}
 use Rattle.lost_row_laws.specs.Sieves.{Sieve}
 use Rattle.lost_row_laws.specs.Stops.{AreSure}
-use Rattle.sieve_laws.specs.KnownDomains.{JoinFilter, sieves_of}
-use Rattle.sieve_laws.proofs.ComingLemmas.{arriving_comes_down, own_arrives}
-use Rattle.sieve_laws.proofs.SureLemmas.{has_sieve, sure}
+use Rattle.filter_plan_laws.specs.KnownDomains.{JoinFilter, sieves_of}
+use Rattle.filter_plan_laws.proofs.ComingLemmas.{arriving_comes_down, own_arrives}
+use Rattle.filter_plan_laws.proofs.SureLemmas.{has_sieve, sure}
 use Rattle.plan_layout.specs.declared.filters.PlacedFilter.{PlacedFilter}
 use Rattle.plan_layout.specs.Filters.{Builds, IsPlaced, filters_built, scan_filters}
 use Rattle.plan_layout.specs.Pipes.{BuildForm, PipeForm, SourceForm, StepForm, TargetForm, cell, driver_number, readers, result, side, takers}

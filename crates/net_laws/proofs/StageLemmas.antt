@@ -1,25 +1,29 @@
 -- The stages of a driver whose pipe runs a plan were made for the nodes of that plan.
 use Rattle.std.proofs.Common.{◌≡◌, ℕ, List, [], ◌∷◌, ◌++◌, length, refl, ap, subst}
 use Rattle.sql_values.specs.declared.types.SqlType.{SqlType}
+use Rattle.plan_trees.specs.Steps as steps_of
 use Rattle.plan_trees.specs.TreeTypes.{types_of}
-use Rattle.plan_run_laws.specs.Nets as stage
+use Rattle.plan_run_laws.specs.Stages.{second_half}
+use Rattle.plan_run_laws.specs.Stages as stage
 use Rattle.plan_run_laws.specs.RunPlans.{RunPlan, tree_of_run}
 use Rattle.plan_run_laws.specs.RunPlans as plan
-use Rattle.pipe_laws.specs.Pipelines.{NodeStage, at_node}
+use Rattle.driver_net_laws.specs.Pipelines.{NodeStage, at_node}
 use Rattle.plan_trees.specs.Layouts.{partial_types}
-use Rattle.pipe_laws.specs.Operators.{NoOperator}
+use Rattle.driver_net_laws.specs.Operators.{NoOperator}
 use Rattle.driver_loop.specs.declared.stage.Stage.{Stage}
 use Rattle.driver_loop.specs.contracts.stage.StageOperator.TheImpl.{ghosts}
 use Rattle.driver_net_laws.specs.Made.{AreMadeFor, Behind}
 use Rattle.driver_net_laws.specs.Stages.{IsProbeOf, IsStageOf}
 use Rattle.plan_layout.specs.Pipes.{SourceForm, StepForm}
 use Rattle.plan_layout.specs.Pipes as form
-use Rattle.layout_laws.specs.RunPipes.{Into, RunsAs}
+use Rattle.layout_laws.specs.RunPipes.{Into, RunsAs, final_step}
 use Rattle.driver_net_laws.specs.Nets.{AreStagesFor, IsStageFor, NetForm}
 use Rattle.driver_net_laws.specs.Types.{PipesAreTyped, types_after, types_through}
 use Rattle.net_laws.specs.Along.{bells_in}
-use Rattle.net_laws.specs.Halves.{Half, half_stage, half_step, half_types, limit, partial, top_n}
-use Rattle.net_laws.proofs.TypeLemmas.{IsAt, are_through, at_pipe, halved_by, runs_typed, through}
+use Rattle.plan_run_laws.specs.HalvedSteps.{HalvedForm, whole_step}
+use Rattle.plan_run_laws.specs.HalvedSteps as halved_form
+use Rattle.net_laws.specs.Halves.{half_stage, half_step, half_types}
+use Rattle.net_laws.proofs.TypeLemmas.{IsAt, IsHalved, are_through, at_pipe, halved_by, runs_typed, through}
 
 module _ (net : NetForm) (task : ℕ) where
   -- the stage of the last step stands behind those of the others
@@ -81,20 +85,27 @@ module _ (net : NetForm) (task : ℕ) where
         let r = stages-snoc (net.types own).halved [] step (net.types own).taken stages (subst (λ (ss : List StepForm). AreFor own ss stages) are all) in
         record { before = r.before; last = r.last; between = types; are = r.are; input = (r.fronts, refl); is = of (ghosts.as_made r.last) r.is }
 
+    -- so it is of the second half of a step, over the rows of the first one
+    final_is : (own : ℕ) (run : RunPlan) (half : HalvedForm) (id : ℕ) (made : Stage) → IsHalved net.layout net.types typed own run half
+        → IsStageFor net task (net.types own).halved (final_step half id) (net.types own).taken (types_after net.types (net.types own).halved (final_step half id) (net.types own).taken) made
+        → IsStageOf (at_node id (second_half (types_of (tree_of_run run)) half)) (half_types half (types_of (tree_of_run run))) (steps_of.types_after (whole_step half) (types_of (tree_of_run run))) made
+    final_is own run (halved_form.aggregate keys calls) id made h is =
+        subst (λ (ts : List SqlType). IsStageOf (at_node id (stage.final ts (length keys) calls)) (partial_types (types_of (tree_of_run run)) keys calls)
+        (types_after net.types ts (form.final id keys calls) (partial_types (types_of (tree_of_run run)) keys calls)) made) h.halved
+        (subst (λ (ts : List SqlType). IsStageOf (at_node id (stage.final (net.types own).halved (length keys) calls)) ts
+        (types_after net.types (net.types own).halved (form.final id keys calls) ts) made) h.taken is)
+    final_is own run half id made h is = subst (λ (ts : List SqlType). IsStageOf (at_node id (stage.does ts (whole_step half))) ts ts made) h.taken is
+
     pub are_made : (n : ℕ) (run : RunPlan) (own w : ℕ) (source : SourceForm) (steps : List StepForm) (stages : List Stage) → IsAt net.layout own source
         → (r : RunsAs net.layout n run own w source steps) → AreFor own steps stages
         → AreMadeFor net.links.names run (bells_in net.links task net.layout n run own w source steps r) stages (types_of (tree_of_run run))
     are_made n (plan.scan id place columns kinds) own w source steps stages at r all = (no_stage own steps stages r.1 all, refl)
     are_made n (plan.values id kinds list) own w source steps stages at r all = (no_stage own steps stages r.2 all, refl)
     are_made n (plan.remote id output m input) own w source steps stages at r all = (no_stage own steps stages r.0 all, refl)
-    are_made n (plan.filter id predicate input) own w source steps stages at r all =
-        let a = are_through net.layout net.types typed n input own w source r.0 at r.2 in
-        let s = last_stage own input (form.filter id predicate) r.0 steps stages r.1 a.given all in
-        record { before = s.before; last = s.last; between = types_of (tree_of_run input); are = s.are; input = are_made n input own w source r.0 s.before at r.2 s.fronts; is = s.is }
-    are_made n (plan.project id columns input) own w source steps stages at r all =
-        let a = are_through net.layout net.types typed n input own w source r.0 at r.2 in
-        let s = last_stage own input (form.project id columns) r.0 steps stages r.1 a.given all in
-        record { before = s.before; last = s.last; between = types_of (tree_of_run input); are = s.are; input = are_made n input own w source r.0 s.before at r.2 s.fronts; is = s.is }
+    are_made n (plan.step id does input) own w source steps stages at r all =
+        let a = are_through net.layout net.types typed n input own w source r.1.0 at r.1.2 in
+        let s = last_stage own input (form.does id does) r.1.0 steps stages r.1.1 a.given all in
+        record { before = s.before; last = s.last; between = types_of (tree_of_run input); are = s.are; input = are_made n input own w source r.1.0 s.before at r.1.2 s.fronts; is = s.is }
     are_made n (plan.join id kind on left right) own w source steps stages at (j, build, same, p, (rest, are, so)) all =
         let a = are_through net.layout net.types typed n left own w source rest at so in
         let s = last_stage own left (form.probe id kind build.on j) rest steps stages are a.given all in
@@ -109,54 +120,25 @@ module _ (net : NetForm) (task : ℕ) where
               (subst (λ (ps : List (ℕ × ℕ)). IsProbeOf net.links.names (net.links.cells j task) kind ps (net.types j).given (types_of (tree_of_run left))
               (types_of (tree_of_run left) ++ (net.types j).given) (ghosts.as_made s.last)) same.pairs s.is);
         }
-    are_made n (plan.aggregate id keys calls input) own w source steps stages at r all =
-        let a = are_through net.layout net.types typed n input own w source r.1.0 at r.1.2 in
-        let s = last_stage own input (form.aggregate id keys calls) r.1.0 steps stages r.1.1 a.given all in
-        record { before = s.before; last = s.last; between = types_of (tree_of_run input); are = s.are; input = are_made n input own w source r.1.0 s.before at r.1.2 s.fronts; is = s.is }
-    are_made n (plan.aggregate_parts id remote output m keys calls input) own w source steps stages at r all =
-        let a = are_through net.layout net.types typed n (plan.aggregate_parts id remote output m keys calls input) own w source steps at r in
+    are_made n (plan.halves id remote output m half input) own w source steps stages at r all =
         let t = r.2 in
         let root = are_through net.layout net.types typed m input t.at t.root.pipe.drivers t.root.pipe.source t.root.so.1.0 (at_pipe net.layout t.at t.root.pipe t.root.is) t.root.so.1.2 in
-        let h = halved_by net.layout net.types typed m input (partial keys calls) own source output at t root in
-        alone own (form.final id keys calls) steps stages (at_node id (stage.final (types_of (tree_of_run input)) (length keys) calls))
-        (partial_types (types_of (tree_of_run input)) keys calls) (types_of (tree_of_run (plan.aggregate_parts id remote output m keys calls input))) r.1 h.taken
-        (λ made is. subst (λ (ts : List SqlType). IsStageOf (at_node id (stage.final ts (length keys) calls)) (partial_types (types_of (tree_of_run input)) keys calls)
-        (types_after net.types ts (form.final id keys calls) (partial_types (types_of (tree_of_run input)) keys calls)) made) h.halved
-        (subst (λ (ts : List SqlType). IsStageOf (at_node id (stage.final (net.types own).halved (length keys) calls)) ts
-        (types_after net.types (net.types own).halved (form.final id keys calls) ts) made) h.taken is)) all
-    are_made n (plan.sort id keys input) own w source steps stages at r all =
-        let a = are_through net.layout net.types typed n input own w source r.1.0 at r.1.2 in
-        let s = last_stage own input (form.sort id keys) r.1.0 steps stages r.1.1 a.given all in
-        record { before = s.before; last = s.last; between = types_of (tree_of_run input); are = s.are; input = are_made n input own w source r.1.0 s.before at r.1.2 s.fronts; is = s.is }
-    are_made n (plan.topn id count keys input) own w source steps stages at r all =
-        let a = are_through net.layout net.types typed n input own w source r.1.0 at r.1.2 in
-        let s = last_stage own input (form.top_n id count keys) r.1.0 steps stages r.1.1 a.given all in
-        record { before = s.before; last = s.last; between = types_of (tree_of_run input); are = s.are; input = are_made n input own w source r.1.0 s.before at r.1.2 s.fronts; is = s.is }
-    are_made n (plan.topn_parts id remote output m count keys input) own w source steps stages at r all =
-        let a = are_through net.layout net.types typed n (plan.topn_parts id remote output m count keys input) own w source steps at r in
-        alone own (form.top_n id count keys) steps stages (at_node id (stage.topn count keys)) (types_of (tree_of_run input)) (types_of (tree_of_run input)) r.1 a.taken
-        (λ made is. subst (λ (ts : List SqlType). IsStageOf (at_node id (stage.topn count keys)) ts ts made) a.taken is) all
-    are_made n (plan.limit id count input) own w source steps stages at r all =
-        let a = are_through net.layout net.types typed n input own w source r.1.0 at r.1.2 in
-        let s = last_stage own input (form.limit id count) r.1.0 steps stages r.1.1 a.given all in
-        record { before = s.before; last = s.last; between = types_of (tree_of_run input); are = s.are; input = are_made n input own w source r.1.0 s.before at r.1.2 s.fronts; is = s.is }
-    are_made n (plan.limit_parts id remote output m count input) own w source steps stages at r all =
-        let a = are_through net.layout net.types typed n (plan.limit_parts id remote output m count input) own w source steps at r in
-        alone own (form.limit id count) steps stages (at_node id (stage.limit count)) (types_of (tree_of_run input)) (types_of (tree_of_run input)) r.1 a.taken
-        (λ made is. subst (λ (ts : List SqlType). IsStageOf (at_node id (stage.limit count)) ts ts made) a.taken is) all
+        let h = halved_by net.layout net.types typed m input half own source output at t root in
+        let types = types_of (tree_of_run input) in
+        alone own (final_step half id) steps stages (at_node id (second_half types half)) (half_types half types) (steps_of.types_after (whole_step half) types) r.1 h.taken
+        (λ made is. final_is own input half id made h is) all
     are_made n (plan.union id left right) own w source steps stages at r all = (no_stage own steps stages r.2 all, refl)
 
-    half_is : (halved : List SqlType) (half : Half) (id : ℕ) (between : List SqlType) (made : Stage)
+    half_is : (halved : List SqlType) (half : HalvedForm) (id : ℕ) (between : List SqlType) (made : Stage)
         → IsStageFor net task halved (half_step half id) between (types_after net.types halved (half_step half id) between) made
-        → IsStageOf (at_node id (half_stage half)) between (half_types half between) made
-    half_is halved (partial keys calls) id between made is = is
-    half_is halved (top_n count keys) id between made is = is
-    half_is halved (limit count) id between made is = is
+        → IsStageOf (at_node id (half_stage half between)) between (half_types half between) made
+    half_is halved (halved_form.aggregate keys calls) id between made is = is
+    half_is halved half id between made is = is
 
     -- with the first half of an operator behind them
-    pub halves_made : (n : ℕ) (run : RunPlan) (half : Half) (own w : ℕ) (source : SourceForm) (steps : List StepForm) (stages : List Stage) → IsAt net.layout own source
+    pub halves_made : (n : ℕ) (run : RunPlan) (half : HalvedForm) (own w : ℕ) (source : SourceForm) (steps : List StepForm) (stages : List Stage) → IsAt net.layout own source
         → (r : Into (half_step half) (RunsAs net.layout n run) own w source steps) → AreFor own steps stages
-        → Behind (AreMadeFor net.links.names run (bells_in net.links task net.layout n run own w source r.1.0 r.1.2)) (at_node r.0 (half_stage half)) stages
+        → Behind (AreMadeFor net.links.names run (bells_in net.links task net.layout n run own w source r.1.0 r.1.2)) (at_node r.0 (half_stage half (types_of (tree_of_run run)))) stages
         (half_types half (types_of (tree_of_run run)))
     halves_made n run half own w source steps stages at r all =
         let a = are_through net.layout net.types typed n run own w source r.1.0 at r.1.2 in

@@ -10,25 +10,26 @@ use Rattle.bag_laws.specs.Gather.{gather}
 use Rattle.std.proofs.lemmas.List.Elements.{All-append}
 use Rattle.sql_values.specs.ColumnRows.{fits_row}
 use Rattle.plan_docs.specs.declared.plan.Output.{Output}
-use Rattle.sql_exprs.specs.Calm.{is_calm}
 use Rattle.plan_trees.specs.Allowed.{scanned, width_of}
 use Rattle.plan_trees.specs.TreeTypes.{types_of}
-use Rattle.column_origins.specs.Origins.{left_column, passed_column}
+use Rattle.column_origins.specs.Origins.{left_column}
+use Rattle.plan_trees.specs.Steps.{StepForm as StepOf}
 use Rattle.plan_run_laws.specs.Nets.{IsAlone, of_tasks}
+use Rattle.plan_run_laws.specs.Stages.{MayHave}
 use Rattle.plan_run_laws.specs.RunPlans.{RunPlan, tree_of_run}
 use Rattle.plan_run_laws.specs.RunPlans as plan
 use Rattle.plan_run_laws.specs.Runs.{sent}
 use Rattle.plan_run_laws.specs.Stops.{AllSet, PassedSoFar, TookOf}
 use Rattle.tree_evaluator.specs.Fits.{FitsTables}
-use Rattle.pipe_laws.specs.Pipelines.{at_node}
+use Rattle.driver_net_laws.specs.Pipelines.{at_node}
 use Rattle.driver_loop.specs.Drivers.{DriverState}
 use Rattle.driver_loop.specs.contracts.stage.StageOperator.TheImpl.{ghosts}
 use Rattle.driver_loop.specs.declared.stage.Stage.{Stage}
-use Rattle.pipe_laws.specs.Lanes.{Noted, other_notes}
-use Rattle.pipe_laws.specs.Pipes.{GaveTyped, IsHalfPipeOf, PipeState, TookTyped, stopped}
-use Rattle.lost_row_laws.specs.Sieves.{Sieve, if_calm, over_input}
-use Rattle.sieve_laws.specs.ComingDown.{ComeDown}
-use Rattle.sieve_laws.specs.LosingPipes.{StandsLosing}
+use Rattle.driver_net_laws.specs.Lanes.{Noted, other_notes}
+use Rattle.driver_net_laws.specs.Pipes.{GaveTyped, IsHalfPipeOf, PipeState, TookTyped, stopped}
+use Rattle.lost_row_laws.specs.Sieves.{Sieve, over_input, under}
+use Rattle.filter_plan_laws.specs.ComingDown.{ComeDown}
+use Rattle.filter_plan_laws.specs.LosingPipes.{StandsLosing}
 use Rattle.plan_spreads.specs.Runs.{output_view}
 use Rattle.plan_layout.specs.Edges.{reads_fragment}
 use Rattle.plan_layout.specs.Pipes.{PipeForm, SourceForm, StepForm, TargetForm}
@@ -41,7 +42,8 @@ use Rattle.driver_net_laws.specs.Settled.{AreSettled}
 use Rattle.driver_net_laws.specs.States.{Flow, IsFlowOf, pipe_states_of, rows_taken_by, sources_ended}
 use Rattle.driver_net_laws.specs.Types.{gives_to}
 use Rattle.net_laws.specs.Along.{Along, Follows}
-use Rattle.net_laws.specs.Halves.{Half, half_stage, half_step, half_types, limit, partial, top_n}
+use Rattle.plan_run_laws.specs.HalvedSteps.{HalvedForm}
+use Rattle.net_laws.specs.Halves.{half_stage, half_step, half_types}
 use Rattle.net_laws.proofs.LaneLemmas.{follows, half_follows, halves, halves_give, lanes, lanes_give}
 use Rattle.net_laws.specs.Giving.{AreSides, IsGiver, IsPlainlyFetched, IsRoot}
 use Rattle.net_laws.specs.Takes.{AreDoneIn, TakesRoot, TakesRows, TakesSides, TakesTable}
@@ -181,9 +183,9 @@ module _ (net : NetForm) (drivers : List DriverState) (of : AreDriversOf net dri
   Sifts n run own w source steps r = Throughout (IsSifted net.layout drivers due) (IsSure P of_join) net.layout n run own w source steps r
 
   -- the first half of an operator stands behind the plan
-  record IsHalfStanding (n : ℕ) (run : RunPlan) (half : Half) (own : ℕ) (pipe : PipeForm)
+  record IsHalfStanding (n : ℕ) (run : RunPlan) (half : HalvedForm) (own : ℕ) (pipe : PipeForm)
       (r : Into (half_step half) (RunsAs net.layout n run) own pipe.drivers pipe.source pipe.steps) : Type 0 where
-    is : IsHalfPipeOf ghosts n run (at_node r.0 (half_stage half)) (P own)
+    is : IsHalfPipeOf ghosts n run (at_node r.0 (half_stage half (types_of (tree_of_run run)))) (P own)
     on : On [] n run own pipe.drivers pipe.source r.1.0 r.1.2 (P own).notes
     fits : GaveTyped (half_types half (types_of (tree_of_run run))) n (P own)
 
@@ -196,7 +198,7 @@ module _ (net : NetForm) (drivers : List DriverState) (of : AreDriversOf net dri
     gave = lanes_give net drivers of settled flow flowed n own pipe is tasks run r laws on.typed on.built;
   }
 
-  half_whole : (n : ℕ) (run : RunPlan) (half : Half) (own : ℕ) (pipe : PipeForm) → slice_get net.layout own ≡ Some pipe → pipe.tasks ≡ n
+  half_whole : (n : ℕ) (run : RunPlan) (half : HalvedForm) (own : ℕ) (pipe : PipeForm) → slice_get net.layout own ≡ Some pipe → pipe.tasks ≡ n
       → (r : Into (half_step half) (RunsAs net.layout n run) own pipe.drivers pipe.source pipe.steps) → On [] n run own pipe.drivers pipe.source r.1.0 r.1.2 (P own).notes
       → IsHalfStanding n run half own pipe r
   half_whole n run half own pipe is tasks r on = record {
@@ -207,6 +209,10 @@ module _ (net : NetForm) (drivers : List DriverState) (of : AreDriversOf net dri
 
   lone : (n own w : ℕ) (source : SourceForm) → IsIn net.layout n own w source → IsAlone w → IsAlone (P own).drivers
   lone n own w source o alone = ap (λ (p : PipeState Stage). p.drivers) (pipe_at net.layout drivers flow own o.pipe o.is) ∙ o.drivers ∙ alone
+
+  may : (n own w : ℕ) (source : SourceForm) (s : StepOf) → IsIn net.layout n own w source → MayHave s w → MayHave s (P own).drivers
+  may n own w source s o is =
+      subst (MayHave s) (sym (ap (λ (p : PipeState Stage). p.drivers) (pipe_at net.layout drivers flow own o.pipe o.is) ∙ o.drivers)) is
 
   -- what the pipe took of the root of a fragment
   passed : (n own w : ℕ) (source : SourceForm) (output : plan.Output) (m : ℕ) (Is : OfPipe) → IsIn net.layout n own w source → (t : Takes net.layout own source output m Is) → (run : RunPlan)
@@ -294,7 +300,7 @@ module _ (net : NetForm) (drivers : List DriverState) (of : AreDriversOf net dri
       }
 
   -- the types of what the second half takes
-  half_typed : (n own w : ℕ) (source : SourceForm) (output : plan.Output) (m : ℕ) (input : RunPlan) (half : Half) → IsIn net.layout n own w source
+  half_typed : (n own w : ℕ) (source : SourceForm) (output : plan.Output) (m : ℕ) (input : RunPlan) (half : HalvedForm) → IsIn net.layout n own w source
       → (t : Takes net.layout own source output m (Into (half_step half) (RunsAs net.layout m input))) → IsHalfStanding m input half t.at t.root.pipe t.root.so
       → TookTyped (half_types half (types_of (tree_of_run input))) n (P own)
   half_typed n own w source output m input half o t root =
@@ -311,12 +317,9 @@ module _ (net : NetForm) (drivers : List DriverState) (of : AreDriversOf net dri
       let on = stand sieves m input r.1.at p.pipe.drivers p.pipe.source p.pipe.steps p.so (P r.1.at).notes (in_it net.layout m r.1.at p.pipe p.is p.tasks) fits
       (follows net drivers of settled flow flowed m r.1.at p.pipe p.is p.tasks input p.so) down sifts in
       remote_on sieves n id output m input own w source steps r notes o (whole sieves m input r.1.at p.pipe p.is p.tasks p.so on)
-  stand sieves n (plan.filter id predicate input) own w source steps r notes o fits follow down sifts =
-      let on = stand (if_calm (is_calm (types_of (tree_of_run input)) predicate) sieves) n input own w source r.0 r.2 notes o fits.1 follow down sifts in
-      record { stands = on.stands; below = on.below; typed = on.typed; built = on.built }
-  stand sieves n (plan.project id columns input) own w source steps r notes o fits follow down sifts =
-      let on = stand (over_input (passed_column (types_of (tree_of_run input)) columns) sieves) n input own w source r.0 r.2 notes o fits.2 follow down sifts in
-      record { stands = on.stands; below = on.below; typed = on.typed; built = on.built }
+  stand sieves n (plan.step id s input) own w source steps r notes o fits follow down sifts =
+      let on = stand (under (types_of (tree_of_run input)) s sieves) n input own w source r.1.0 r.1.2 notes o fits.1 follow down sifts in
+      record { stands = (may n own w source s o r.0, on.stands); below = on.below; typed = on.typed; built = on.built }
   stand sieves n (plan.join id kind columns left right) own w source steps r notes o fits follow down sifts =
       let p = r.3 in
       let right_on = stand [] n right r.0 p.pipe.drivers p.pipe.source p.pipe.steps p.so.1 (P r.0).notes (in_it net.layout n r.0 p.pipe p.is p.tasks) fits.1
@@ -329,52 +332,16 @@ module _ (net : NetForm) (drivers : List DriverState) (of : AreDriversOf net dri
         typed = on.typed;
         built = (built.gave, on.built);
       }
-  stand sieves n (plan.aggregate id keys calls input) own w source steps r notes o fits follow down sifts =
-      let on = stand [] n input own w source r.1.0 r.1.2 notes o fits.2 follow down sifts in
-      record { stands = (lone n own w source o r.0, on.stands); below = on.below; typed = on.typed; built = on.built }
-  stand sieves n (plan.aggregate_parts id remote output m keys calls input) own w source steps r notes o fits follow down sifts =
+  stand sieves n (plan.halves id remote output m half input) own w source steps r notes o fits follow down sifts =
       let t = r.2 in
       let p = t.root in
-      let on = stand [] m input t.at p.pipe.drivers p.pipe.source p.so.1.0 p.so.1.2 (P t.at).notes (in_it net.layout m t.at p.pipe p.is p.tasks) fits.2
-      (half_follows net drivers of settled flow flowed m t.at p.pipe p.is p.tasks input (partial keys calls) p.so) down sifts in
-      let root = half_whole m input (partial keys calls) t.at p.pipe p.is p.tasks p.so on in
+      let on = stand [] m input t.at p.pipe.drivers p.pipe.source p.so.1.0 p.so.1.2 (P t.at).notes (in_it net.layout m t.at p.pipe p.is p.tasks) fits.1
+      (half_follows net drivers of settled flow flowed m t.at p.pipe p.is p.tasks input half p.so) down sifts in
+      let root = half_whole m input half t.at p.pipe p.is p.tasks p.so on in
       record {
-        stands = (t.at, p.so.0, lone n own w source o r.0, root.is, root.on.stands, passed n own w source output m (Into (half_step (partial keys calls)) (RunsAs net.layout m input)) o t input);
+        stands = (t.at, p.so.0, lone n own w source o r.0, root.is, root.on.stands, passed n own w source output m (Into (half_step half) (RunsAs net.layout m input)) o t input);
         below = λ place within. or_below (root.on.below place) within;
-        typed = half_typed n own w source output m input (partial keys calls) o t root;
-        built = tt;
-      }
-  stand sieves n (plan.sort id keys input) own w source steps r notes o fits follow down sifts =
-      let on = stand [] n input own w source r.1.0 r.1.2 notes o fits follow down sifts in
-      record { stands = (lone n own w source o r.0, on.stands); below = on.below; typed = on.typed; built = on.built }
-  stand sieves n (plan.topn id count keys input) own w source steps r notes o fits follow down sifts =
-      let on = stand [] n input own w source r.1.0 r.1.2 notes o fits follow down sifts in
-      record { stands = (lone n own w source o r.0, on.stands); below = on.below; typed = on.typed; built = on.built }
-  stand sieves n (plan.topn_parts id remote output m count keys input) own w source steps r notes o fits follow down sifts =
-      let t = r.2 in
-      let p = t.root in
-      let on = stand [] m input t.at p.pipe.drivers p.pipe.source p.so.1.0 p.so.1.2 (P t.at).notes (in_it net.layout m t.at p.pipe p.is p.tasks) fits
-      (half_follows net drivers of settled flow flowed m t.at p.pipe p.is p.tasks input (top_n count keys) p.so) down sifts in
-      let root = half_whole m input (top_n count keys) t.at p.pipe p.is p.tasks p.so on in
-      record {
-        stands = (t.at, p.so.0, lone n own w source o r.0, root.is, root.on.stands, passed n own w source output m (Into (half_step (top_n count keys)) (RunsAs net.layout m input)) o t input);
-        below = λ place within. or_below (root.on.below place) within;
-        typed = half_typed n own w source output m input (top_n count keys) o t root;
-        built = tt;
-      }
-  stand sieves n (plan.limit id count input) own w source steps r notes o fits follow down sifts =
-      let on = stand [] n input own w source r.1.0 r.1.2 notes o fits follow down sifts in
-      record { stands = (lone n own w source o r.0, on.stands); below = on.below; typed = on.typed; built = on.built }
-  stand sieves n (plan.limit_parts id remote output m count input) own w source steps r notes o fits follow down sifts =
-      let t = r.2 in
-      let p = t.root in
-      let on = stand [] m input t.at p.pipe.drivers p.pipe.source p.so.1.0 p.so.1.2 (P t.at).notes (in_it net.layout m t.at p.pipe p.is p.tasks) fits
-      (half_follows net drivers of settled flow flowed m t.at p.pipe p.is p.tasks input (limit count) p.so) down sifts in
-      let root = half_whole m input (limit count) t.at p.pipe p.is p.tasks p.so on in
-      record {
-        stands = (t.at, p.so.0, lone n own w source o r.0, root.is, root.on.stands, passed n own w source output m (Into (half_step (limit count)) (RunsAs net.layout m input)) o t input);
-        below = λ place within. or_below (root.on.below place) within;
-        typed = half_typed n own w source output m input (limit count) o t root;
+        typed = half_typed n own w source output m input half o t root;
         built = tt;
       }
   stand sieves n (plan.union id left right) own w source steps r notes o fits follow down sifts =

@@ -18,19 +18,10 @@ module _ (layout : List PipeForm) (Of : OfScan) (By : OfRight) (of : (id own : â
   throughout n (plan.scan id table columns types) own w source steps r = of id own r.2
   throughout n (plan.values id types list) own w source steps r = tt
   throughout n (plan.remote id output m input) own w source steps r = throughout m input r.1.at r.1.root.pipe.drivers r.1.root.pipe.source r.1.root.pipe.steps r.1.root.so
-  throughout n (plan.filter id predicate input) own w source steps r = throughout n input own w source r.0 r.2
-  throughout n (plan.project id columns input) own w source steps r = throughout n input own w source r.0 r.2
+  throughout n (plan.step id s input) own w source steps r = throughout n input own w source r.1.0 r.1.2
   throughout n (plan.join id kind on left right) own w source steps r =
       (by id on n right r.0 (r.1, r.2, r.3), throughout n right r.0 r.3.pipe.drivers r.3.pipe.source r.3.pipe.steps r.3.so.1, throughout n left own w source r.4.0 r.4.2)
-  throughout n (plan.aggregate id keys calls input) own w source steps r = throughout n input own w source r.1.0 r.1.2
-  throughout n (plan.aggregate_parts id remote output m keys calls input) own w source steps r =
-      throughout m input r.2.at r.2.root.pipe.drivers r.2.root.pipe.source r.2.root.so.1.0 r.2.root.so.1.2
-  throughout n (plan.sort id keys input) own w source steps r = throughout n input own w source r.1.0 r.1.2
-  throughout n (plan.topn id count keys input) own w source steps r = throughout n input own w source r.1.0 r.1.2
-  throughout n (plan.topn_parts id remote output m count keys input) own w source steps r =
-      throughout m input r.2.at r.2.root.pipe.drivers r.2.root.pipe.source r.2.root.so.1.0 r.2.root.so.1.2
-  throughout n (plan.limit id count input) own w source steps r = throughout n input own w source r.1.0 r.1.2
-  throughout n (plan.limit_parts id remote output m count input) own w source steps r =
+  throughout n (plan.halves id remote output m h input) own w source steps r =
       throughout m input r.2.at r.2.root.pipe.drivers r.2.root.pipe.source r.2.root.so.1.0 r.2.root.so.1.2
   throughout n (plan.union id left right) own w source steps r = (
     throughout n left r.3.0 r.3.1.pipe.drivers r.3.1.pipe.source r.3.1.pipe.steps r.3.1.so,

@@ -3,16 +3,19 @@ use Rattle.std.proofs.Common.{◌≡◌, ℕ, List, [], ◌∷◌, ◌++◌, Som
 use Rattle.std.specs.Prelude.{slice_get}
 use Rattle.std.proofs.lemmas.Bool.{eq-eqb}
 use Rattle.sql_values.specs.declared.types.SqlType.{SqlType}
+use Rattle.plan_trees.specs.Steps as steps_of
 use Rattle.plan_trees.specs.TreeTypes.{types_of}
+use Rattle.plan_run_laws.specs.HalvedSteps.{HalvedForm, whole_step}
+use Rattle.plan_run_laws.specs.HalvedSteps as halved_form
 use Rattle.plan_docs.specs.declared.plan.Output.{Output}
 use Rattle.plan_run_laws.specs.RunPlans.{RunPlan, tree_of_run}
 use Rattle.plan_run_laws.specs.RunPlans as plan
-use Rattle.pipe_laws.specs.Operators.{types_of_source}
+use Rattle.driver_net_laws.specs.Operators.{types_of_source}
 use Rattle.plan_layout.specs.Pipes.{PipeForm, SourceForm, StepForm, TargetForm}
 use Rattle.plan_layout.specs.Pipes as form
-use Rattle.layout_laws.specs.RunPipes.{Into, OfPipe, RunsAs, Takes}
+use Rattle.layout_laws.specs.RunPipes.{Into, OfPipe, RunsAs, Takes, final_step}
 use Rattle.driver_net_laws.specs.Types.{PipesAreTyped, PipeTypes, TakesTypes, gives_to, types_after, types_through}
-use Rattle.net_laws.specs.Halves.{Half, half_step, half_types, limit, partial, top_n}
+use Rattle.net_laws.specs.Halves.{half_step, half_types}
 use Rattle.net_laws.specs.Typed.{HasHalfTypes, HasTypes}
 
 -- the pipe at a place, which takes from this source
@@ -50,10 +53,9 @@ module _ (layout : List PipeForm) (types : ℕ → PipeTypes) where
       → AreThrough own run steps
   no_step own run steps none taken same = record { taken = taken; given = ap (through own) none ∙ taken ∙ same }
 
-  after_half : (halved : List SqlType) (half : Half) (id : ℕ) (between : List SqlType) → types_after types halved (half_step half id) between ≡ half_types half between
-  after_half halved (partial keys calls) id between = refl
-  after_half halved (top_n count keys) id between = refl
-  after_half halved (limit count) id between = refl
+  after_half : (halved : List SqlType) (half : HalvedForm) (id : ℕ) (between : List SqlType) → types_after types halved (half_step half id) between ≡ half_types half between
+  after_half halved (halved_form.aggregate keys calls) id between = refl
+  after_half halved half id between = refl
 
   module _ (typed : PipesAreTyped layout types) where
     takes_types : (own : ℕ) (source : SourceForm) → IsAt layout own source → TakesTypes layout types own source
@@ -62,7 +64,7 @@ module _ (layout : List PipeForm) (types : ℕ → PipeTypes) where
     all_given : (own : ℕ) (pipe : PipeForm) (run : RunPlan) → slice_get layout own ≡ Some pipe → AreThrough own run pipe.steps → HasTypes run (types own)
     all_given own pipe run is a = record { taken = a.taken; given = (typed own pipe is).gives ∙ a.given }
 
-    half_given : (own : ℕ) (pipe : PipeForm) (run : RunPlan) (half : Half) (id : ℕ) (rest : List StepForm) → slice_get layout own ≡ Some pipe
+    half_given : (own : ℕ) (pipe : PipeForm) (run : RunPlan) (half : HalvedForm) (id : ℕ) (rest : List StepForm) → slice_get layout own ≡ Some pipe
         → pipe.steps ≡ rest ++ half_step half id ∷ [] → AreThrough own run rest → HasHalfTypes run half (types own)
     half_given own pipe run half id rest is are a =
         let t = typed own pipe is in
@@ -84,12 +86,18 @@ module _ (layout : List PipeForm) (types : ℕ → PipeTypes) where
           let here = gives_here own t.root.pipe.target t.form t.root.has in
           (both.0 t.at t.root.pipe t.root.is here, both.1 t.at t.root.pipe t.root.is here)
 
-    pub record IsHalved (own : ℕ) (run : RunPlan) (half : Half) : Type 0 where
+    pub record IsHalved (own : ℕ) (run : RunPlan) (half : HalvedForm) : Type 0 where
       pub taken : (types own).taken ≡ half_types half (types_of (tree_of_run run))
       pub halved : (types own).halved ≡ types_of (tree_of_run run)
 
+    after_final : (own : ℕ) (run : RunPlan) (half : HalvedForm) (id : ℕ) → IsHalved own run half
+        → types_after types (types own).halved (final_step half id) (types own).taken ≡ steps_of.types_after (whole_step half) (types_of (tree_of_run run))
+    after_final own run (halved_form.aggregate keys calls) id h =
+        ap (λ (ts : List SqlType). types_after types ts (form.final id keys calls) (types own).taken) h.halved
+    after_final own run half id h = h.taken
+
     -- where the root of the fragment is a first half, of which some steps before run a plan
-    pub halved_by : (n : ℕ) (run : RunPlan) (half : Half) (own : ℕ) (source : SourceForm) (output : plan.Output) → IsAt layout own source
+    pub halved_by : (n : ℕ) (run : RunPlan) (half : HalvedForm) (own : ℕ) (source : SourceForm) (output : plan.Output) → IsAt layout own source
         → (t : Takes layout own source output n (Into (half_step half) (RunsAs layout n run))) → AreThrough t.at run t.root.so.1.0 → IsHalved own run half
     halved_by n run half own source output at t root =
         let given = half_given t.at t.root.pipe run half t.root.so.0 t.root.so.1.0 t.root.is t.root.so.1.1 root in
@@ -107,41 +115,21 @@ module _ (layout : List PipeForm) (types : ℕ → PipeTypes) where
         let root = are_through m input t.at t.root.pipe.drivers t.root.pipe.source t.root.pipe.steps (at_pipe layout t.at t.root.pipe t.root.is) t.root.so in
         let given = all_given t.at t.root.pipe input t.root.is root in
         no_step own (plan.remote id output m input) steps r.0 (sym (from_root own source output m (RunsAs layout m input) at t).0 ∙ given.given) refl
-    are_through n (plan.filter id predicate input) own w source steps at r =
-        behind own input (plan.filter id predicate input) (form.filter id predicate) r.0 steps r.1 (are_through n input own w source r.0 at r.2) refl refl
-    are_through n (plan.project id columns input) own w source steps at r =
-        behind own input (plan.project id columns input) (form.project id columns) r.0 steps r.1 (are_through n input own w source r.0 at r.2) refl refl
+    are_through n (plan.step id s input) own w source steps at r =
+        behind own input (plan.step id s input) (form.does id s) r.1.0 steps r.1.1 (are_through n input own w source r.1.0 at r.1.2) refl refl
     are_through n (plan.join id kind on left right) own w source steps at (j, build, same, p, (rest, are, so)) =
         let right_is = are_through n right j p.pipe.drivers p.pipe.source p.pipe.steps (at_pipe layout j p.pipe p.is) p.so.1 in
         let built = all_given j p.pipe right p.is right_is in
         behind own left (plan.join id kind on left right) (form.probe id kind build.on j) rest steps are (are_through n left own w source rest at so) refl
         (ap (λ (ts : List SqlType). types_of (tree_of_run left) ++ ts) built.given)
-    are_through n (plan.aggregate id keys calls input) own w source steps at r =
-        behind own input (plan.aggregate id keys calls input) (form.aggregate id keys calls) r.1.0 steps r.1.1 (are_through n input own w source r.1.0 at r.1.2) refl refl
-    are_through n (plan.aggregate_parts id remote output m keys calls input) own w source steps at r =
+    are_through n (plan.halves id remote output m half input) own w source steps at r =
         let t = r.2 in
         let root = are_through m input t.at t.root.pipe.drivers t.root.pipe.source t.root.so.1.0 (at_pipe layout t.at t.root.pipe t.root.is) t.root.so.1.2 in
-        let h = halved_by m input (partial keys calls) own source output at t root in
+        let h = halved_by m input half own source output at t root in
         record {
           taken = h.taken;
-          given = ap (through own) r.1 ∙ ap (λ (ts : List SqlType). types_after types ts (form.final id keys calls) (types own).taken) h.halved;
+          given = ap (through own) r.1 ∙ after_final own input half id h;
         }
-    are_through n (plan.sort id keys input) own w source steps at r =
-        behind own input (plan.sort id keys input) (form.sort id keys) r.1.0 steps r.1.1 (are_through n input own w source r.1.0 at r.1.2) refl refl
-    are_through n (plan.topn id count keys input) own w source steps at r =
-        behind own input (plan.topn id count keys input) (form.top_n id count keys) r.1.0 steps r.1.1 (are_through n input own w source r.1.0 at r.1.2) refl refl
-    are_through n (plan.topn_parts id remote output m count keys input) own w source steps at r =
-        let t = r.2 in
-        let root = are_through m input t.at t.root.pipe.drivers t.root.pipe.source t.root.so.1.0 (at_pipe layout t.at t.root.pipe t.root.is) t.root.so.1.2 in
-        let h = halved_by m input (top_n count keys) own source output at t root in
-        record { taken = h.taken; given = ap (through own) r.1 ∙ h.taken }
-    are_through n (plan.limit id count input) own w source steps at r =
-        behind own input (plan.limit id count input) (form.limit id count) r.1.0 steps r.1.1 (are_through n input own w source r.1.0 at r.1.2) refl refl
-    are_through n (plan.limit_parts id remote output m count input) own w source steps at r =
-        let t = r.2 in
-        let root = are_through m input t.at t.root.pipe.drivers t.root.pipe.source t.root.so.1.0 (at_pipe layout t.at t.root.pipe t.root.is) t.root.so.1.2 in
-        let h = halved_by m input (limit count) own source output at t root in
-        record { taken = h.taken; given = ap (through own) r.1 ∙ h.taken }
     are_through n (plan.union id left right) own w source steps at r =
         let p = r.3.1 in
         let given = all_given r.3.0 p.pipe left p.is (are_through n left r.3.0 p.pipe.drivers p.pipe.source p.pipe.steps (at_pipe layout r.3.0 p.pipe p.is) p.so) in
@@ -153,7 +141,7 @@ module _ (layout : List PipeForm) (types : ℕ → PipeTypes) where
         → HasTypes run (types own)
     runs_typed n run own pipe is r = all_given own pipe run is (are_through n run own pipe.drivers pipe.source pipe.steps (at_pipe layout own pipe is) r)
 
-    pub half_typed : (n : ℕ) (run : RunPlan) (half : Half) (own : ℕ) (pipe : PipeForm) → slice_get layout own ≡ Some pipe
+    pub half_typed : (n : ℕ) (run : RunPlan) (half : HalvedForm) (own : ℕ) (pipe : PipeForm) → slice_get layout own ≡ Some pipe
         → Into (half_step half) (RunsAs layout n run) own pipe.drivers pipe.source pipe.steps → HasHalfTypes run half (types own)
     half_typed n run half own pipe is (id, (rest, are, r)) =
         half_given own pipe run half id rest is are (are_through n run own pipe.drivers pipe.source rest (at_pipe layout own pipe is) r)

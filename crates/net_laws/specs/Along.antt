@@ -6,8 +6,8 @@ use Rattle.plan_trees.specs.TreeTypes.{types_of}
 use Rattle.plan_run_laws.specs.Nets.{of_tasks}
 use Rattle.plan_run_laws.specs.RunPlans.{RunPlan, tree_of_run}
 use Rattle.plan_run_laws.specs.RunPlans as plan
-use Rattle.pipe_laws.specs.Lanes.{Noted, first_note, other_notes}
-use Rattle.pipe_laws.specs.Pipes.{GaveTyped, PipeState}
+use Rattle.driver_net_laws.specs.Lanes.{Noted, first_note, other_notes}
+use Rattle.driver_net_laws.specs.Pipes.{GaveTyped, PipeState}
 use Rattle.plan_layout.specs.Pipes.{PipeForm, SourceForm, StepForm}
 use Rattle.layout_laws.specs.RunPipes.{RunsAs}
 use Rattle.driver_net_laws.specs.Nets.{Links}
@@ -18,17 +18,10 @@ abbrev pub bells_in : (links : Links) (task : ℕ) (layout : List PipeForm) (n :
 bells_in links task layout n (plan.scan id table columns types) own w source steps r = []
 bells_in links task layout n (plan.values id types list) own w source steps r = []
 bells_in links task layout n (plan.remote id output m input) own w source steps r = []
-bells_in links task layout n (plan.filter id predicate input) own w source steps r = bells_in links task layout n input own w source r.0 r.2
-bells_in links task layout n (plan.project id columns input) own w source steps r = bells_in links task layout n input own w source r.0 r.2
+bells_in links task layout n (plan.step id s input) own w source steps r = bells_in links task layout n input own w source r.1.0 r.1.2
 bells_in links task layout n (plan.join id kind on left right) own w source steps r =
     links.cells r.0 task ∷ bells_in links task layout n left own w source r.4.0 r.4.2
-bells_in links task layout n (plan.aggregate id keys calls input) own w source steps r = bells_in links task layout n input own w source r.1.0 r.1.2
-bells_in links task layout n (plan.aggregate_parts id remote output m keys calls input) own w source steps r = []
-bells_in links task layout n (plan.sort id keys input) own w source steps r = bells_in links task layout n input own w source r.1.0 r.1.2
-bells_in links task layout n (plan.topn id count keys input) own w source steps r = bells_in links task layout n input own w source r.1.0 r.1.2
-bells_in links task layout n (plan.topn_parts id remote output m count keys input) own w source steps r = []
-bells_in links task layout n (plan.limit id count input) own w source steps r = bells_in links task layout n input own w source r.1.0 r.1.2
-bells_in links task layout n (plan.limit_parts id remote output m count input) own w source steps r = []
+bells_in links task layout n (plan.halves id remote output m h input) own w source steps r = []
 bells_in links task layout n (plan.union id left right) own w source steps r = []
 
 -- What is said of each of its joins: of its right side, of the place of the pipe that builds it, and of what the notes of
@@ -41,17 +34,10 @@ abbrev pub Along : OfJoin → (layout : List PipeForm) (n : ℕ) (run : RunPlan)
 Along Of layout n (plan.scan id table columns types) own w source steps r notes = Unit {0}
 Along Of layout n (plan.values id types list) own w source steps r notes = Unit {0}
 Along Of layout n (plan.remote id output m input) own w source steps r notes = Unit {0}
-Along Of layout n (plan.filter id predicate input) own w source steps r notes = Along Of layout n input own w source r.0 r.2 notes
-Along Of layout n (plan.project id columns input) own w source steps r notes = Along Of layout n input own w source r.0 r.2 notes
+Along Of layout n (plan.step id s input) own w source steps r notes = Along Of layout n input own w source r.1.0 r.1.2 notes
 Along Of layout n (plan.join id kind on left right) own w source steps r notes =
     Of right r.0 notes × Along Of layout n left own w source r.4.0 r.4.2 (λ k d. other_notes (notes k d))
-Along Of layout n (plan.aggregate id keys calls input) own w source steps r notes = Along Of layout n input own w source r.1.0 r.1.2 notes
-Along Of layout n (plan.aggregate_parts id remote output m keys calls input) own w source steps r notes = Unit {0}
-Along Of layout n (plan.sort id keys input) own w source steps r notes = Along Of layout n input own w source r.1.0 r.1.2 notes
-Along Of layout n (plan.topn id count keys input) own w source steps r notes = Along Of layout n input own w source r.1.0 r.1.2 notes
-Along Of layout n (plan.topn_parts id remote output m count keys input) own w source steps r notes = Unit {0}
-Along Of layout n (plan.limit id count input) own w source steps r notes = Along Of layout n input own w source r.1.0 r.1.2 notes
-Along Of layout n (plan.limit_parts id remote output m count input) own w source steps r notes = Unit {0}
+Along Of layout n (plan.halves id remote output m h input) own w source steps r notes = Unit {0}
 Along Of layout n (plan.union id left right) own w source steps r notes = Unit {0}
 
 -- what the pipe of the right side gave has its types

@@ -14,3 +14,11 @@ pub use Rattle.driver_net_laws.specs.Makes
 pub use Rattle.driver_net_laws.specs.Nets
 pub use Rattle.driver_net_laws.specs.Settled
 pub use Rattle.driver_net_laws.specs.Types
+pub use Rattle.driver_net_laws.specs.States
+pub use Rattle.filter_plan_laws.specs.ComingDown
+pub use Rattle.lost_row_laws.specs.Sieves
+pub use Rattle.lost_row_laws.specs.Arrivals
+pub use Rattle.filter_plan_laws.specs.BuiltFilters
+pub use Rattle.filter_plan_laws.specs.RunJoins
+pub use Rattle.layout_laws.specs.Reached
+pub use Rattle.layout_laws.specs.RunPipes

@@ -4,13 +4,13 @@ use Rattle.driver_loop.specs.Drivers.{DriverState}
 use Rattle.driver_loop.specs.contracts.stage.StageOperator.TheImpl.{ghosts}
 use Rattle.driver_loop.specs.declared.stage.Stage.{Stage}
 use Rattle.plan_run_laws.specs.RunPlans.{RunPlan}
-use Rattle.pipe_laws.specs.Pipes.{PipeState, stopped}
+use Rattle.driver_net_laws.specs.Pipes.{PipeState, stopped}
 use Rattle.dyn_filter.specs.declared.domain.Domain.{Domain}
 use Rattle.lost_row_laws.specs.Domains.{sieve_of}
 use Rattle.lost_row_laws.specs.Sieves.{Sieve}
 use Rattle.lost_row_laws.specs.Stops.{AreSure}
-use Rattle.sieve_laws.specs.ComingDown.{ComeDown}
-use Rattle.sieve_laws.specs.FilterLanes.{AllDrop, FilterNoted}
+use Rattle.filter_plan_laws.specs.ComingDown.{ComeDown}
+use Rattle.filter_plan_laws.specs.FilterLanes.{AllDrop, FilterNoted}
 use Rattle.plan_layout.specs.Pipes.{PipeForm, SourceForm, StepForm, driver_number}
 use Rattle.layout_laws.specs.RunPipes.{RunsAs}
 use Rattle.driver_net_laws.specs.Nets.{front_stages}

@@ -3,13 +3,13 @@ use Rattle.std.specs.Prelude.{ℕ, List}
 use Rattle.plan_trees.specs.TreeTypes.{types_of}
 use Rattle.plan_run_laws.specs.RunPlans.{RunPlan, tree_of_run}
 use Rattle.plan_run_laws.specs.Spreads.{Tables}
-use Rattle.pipe_laws.specs.Operators.{types_of_source}
+use Rattle.driver_net_laws.specs.Operators.{types_of_source}
 use Rattle.driver_loop.specs.declared.stage.Stage.{Stage}
 use Rattle.driver_loop.specs.contracts.stage.StageOperator.TheImpl.{ghosts}
-use Rattle.pipe_laws.specs.Lanes.{Noted}
-use Rattle.pipe_laws.specs.Pipes.{GaveTyped, IsPipeOf, PipeState, TookTyped}
+use Rattle.driver_net_laws.specs.Lanes.{Noted}
+use Rattle.driver_net_laws.specs.Pipes.{GaveTyped, IsPipeOf, PipeState, TookTyped}
 use Rattle.lost_row_laws.specs.Sieves.{Sieve}
-use Rattle.sieve_laws.specs.LosingPipes.{IsBelowLosing, StandsLosing}
+use Rattle.filter_plan_laws.specs.LosingPipes.{IsBelowLosing, StandsLosing}
 use Rattle.plan_layout.specs.Pipes.{PipeForm, SourceForm, StepForm}
 use Rattle.layout_laws.specs.Reached.{IsWithin}
 use Rattle.layout_laws.specs.RunPipes.{RunsAs}

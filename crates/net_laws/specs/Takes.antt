@@ -8,7 +8,7 @@ use Rattle.plan_run_laws.specs.Nets.{Lanes, of_tasks}
 use Rattle.plan_run_laws.specs.RunPlans.{Output, RunPlan}
 use Rattle.plan_run_laws.specs.Spreads.{Tables}
 use Rattle.plan_run_laws.specs.Stops.{AllSet, Flags, Hop, PassedSoFar, TookOf}
-use Rattle.pipe_laws.specs.Pipes.{PipeState, stopped}
+use Rattle.driver_net_laws.specs.Pipes.{PipeState, stopped}
 
 -- of these columns of a table, in all of so many tasks together: what each of so many drivers took there, and whether its
 -- source has ended

@@ -20,20 +20,11 @@ Throughout Of By layout n (plan.scan id table columns types) own w source steps 
 Throughout Of By layout n (plan.values id types list) own w source steps r = Unit {0}
 Throughout Of By layout n (plan.remote id output m input) own w source steps r =
     Throughout Of By layout m input r.1.at r.1.root.pipe.drivers r.1.root.pipe.source r.1.root.pipe.steps r.1.root.so
-Throughout Of By layout n (plan.filter id predicate input) own w source steps r = Throughout Of By layout n input own w source r.0 r.2
-Throughout Of By layout n (plan.project id columns input) own w source steps r = Throughout Of By layout n input own w source r.0 r.2
+Throughout Of By layout n (plan.step id s input) own w source steps r = Throughout Of By layout n input own w source r.1.0 r.1.2
 Throughout Of By layout n (plan.join id kind on left right) own w source steps r =
     By id on n right r.0 × Throughout Of By layout n right r.0 r.3.pipe.drivers r.3.pipe.source r.3.pipe.steps r.3.so.1
     × Throughout Of By layout n left own w source r.4.0 r.4.2
-Throughout Of By layout n (plan.aggregate id keys calls input) own w source steps r = Throughout Of By layout n input own w source r.1.0 r.1.2
-Throughout Of By layout n (plan.aggregate_parts id remote output m keys calls input) own w source steps r =
-    Throughout Of By layout m input r.2.at r.2.root.pipe.drivers r.2.root.pipe.source r.2.root.so.1.0 r.2.root.so.1.2
-Throughout Of By layout n (plan.sort id keys input) own w source steps r = Throughout Of By layout n input own w source r.1.0 r.1.2
-Throughout Of By layout n (plan.topn id count keys input) own w source steps r = Throughout Of By layout n input own w source r.1.0 r.1.2
-Throughout Of By layout n (plan.topn_parts id remote output m count keys input) own w source steps r =
-    Throughout Of By layout m input r.2.at r.2.root.pipe.drivers r.2.root.pipe.source r.2.root.so.1.0 r.2.root.so.1.2
-Throughout Of By layout n (plan.limit id count input) own w source steps r = Throughout Of By layout n input own w source r.1.0 r.1.2
-Throughout Of By layout n (plan.limit_parts id remote output m count input) own w source steps r =
+Throughout Of By layout n (plan.halves id remote output m h input) own w source steps r =
     Throughout Of By layout m input r.2.at r.2.root.pipe.drivers r.2.root.pipe.source r.2.root.so.1.0 r.2.root.so.1.2
 Throughout Of By layout n (plan.union id left right) own w source steps r =
     Throughout Of By layout n left r.3.0 r.3.1.pipe.drivers r.3.1.pipe.source r.3.1.pipe.steps r.3.1.so

@@ -3,14 +3,14 @@ ghost use Rattle.std.specs.Prelude.{◌≡◌, ℕ, Contains, List, Some, map, s
 ghost use Rattle.sql_values.specs.declared.types.SqlType.{SqlType};
 ghost use Rattle.plan_trees.specs.TreeForms.{pair_view};
 ghost use Rattle.plan_run_laws.specs.RunPlans.{RunPlan};
-ghost use Rattle.pipe_laws.specs.Pipes.{stopped};
+ghost use Rattle.driver_net_laws.specs.Pipes.{stopped};
 ghost use Rattle.dyn_filter.specs.declared.domain.Domain.{Domain};
 ghost use Rattle.dyn_filter.specs.Filters.{FilterState};
 ghost use Rattle.driver_loop.specs.Drivers.{DriverState};
 ghost use Rattle.driver_loop.specs.Turns.{filter_of_stage};
 ghost use Rattle.driver_loop.specs.contracts.stage.StageOperator.TheImpl.{ghosts};
 ghost use Rattle.driver_loop.specs.declared.stage.Stage.{Stage as StageState};
-ghost use Rattle.sieve_laws.specs.KnownDomains.{IsKnownOf};
+ghost use Rattle.filter_plan_laws.specs.KnownDomains.{IsKnownOf};
 ghost use Rattle.plan_layout.specs.declared.filters.PlacedFilter.{PlacedFilter};
 ghost use Rattle.plan_layout.specs.Pipes.{BuildForm};
 ghost use Rattle.plan_layout.specs.Pipes as pipes;

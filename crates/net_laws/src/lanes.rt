@@ -2,12 +2,12 @@
 ghost use Rattle.std.specs.Prelude.{◌≡◌, ℕ, All, List, None, Some, slice_get};
 ghost use Rattle.plan_trees.specs.TreeTypes.{types_of};
 ghost use Rattle.plan_run_laws.specs.RunPlans.{RunPlan, tree_of_run};
-ghost use Rattle.pipe_laws.specs.Operators.{types_of_source};
-ghost use Rattle.pipe_laws.specs.Pipelines.{at_node};
+ghost use Rattle.driver_net_laws.specs.Operators.{types_of_source};
+ghost use Rattle.driver_net_laws.specs.Pipelines.{at_node};
 ghost use Rattle.driver_loop.specs.contracts.stage.StageOperator.TheImpl.{ghosts};
 ghost use Rattle.driver_loop.specs.declared.stage.Stage.{Stage as StageState};
 ghost use Rattle.driver_loop.specs.Drivers.{DriverState, IsWhole};
-ghost use Rattle.pipe_laws.specs.Pipes.{GaveTyped, IsHalfPipeOf, IsPipeOf, TookTyped};
+ghost use Rattle.driver_net_laws.specs.Pipes.{GaveTyped, IsHalfPipeOf, IsPipeOf, TookTyped};
 ghost use Rattle.driver_net_laws.specs.Made.{AreMadeFor, Behind};
 ghost use Rattle.plan_layout.specs.Pipes.{PipeForm};
 ghost use Rattle.layout_laws.specs.RunPipes.{Into, RunsAs};
@@ -16,7 +16,8 @@ ghost use Rattle.driver_net_laws.specs.Settled.{AreSettled};
 ghost use Rattle.driver_net_laws.specs.States.{Flow, IsFlowOf, pipe_states_of};
 ghost use Rattle.driver_net_laws.specs.Types.{PipesAreTyped, PipeTypes};
 ghost use Rattle.net_laws.specs.Along.{Along, BuiltTyped, Follows, bells_in};
-ghost use Rattle.net_laws.specs.Halves.{Half, half_stage, half_step, half_types};
+ghost use Rattle.plan_run_laws.specs.HalvedSteps.{HalvedForm};
+ghost use Rattle.net_laws.specs.Halves.{half_stage, half_step, half_types};
 ghost use Rattle.net_laws.specs.Later.{AreLater, IsLaterDriver};
 ghost use Rattle.net_laws.specs.Typed.{HasHalfTypes, HasTypes};
 
@@ -30,7 +31,7 @@ pub fn pipes_are_typed()
         → (n : ℕ) (run : RunPlan) (own : ℕ) (pipe : PipeForm) → slice_get layout own ≡ Some pipe
         → RunsAs layout n run own pipe.drivers pipe.source pipe.steps → HasTypes run (types own) }
     ensures halves { (layout : List PipeForm) (types : ℕ → PipeTypes) → PipesAreTyped layout types
-        → (n : ℕ) (run : RunPlan) (half : Half) (own : ℕ) (pipe : PipeForm)
+        → (n : ℕ) (run : RunPlan) (half : HalvedForm) (own : ℕ) (pipe : PipeForm)
         → slice_get layout own ≡ Some pipe
         → Into (half_step half) (RunsAs layout n run) own pipe.drivers pipe.source pipe.steps
         → HasHalfTypes run half (types own) }
@@ -47,7 +48,7 @@ pub fn stages_are_made()
         (bells_in net.links task net.layout n run own pipe.drivers pipe.source pipe.steps r) stages
         (types_of (tree_of_run run)) }
     ensures halves { (net : NetForm) → PipesAreTyped net.layout net.types
-        → (n : ℕ) (run : RunPlan) (half : Half) (own : ℕ) (pipe : PipeForm)
+        → (n : ℕ) (run : RunPlan) (half : HalvedForm) (own : ℕ) (pipe : PipeForm)
         → slice_get net.layout own ≡ Some pipe
         → (r : Into (half_step half) (RunsAs net.layout n run)
         own pipe.drivers pipe.source pipe.steps)
@@ -55,7 +56,7 @@ pub fn stages_are_made()
         → AreStagesFor net task (net.types own).halved pipe.steps (net.types own).taken stages
         → Behind (AreMadeFor net.links.names run
         (bells_in net.links task net.layout n run own pipe.drivers pipe.source r.1.0 r.1.2))
-        (at_node r.0 (half_stage half)) stages (half_types half (types_of (tree_of_run run))) }
+        (at_node r.0 (half_stage half (types_of (tree_of_run run)))) stages (half_types half (types_of (tree_of_run run))) }
 {}
 
 /// The law that where a note of a driver knows rows, the drivers of its join's right side are done in its task, and gave
@@ -71,7 +72,7 @@ pub fn notes_follow()
         (pipe_states_of net.layout drivers flow own).notes }
     ensures halves { (net : NetForm) (drivers : List DriverState) → AreDriversOf net drivers
         → AreSettled net drivers → (flow : Flow) → IsFlowOf net.layout drivers flow
-        → (n : ℕ) (run : RunPlan) (half : Half) (own : ℕ) (pipe : PipeForm)
+        → (n : ℕ) (run : RunPlan) (half : HalvedForm) (own : ℕ) (pipe : PipeForm)
         → slice_get net.layout own ≡ Some pipe → pipe.tasks ≡ n
         → (r : Into (half_step half) (RunsAs net.layout n run)
         own pipe.drivers pipe.source pipe.steps)
@@ -95,7 +96,7 @@ pub fn pipes_stand<'w>(_of: PhantomData<Stage<'w>>)
         → IsPipeOf ghosts n run (pipe_states_of net.layout drivers flow own) }
     ensures halves { (net : NetForm) (drivers : List DriverState) → AreDriversOf net drivers
         → AreSettled net drivers → (flow : Flow) → IsFlowOf net.layout drivers flow
-        → (n : ℕ) (run : RunPlan) (half : Half) (own : ℕ) (pipe : PipeForm)
+        → (n : ℕ) (run : RunPlan) (half : HalvedForm) (own : ℕ) (pipe : PipeForm)
         → slice_get net.layout own ≡ Some pipe → pipe.tasks ≡ n
         → (r : Into (half_step half) (RunsAs net.layout n run)
         own pipe.drivers pipe.source pipe.steps)
@@ -103,7 +104,7 @@ pub fn pipes_stand<'w>(_of: PhantomData<Stage<'w>>)
         → Along (BuiltTyped (pipe_states_of net.layout drivers flow) n) net.layout n run
         own pipe.drivers pipe.source r.1.0 r.1.2
         (pipe_states_of net.layout drivers flow own).notes
-        → IsHalfPipeOf ghosts n run (at_node r.0 (half_stage half)) (pipe_states_of net.layout drivers flow own) }
+        → IsHalfPipeOf ghosts n run (at_node r.0 (half_stage half (types_of (tree_of_run run)))) (pipe_states_of net.layout drivers flow own) }
 {
     operator_core::laws::laws::<Stage<'w>>(PhantomData);
 }
@@ -122,7 +123,7 @@ pub fn pipes_give_typed_rows<'w>(_of: PhantomData<Stage<'w>>)
         → GaveTyped (types_of (tree_of_run run)) n (pipe_states_of net.layout drivers flow own) }
     ensures halves { (net : NetForm) (drivers : List DriverState) → AreDriversOf net drivers
         → AreSettled net drivers → (flow : Flow) → IsFlowOf net.layout drivers flow
-        → (n : ℕ) (run : RunPlan) (half : Half) (own : ℕ) (pipe : PipeForm)
+        → (n : ℕ) (run : RunPlan) (half : HalvedForm) (own : ℕ) (pipe : PipeForm)
         → slice_get net.layout own ≡ Some pipe → pipe.tasks ≡ n
         → (r : Into (half_step half) (RunsAs net.layout n run)
         own pipe.drivers pipe.source pipe.steps)

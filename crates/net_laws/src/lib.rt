@@ -35,11 +35,13 @@ mod plans;
 mod sources;
 mod stands;
 
+pub use filter_plan_laws::{filter_ids_rise, filters_reach_in_runs, scan_filters_reach};
 pub use filters::filters_know_right_sides;
 pub use lanes::{
     notes_follow, pipes_are_typed, pipes_give_typed_rows, pipes_stand, stages_are_made,
     turns_follow_turns, turns_keep_drivers,
 };
+pub use layout_laws::pipes_are_reached;
 pub use layouts::layouts_fit;
 pub use plans::{
     layouts_are_tidy, plan_filters_reach, plans_fail, plans_give, plans_without_filters_fail,

@@ -11,7 +11,7 @@ use Rattle.driver_loop.specs.Ends.{target_made}
 use Rattle.driver_loop.specs.declared.target.Target.TheVariants.{Build}
 use Rattle.plan_docs.specs.declared.node.DynamicFilter.{DynamicFilter}
 use Rattle.plan_trees.specs.declared.tree.Pair.{Pair}
-use Rattle.driver_net_laws.specs.Nets.{ArePartsFor, IsPartFor, NetForm, right_columns}
+use Rattle.pipe_stages.specs.Nets.{ArePartsFor, IsPartFor, NetForm, right_columns}
 use Rattle.pipe_stages.specs.Cells.{HasFilterCells}
 use Rattle.net_making.proofs.SlotLemmas.{some_same}
 

@@ -6,7 +6,7 @@ use Rattle.driver_loop.specs.declared.stage.Stage.{Stage}
 use Rattle.driver_loop.specs.declared.target.Target.{Target}
 use Rattle.plan_layout.specs.Filters.{scan_filters}
 use Rattle.plan_layout.specs.Pipes.{PipeForm, driver_number}
-use Rattle.driver_net_laws.specs.Nets.{IsDriverOf, IsSourceFor, IsTargetFor}
+use Rattle.pipe_stages.specs.Nets.{IsDriverOf, IsSourceFor, IsTargetFor}
 use Rattle.net_making.specs.Slots.{IsNew}
 use Rattle.net_making.specs.Makings.{AreStagesOf, InNets}
 use Rattle.net_making.specs.declared.making.Making.{Making}

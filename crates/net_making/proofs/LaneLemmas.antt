@@ -6,8 +6,8 @@ use Rattle.std.proofs.lemmas.List.{length-map, length-replicate}
 use Rattle.driver_loop.specs.Drivers.{DriverState}
 use Rattle.plan_layout.specs.Layouts.{drivers_in}
 use Rattle.plan_layout.specs.Pipes.{PipeForm, driver_number}
-use Rattle.driver_net_laws.specs.Nets.{AreDriversOf, IsDriverOf, NetForm}
-use Rattle.driver_net_laws.specs.Types.{PipesAreTyped}
+use Rattle.pipe_stages.specs.Nets.{AreDriversOf, IsDriverOf, NetForm}
+use Rattle.pipe_stages.specs.Types.{PipesAreTyped}
 use Rattle.pipe_stages.specs.Each.{EachBelow}
 use Rattle.pipe_stages.proofs.EachLemmas.{each, one_more}
 use Rattle.seat_stocks.specs.Stocks.{AreLeft, StockForm}

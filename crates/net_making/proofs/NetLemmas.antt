@@ -22,9 +22,9 @@ use Rattle.plan_wiring.specs.Bells.{gather_bells, spread_bells}
 use Rattle.plan_wiring.specs.Handed.{SeatsForm, new_seats}
 use Rattle.plan_wiring.specs.Shares.{ClaimForm, ShareForm, claims_of, filter_parts, new_claims, rows_at, share_of, shares_of}
 use Rattle.plan_wiring.specs.Wirings.{bells_of, cell_bells, claims_view, filter_bells, parts_of, share_view}
-use Rattle.driver_net_laws.specs.Makes.{LayoutFits}
-use Rattle.driver_net_laws.specs.Nets.{AreDriversOf, Links, NetForm}
-use Rattle.driver_net_laws.specs.Types.{PipesAreTyped, PipeTypes}
+use Rattle.pipe_stages.specs.Makes.{LayoutFits}
+use Rattle.pipe_stages.specs.Nets.{AreDriversOf, Links, NetForm}
+use Rattle.pipe_stages.specs.Types.{PipesAreTyped, PipeTypes}
 use Rattle.pipe_stages.specs.declared.table.PipeTypes as declared
 use Rattle.pipe_stages.specs.Tables.{types_in}
 use Rattle.pipe_stages.specs.Cells.{HasCells, HasFilterCells, cell_at}

@@ -6,7 +6,7 @@ use Rattle.std.proofs.lemmas.List.{length-set}
 use Rattle.std.proofs.lemmas.Option.{slice_get-get_or}
 use Rattle.driver_loop.specs.Drivers.{DriverState}
 use Rattle.plan_layout.specs.Pipes.{PipeForm, driver_number}
-use Rattle.driver_net_laws.specs.Nets.{HasDriver, NetForm}
+use Rattle.pipe_stages.specs.Nets.{HasDriver, NetForm}
 use Rattle.net_making.specs.Slots.{AreNew, HasSlot, HaveGrown, IsNew}
 
 pub some_same : {X : Type 0} (x y : X) → Some x ≡ Some y → x ≡ y

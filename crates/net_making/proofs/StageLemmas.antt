@@ -5,8 +5,8 @@ use Rattle.sql_values.specs.declared.types.SqlType.{SqlType}
 use Rattle.driver_loop.specs.declared.stage.Stage.{Stage}
 use Rattle.plan_layout.specs.declared.filters.PlacedFilter.{PlacedFilter}
 use Rattle.plan_layout.specs.Pipes.{StepForm}
-use Rattle.driver_net_laws.specs.Nets.{AreInFront, AreStagesFor, NetForm, front_stages, step_stages}
-use Rattle.driver_net_laws.specs.Types.{PipeTypes, types_after}
+use Rattle.pipe_stages.specs.Nets.{AreInFront, AreStagesFor, NetForm, front_stages, step_stages}
+use Rattle.pipe_stages.specs.Types.{PipeTypes, types_after}
 use Rattle.pipe_stages.specs.Cells.{HasCells, HasFilterCells}
 use Rattle.seat_stocks.specs.Labels.{Labels}
 use Rattle.net_making.specs.Makings.{AreStagesOf, IsNetFor, typing_in}

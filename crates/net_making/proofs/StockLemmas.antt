@@ -1,7 +1,7 @@
 -- Stocks of which some seats were taken.
 use Rattle.seat_stocks.specs.Stocks.{AreLeft, StockForm}
 use Rattle.seat_stocks.proofs.LabelLemmas.{labelled_left}
-use Rattle.driver_net_laws.specs.Nets.{NetForm}
+use Rattle.pipe_stages.specs.Nets.{NetForm}
 use Rattle.net_making.specs.Makings.{InNets, IsStocked}
 use Rattle.net_making.specs.declared.making.Making.{Making}
 

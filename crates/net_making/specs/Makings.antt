@@ -12,9 +12,9 @@ use Rattle.plan_layout.specs.Filters.{filters_built}
 use Rattle.plan_layout.specs.declared.filters.PlacedFilter.{PlacedFilter}
 use Rattle.plan_layout.specs.Pipes.{PipeForm, SourceForm, StepForm, pipe_view, table}
 use Rattle.plan_wiring.specs.Shares.{rows_at}
-use Rattle.driver_net_laws.specs.Makes.{LayoutFits}
-use Rattle.driver_net_laws.specs.Nets.{AreInFront, AreStagesFor, NetForm, front_stages, step_stages}
-use Rattle.driver_net_laws.specs.Types.{PipesAreTyped, PipeTypes}
+use Rattle.pipe_stages.specs.Makes.{LayoutFits}
+use Rattle.pipe_stages.specs.Nets.{AreInFront, AreStagesFor, NetForm, front_stages, step_stages}
+use Rattle.pipe_stages.specs.Types.{PipesAreTyped, PipeTypes}
 use Rattle.pipe_stages.specs.Tables.{types_in}
 use Rattle.pipe_stages.specs.Cells.{HasCells, HasFilterCells, cell_at}
 use Rattle.seat_stocks.specs.Labels.{IsLabelled, Labels}

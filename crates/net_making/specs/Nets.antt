@@ -4,7 +4,7 @@ use Rattle.sql_values.specs.declared.types.SqlType.{SqlType}
 use Rattle.driver_loop.specs.Drivers.{DriverState}
 use Rattle.plan_layout.specs.Pipes.{PipeForm, table}
 use Rattle.plan_run_laws.specs.Spreads.{Tables}
-use Rattle.driver_net_laws.specs.Nets.{AreDriversOf, NetForm}
+use Rattle.pipe_stages.specs.Nets.{AreDriversOf, NetForm}
 use Rattle.net_making.specs.Slots.{IsNew}
 
 -- they are those of a layout over tables that are read in splits of a size, and new. The claims of a table have a seat for each

@@ -2,7 +2,7 @@
 use Rattle.std.specs.Prelude.{◌≡◌, ℕ, List, false, Option, Some, None, length, slice_get}
 use Rattle.driver_loop.specs.Drivers.{DriverState}
 use Rattle.plan_layout.specs.Pipes.{PipeForm, driver_number}
-use Rattle.driver_net_laws.specs.Nets.{IsDriverOf, NetForm}
+use Rattle.pipe_stages.specs.Nets.{IsDriverOf, NetForm}
 
 -- no turn of it was over
 pub record IsNew (d : DriverState) : Type 0 where

@@ -3,7 +3,7 @@ ghost use Rattle.std.specs.Prelude.{◌≡◌, ℕ, [], All, false, map, IfOk};
 ghost use Rattle.driver_loop.specs.BuildFilters.{IsFilterOf, build_filter_made};
 ghost use Rattle.driver_loop.specs.Ends.{target_made};
 ghost use Rattle.plan_layout.specs.Pipes.{build_view, cell};
-ghost use Rattle.driver_net_laws.specs.Nets.{ArePartsFor, IsPartFor, IsTargetFor, NetForm, right_columns};
+ghost use Rattle.pipe_stages.specs.Nets.{ArePartsFor, IsPartFor, IsTargetFor, NetForm, right_columns};
 ghost use Rattle.seat_stocks.specs.Labels.{Labels};
 ghost use Rattle.pipe_stages.specs.Cells.{HasFilterCells};
 ghost use Rattle.net_making.specs.Makings.{IsNetFor, typing_in};

@@ -2,7 +2,7 @@
 ghost use Rattle.std.specs.Prelude.{◌≡◌, ℕ, Some, slice_get, IfOk, OnOk};
 ghost use Rattle.plan_layout.specs.Filters.{scan_filters};
 ghost use Rattle.plan_layout.specs.Pipes.{driver_number, pipe_view};
-ghost use Rattle.driver_net_laws.specs.Nets.{IsDriverOf};
+ghost use Rattle.pipe_stages.specs.Nets.{IsDriverOf};
 ghost use Rattle.seat_stocks.specs.Stocks.{AreLeft};
 ghost use Rattle.net_making.specs.Makings.{CanMake, InNets, IsStocked, layout_in};
 ghost use Rattle.net_making.specs.Slots.{IsNew};

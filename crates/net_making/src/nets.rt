@@ -5,8 +5,8 @@ ghost use Rattle.tree_evaluator.specs.Stops.{rows_of_table};
 ghost use Rattle.plan_layout.specs.Pipes.{pipe_view};
 ghost use Rattle.plan_wiring.specs.Handed.{AreUnused};
 ghost use Rattle.plan_wiring.specs.Wirings.{IsWiringOf, share_view};
-ghost use Rattle.driver_net_laws.specs.Makes.{LayoutFits};
-ghost use Rattle.driver_net_laws.specs.Types.{PipesAreTyped, PipeTypes};
+ghost use Rattle.pipe_stages.specs.Makes.{LayoutFits};
+ghost use Rattle.pipe_stages.specs.Types.{PipesAreTyped, PipeTypes};
 ghost use Rattle.net_making.specs.Makings.{AreFew, HasTask};
 ghost use Rattle.net_making.specs.Nets.{IsNewNetOf};
 

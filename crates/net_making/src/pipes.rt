@@ -3,7 +3,7 @@ ghost use Rattle.std.specs.Prelude.{◌≡◌, ◌<◌, ◌+◌, ◌*◌, ℕ, A
 ghost use Rattle.plan_layout.specs.Filters.{scan_filters};
 ghost use Rattle.plan_layout.specs.Layouts.{drivers_in};
 ghost use Rattle.plan_layout.specs.Pipes.{pipe_view};
-ghost use Rattle.driver_net_laws.specs.Nets.{AreDriversOf};
+ghost use Rattle.pipe_stages.specs.Nets.{AreDriversOf};
 ghost use Rattle.seat_stocks.specs.Stocks.{AreLeft};
 ghost use Rattle.net_making.specs.Makings.{CanMake, InNets, IsStocked, layout_in};
 ghost use Rattle.net_making.specs.Slots.{HasSlot, HaveGrown, IsNew};

@@ -1,8 +1,8 @@
 //! The stages of a driver.
 ghost use Rattle.std.specs.Prelude.{◌≡◌, map, IfOk};
 ghost use Rattle.plan_layout.specs.Pipes.{step_view};
-ghost use Rattle.driver_net_laws.specs.Makes.{StepsFit};
-ghost use Rattle.driver_net_laws.specs.Nets.{NetForm};
+ghost use Rattle.pipe_stages.specs.Makes.{StepsFit};
+ghost use Rattle.pipe_stages.specs.Nets.{NetForm};
 ghost use Rattle.seat_stocks.specs.Labels.{Labels};
 ghost use Rattle.net_making.specs.Makings.{AreStagesOf, CanMake, IsNetFor, typing_in};
 

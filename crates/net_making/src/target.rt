@@ -8,7 +8,7 @@ ghost use Rattle.plan_layout.specs.Pipes as form;
 ghost use Rattle.plan_layout.specs.Pipes.{pipe_view, readers, side, takers, target_view};
 ghost use Rattle.plan_spreads.specs.Runs.{output_view};
 ghost use Rattle.source_laws.specs.Edges.{output_of};
-ghost use Rattle.driver_net_laws.specs.Nets.{IsTargetFor, NetForm, tasks_at};
+ghost use Rattle.pipe_stages.specs.Nets.{IsTargetFor, NetForm, tasks_at};
 ghost use Rattle.seat_stocks.specs.Labels.{IsLabelled, Labels};
 ghost use Rattle.seat_stocks.specs.Lanes.{lane_at};
 ghost use Rattle.seat_stocks.specs.Stocks.{AreLeft};

@@ -10,11 +10,6 @@ use Rattle.operator_core.proofs.LinkLemmas.{Linked-at}
 use Rattle.operator_core.proofs.TurnLemmas.{Turns-take, giver-last, giver-told}
 
 module _ {S : Type 0} (g : Ghosts S) where
-  -- where nothing failed, the chain holds with failures left out
-  pub Chain-strict : (ss : List S) (X Y : List Row) → Chain g true ss X Y → Chain g false ss X Y
-  Chain-strict [] X Y c = c
-  Chain-strict (s ∷ ss) X Y c = (c.0, c.1, (λ e node kind f. cc), Chain-strict ss c.0 Y c.3)
-
   -- what a stage may still give is what may still come to the next
   given-comes : IsLawful g → (s : S) (Z B : List Row) → Coming (g.is_told s) Z → g.may_give s Z B → (over : Bool) → g.is_finished s ≡ over → Coming over B
   given-comes laws s Z B coming gives true e =

@@ -50,20 +50,10 @@ module _ {S : Type 0} (g : Ghosts S) where
   Linked-last (k ∷ m ∷ ss) zero s t P X Y h e gives l = absurd (omega arith)
   Linked-last (k ∷ m ∷ ss) (suc i) s t P X Y h e gives l = (l.0, l.1, Linked-last (m ∷ ss) i s t P l.0 Y (omega arith) e gives l.2)
 
-  -- with no stage a page goes from the source to the target
-  pub Linked-past : (P X Y : List Row) → Linked g [] X Y → Linked g [] (X ++ P) (Y ++ P)
-  Linked-past P X Y l = ap (λ x. x ++ P) l
-
   -- stages as they were made took and gave nothing
   pub Linked-made : IsLawful g → (ss : List S) → map g.as_made ss ≡ ss → Linked g ss [] []
   Linked-made laws [] e = refl
   Linked-made laws (s ∷ ss) e = ([], Steps-made g laws s (cc), Linked-made laws ss (cc))
-
-  -- the stages before a place, and those from it on
-  pub Linked-split : (ss : List S) (i : ℕ) (X Y : List Row) → Linked g ss X Y → (M : List Row) × Linked g (take i ss) X M × Linked g (drop i ss) M Y
-  Linked-split ss zero X Y l = (X, refl, l)
-  Linked-split [] (suc i) X Y l = (X, refl, l)
-  Linked-split (s ∷ ss) (suc i) X Y l = let r = Linked-split ss i l.0 Y l.2 in (r.0, (l.0, l.1, r.1), r.2)
 
   -- the stage at a place, and what it took and gave
   pub Linked-at : (ss : List S) (i : ℕ) (s : S) (X Y : List Row) → i < length ss → s ≡ get_or ss i s → Linked g ss X Y

@@ -1,13 +1,10 @@
 -- How the stages were made, and what their notes came to know since.
-use Rattle.std.proofs.Common.{◌≡◌, inl, inr, ℕ, zero, suc, ◌<◌, List, [], ◌∷◌, length, get_or, set, map, Bool, true, false, refl, sym, subst, ◌∙◌, arith}
+use Rattle.std.proofs.Common.{◌≡◌, inl, inr, ℕ, zero, suc, ◌<◌, List, [], ◌∷◌, length, get_or, set, Bool, true, false, refl, sym, subst, ◌∙◌, arith}
 use Rattle.operator_core.specs.declared.operator.Operator.{Ghosts}
 use Rattle.operator_core.specs.Calls.{IsLawful, Looked}
-use Rattle.operator_core.specs.Stages.{MadeOf, CameFrom, AllCameFrom}
+use Rattle.operator_core.specs.Stages.{CameFrom, AllCameFrom}
 
 module _ {S : Type 0} (g : Ghosts S) where
-  pub CameFrom-made : (m : S) → g.as_made m ≡ m → CameFrom g m m
-  CameFrom-made m e = inl e
-
   pub CameFrom-same : (m old new : S) → g.as_made new ≡ g.as_made old → CameFrom g m old → CameFrom g m new
   CameFrom-same m old new e (inl made) = inl (e ∙ made)
   CameFrom-same m old new e (inr learned) = inr (subst (λ (k : S). g.may_learn m k) (sym e) learned)
@@ -29,19 +26,9 @@ module _ {S : Type 0} (g : Ghosts S) where
   pub CameFrom-looked : IsLawful g → (m old new : S) → Looked g old new → CameFrom g m old → CameFrom g m new
   CameFrom-looked laws m old new t came = looked-at laws m old new t came (g.knows old) (g.knows new) refl refl
 
-  pub AllCameFrom-made : (ss : List S) → map g.as_made ss ≡ ss → AllCameFrom g ss ss
-  AllCameFrom-made [] e = tt
-  AllCameFrom-made (s ∷ ss) e = (inl (cc), AllCameFrom-made ss (cc))
-
   pub AllCameFrom-set : (ms ss : List S) (i : ℕ) (s t : S) → i < length ss → s ≡ get_or ss i s → ((m : S) → CameFrom g m s → CameFrom g m t)
       → AllCameFrom g ms ss → AllCameFrom g ms (set ss i t)
   AllCameFrom-set ms [] i s t h e step all = absurd (omega arith)
   AllCameFrom-set [] (k ∷ ss) i s t h e step all = absurd all
   AllCameFrom-set (m ∷ ms) (k ∷ ss) zero s t h e step all = (step m (subst (λ (k : S). CameFrom g m k) (sym e) all.0), all.1)
   AllCameFrom-set (m ∷ ms) (k ∷ ss) (suc i) s t h e step all = (all.0, AllCameFrom-set ms ss i s t (omega arith) e step all.1)
-
-  -- a stage whose note knows nothing may be made of any value that the stage as it was made may learn
-  pub MadeOf-unknown : IsLawful g → (wired s m : S) → CameFrom g wired s → g.knows s ≡ false → g.may_learn wired m → MadeOf g s m
-  MadeOf-unknown laws wired s m (inl made) unknown l =
-      inr (unknown, (laws.note.learns_as_made s m).1 (subst (λ (k : S). g.may_learn k m) (sym made) l))
-  MadeOf-unknown laws wired s m (inr learned) unknown l = let known = learned-knows laws wired s learned in cc

@@ -2,8 +2,12 @@ pub mod Rows
 pub mod LawGroups
 pub mod Answers
 pub mod Held
+pub mod Late
+pub mod LateGhosts
+pub mod LateLaws
 pub mod Samples
 pub mod SampleLaws
 pub mod NoteLaws
 pub mod Calls
+pub mod Lates
 pub mod Stages

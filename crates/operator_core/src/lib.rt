@@ -57,16 +57,20 @@
 //! - `laws`: what follows for a list of stages
 //! - `fault`: `OpFault`
 //! - `held_pages`: `HeldPages`, the rows that an operator has still to give
+//! - `late`: `Late`, the operator made of a `Kernel`: it gives no row before it was told to finish, has no note
+//!   and is never full. `specs/Lates.antt` says what one promises that was just made
 //!
 //! `operator_examples` has four small operators that keep these promises.
 #![tactic(auto)]
 
 mod fault;
 mod held_pages;
+mod late;
 pub mod laws;
 mod operator;
 pub mod stage;
 
 pub use fault::OpFault;
 pub use held_pages::HeldPages;
+pub use late::{Kernel, Late};
 pub use operator::Operator;

@@ -5,7 +5,7 @@ ghost use Rattle.plan_trees.specs.Layouts.{layout_types};
 
 use crate::page_texts::{TYPES, are_rows, copied, drained, page, show, take_in};
 use crate::python_groups::{GROUPS, ROWS};
-use aggregation::{FinalAgg, SingleAgg};
+use aggregation::{FinalAgg, final_op, single_op};
 use col_pages::Page;
 use operator_core::OpFault;
 use sql_values::{Call, Fail, Memory, SqlType};
@@ -24,7 +24,7 @@ fn whole(
     requires typed { 0 < length types.now }
     requires some { 0 < length keys.now + length calls.now }
 {
-    let mut op = SingleAgg::new(
+    let mut op = single_op(
         alloc,
         7,
         Vec::from_slice(alloc, keys)?,
@@ -295,9 +295,9 @@ fn groups_of_no_call_are_the_keys(rt: HostRuntime) -> Result<(), OpFault> {
     Ok(())
 }
 
-fn final_op(alloc: Global) -> Result<FinalAgg, Memory> {
+fn count_and_average(alloc: Global) -> Result<FinalAgg, Memory> {
     let calls = [Call::Count(1), Call::Avg(3)];
-    FinalAgg::new(
+    final_op(
         alloc,
         7,
         Vec::from_array(alloc, [SqlType::Bigint])?,
@@ -312,7 +312,7 @@ fn is_told_of(alloc: Global, op: &FinalAgg, layout: &[SqlType], line: &str) -> R
     requires { 0 < length layout.now }
 {
     let (row, wanted) = line.split_once('|').unwrap_or((line, ""));
-    let told = op.is_layout(&page(alloc, layout, row)?);
+    let told = op.kernel().is_layout(&page(alloc, layout, row)?);
     Ok(wanted == if told { "true" } else { "false" })
 }
 
@@ -345,6 +345,6 @@ fn pages_of_the_layout_are_told(rt: HostRuntime) -> Result<(), OpFault> {
         5 2 1 0.30 0|false\n\
         5 2 1 19999999999999999.98 2|true\n\
         5 2 1 19999999999999999.99 2|false";
-    assert!(rt; is_told_of_all(rt.alloc(), &final_op(rt.alloc())?, cases)?);
+    assert!(rt; is_told_of_all(rt.alloc(), &count_and_average(rt.alloc())?, cases)?);
     Ok(())
 }

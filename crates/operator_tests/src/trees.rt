@@ -1,7 +1,7 @@
 //! Small trees over constants. Rows stand between commas, their cells between blanks, and `-` is NULL.
 ghost use Rattle.std.specs.Prelude.{◌<◌, length};
 
-use plan_trees::{CallList, KeyList, Pair, Pairs, Tree};
+use plan_trees::{CallList, KeyList, Pair, Pairs, Tree, TreeStep};
 use sql_exprs::{CallName, Expr};
 use sql_values::{
     Call, JoinKind, KeySpec, Memory, Order, Places, Row, RowList, SqlType, Types, Value, ValueRef,
@@ -134,13 +134,20 @@ fn predicate(alloc: Global) -> Result<Expr, Memory> {
     call(alloc, CallName::Greater, quotient, number(3))
 }
 
-fn filtered(alloc: Global, texts: &str) -> Result<Tree, Memory> {
-    let input = Box::new(alloc, numbers(alloc, texts)?)?;
-    Ok(Tree::Filter {
-        id: 1,
+/// A step over the rows of a tree.
+fn over(alloc: Global, id: u32, step: TreeStep, input: Tree) -> Result<Tree, Memory> {
+    let input = Box::new(alloc, input)?;
+    Ok(Tree::Step { id, step, input })
+}
+
+fn filter(alloc: Global) -> Result<TreeStep, Memory> {
+    Ok(TreeStep::Filter {
         predicate: predicate(alloc)?,
-        input,
     })
+}
+
+fn filtered(alloc: Global, texts: &str) -> Result<Tree, Memory> {
+    over(alloc, 1, filter(alloc)?, numbers(alloc, texts)?)
 }
 
 /// The number more than the greatest.
@@ -160,12 +167,10 @@ fn columns(alloc: Global) -> Result<Vec<Expr>, Memory> {
 }
 
 fn projected(alloc: Global, texts: &str) -> Result<Tree, Memory> {
-    let input = Box::new(alloc, numbers(alloc, texts)?)?;
-    Ok(Tree::Project {
-        id: 2,
+    let step = TreeStep::Project {
         columns: columns(alloc)?,
-        input,
-    })
+    };
+    over(alloc, 2, step, numbers(alloc, texts)?)
 }
 
 /// Whether each line says what a filter of its rows gives.
@@ -232,12 +237,7 @@ fn many_numbers(alloc: Global, count: i64) -> Result<Tree, Memory> {
 }
 
 fn many_filtered(alloc: Global, count: i64) -> Result<Tree, Memory> {
-    let input = Box::new(alloc, many_numbers(alloc, count)?)?;
-    Ok(Tree::Filter {
-        id: 1,
-        predicate: predicate(alloc)?,
-        input,
-    })
+    over(alloc, 1, filter(alloc)?, many_numbers(alloc, count)?)
 }
 
 /// The numbers that the filter keeps, and all of them.
@@ -262,11 +262,7 @@ fn lists_go_past_a_page(rt: HostRuntime) -> Result<(), Memory> {
     let alloc = rt.alloc();
     let tree = many(alloc, 14_000)?;
     assert!(rt; gives_so_many(alloc, &tree, 20_000)?);
-    let limited = Tree::Limit {
-        id: 6,
-        count: 9000,
-        input: Box::new(alloc, tree)?,
-    };
+    let limited = over(alloc, 6, TreeStep::Limit { count: 9000 }, tree)?;
     assert!(rt; gives_so_many(alloc, &limited, 9000)?);
     Ok(())
 }
@@ -287,12 +283,10 @@ fn two_keys(alloc: Global, first: Order, second: Order) -> Result<KeyList, Memor
 
 /// The pairs, by the first column and then by the second.
 fn sorted(alloc: Global, first: Order, second: Order) -> Result<Tree, Memory> {
-    let input = Box::new(alloc, pairs(alloc, PAIRS)?)?;
-    Ok(Tree::Sort {
-        id: 3,
+    let step = TreeStep::Sort {
         keys: two_keys(alloc, first, second)?,
-        input,
-    })
+    };
+    over(alloc, 3, step, pairs(alloc, PAIRS)?)
 }
 
 #[test]
@@ -315,13 +309,11 @@ fn key(alloc: Global) -> Result<KeyList, Memory> {
 
 /// The greatest numbers, at most so many.
 fn top(alloc: Global, count: u32) -> Result<Tree, Memory> {
-    let input = Box::new(alloc, numbers(alloc, "3,-,1,3,2")?)?;
-    Ok(Tree::TopN {
-        id: 4,
+    let step = TreeStep::TopN {
         count,
         keys: key(alloc)?,
-        input,
-    })
+    };
+    over(alloc, 4, step, numbers(alloc, "3,-,1,3,2")?)
 }
 
 fn is_top(alloc: Global, count: u32, wanted: &str) -> Result<bool, Memory> {
@@ -385,15 +377,9 @@ fn joins_find_partners(rt: HostRuntime) -> Result<(), Memory> {
 
 /// The groups of the rows by these columns.
 fn grouped(alloc: Global, keys: &[u32], calls: &[Call], input: Tree) -> Result<Tree, Memory> {
-    let input = Box::new(alloc, input)?;
     let keys = Places::of(Vec::from_slice(alloc, keys)?);
     let calls = CallList::of(Vec::from_slice(alloc, calls)?);
-    Ok(Tree::Aggregate {
-        id: 8,
-        keys,
-        calls,
-        input,
-    })
+    over(alloc, 8, TreeStep::Aggregate { keys, calls }, input)
 }
 
 /// The number of rows, and count, sum, least and greatest of the second column.

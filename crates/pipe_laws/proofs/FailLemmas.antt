@@ -1,17 +1,25 @@
 -- Of pipes of which one failed, the plan's tree may fail with this kind.
-use Rattle.std.proofs.Common.{◌≡◌, ◌⊎◌, inl, inr, ℕ, ◌<◌, subst}
+use Rattle.std.proofs.Common.{◌≡◌, ◌⊎◌, inl, inr, ℕ, ◌<◌, List, subst}
 use Rattle.sql_values.specs.declared.fail.Fail.{Fail}
+use Rattle.sql_values.specs.declared.types.SqlType.{SqlType}
 use Rattle.operator_core.specs.declared.operator.Operator.{Ghosts}
 use Rattle.operator_core.specs.Calls.{IsLawful}
+use Rattle.plan_trees.specs.TreeTypes.{types_of}
 use Rattle.plan_run_laws.specs.Faults.{Failed}
-use Rattle.plan_run_laws.specs.Nets as stage
-use Rattle.plan_run_laws.specs.RunPlans.{RunPlan, scan, values, remote, filter, project, join, aggregate, aggregate_parts, sort, topn, topn_parts, limit, limit_parts, union}
+use Rattle.plan_run_laws.specs.HalvedSteps.{HalvedForm}
+use Rattle.plan_run_laws.specs.HalvedSteps as halved
+use Rattle.plan_run_laws.specs.Stages.{first_half}
+use Rattle.plan_run_laws.specs.RunPlans.{RunPlan, scan, values, remote, step, halves, join, union, tree_of_run}
 use Rattle.plan_run_laws.specs.Spreads.{Tables}
 use Rattle.stage_meanings.specs.Pipelines.{NodeStage, at_node}
 use Rattle.pipe_laws.specs.Lanes.{NeverFails, Noted, notes_of_lanes, other_notes}
 use Rattle.pipe_laws.proofs.LaneFailLemmas.{halves_failed, lanes_failed}
 use Rattle.pipe_laws.specs.Pipes.{HasFailing, IsBelow, IsHalfPipeOf, IsPipeOf, PipeState, Stands, stopped}
 use Rattle.pipe_laws.proofs.StandLemmas.{stops}
+
+pub half_calm : (types : List SqlType) (h : HalvedForm) → NeverFails (first_half types h)
+half_calm types (halved.aggregate keys calls) kind rows never = never
+half_calm types h kind rows never = never
 
 module _ {S : Type 0} (g : Ghosts S) (laws : IsLawful g) (pipes : ℕ → PipeState S) (tables : Tables) (node : ℕ) (kind : Fail) where
   -- the pipe at a place failed, below which the others stand
@@ -39,27 +47,14 @@ module _ {S : Type 0} (g : Ghosts S) (laws : IsLawful g) (pipes : ℕ → PipeSt
     below_failed at n (values id types rows) notes stands is = absurd is
     below_failed at n (remote id output m input) notes (j, pipe, below, passed) (inl same) = (stopped input (pipes j), pipe_failed j m input pipe below (here j same))
     below_failed at n (remote id output m input) notes (j, pipe, below, passed) (inr is) = (stopped input (pipes j), below_failed j m input (pipes j).notes below is)
-    below_failed at n (filter id predicate input) notes stands is = inr (below_failed at n input notes stands is)
-    below_failed at n (project id columns input) notes stands is = inr (below_failed at n input notes stands is)
+    below_failed at n (step id s input) notes stands is = inr (below_failed at n input notes stands.1 is)
+    below_failed at n (halves id source output m h input) notes (j, half, alone, pipe, below, passed) (inl same) =
+        inr (stopped input (pipes j), half_pipe_failed j m input (at_node half (first_half (types_of (tree_of_run input)) h)) (half_calm (types_of (tree_of_run input)) h) pipe below (here j same))
+    below_failed at n (halves id source output m h input) notes (j, half, alone, pipe, below, passed) (inr is) =
+        inr (stopped input (pipes j), below_failed j m input (pipes j).notes below is)
     below_failed at n (join id how on left right) notes (j, pipe, below, known, rest) (inl (inl same)) = inr (stopped right (pipes j), pipe_failed j n right pipe below (here j same))
     below_failed at n (join id how on left right) notes (j, pipe, below, known, rest) (inl (inr is)) = inr (stopped right (pipes j), below_failed j n right (pipes j).notes below is)
     below_failed at n (join id how on left right) notes (j, pipe, below, known, rest) (inr is) = inl (below_failed at n left (λ k d. other_notes (notes k d)) rest is)
-    below_failed at n (aggregate id keys calls input) notes stands is = inr (below_failed at n input notes stands.1 is)
-    below_failed at n (aggregate_parts id source output m keys calls input) notes (j, half, alone, pipe, below, passed) (inl same) =
-        inr (stopped input (pipes j), half_pipe_failed j m input (at_node half (stage.partial keys calls)) (λ kind rows never. never) pipe below (here j same))
-    below_failed at n (aggregate_parts id source output m keys calls input) notes (j, half, alone, pipe, below, passed) (inr is) =
-        inr (stopped input (pipes j), below_failed j m input (pipes j).notes below is)
-    below_failed at n (sort id keys input) notes stands is = below_failed at n input notes stands.1 is
-    below_failed at n (topn id count keys input) notes stands is = below_failed at n input notes stands.1 is
-    below_failed at n (topn_parts id source output m count keys input) notes (j, half, alone, pipe, below, passed) (inl same) =
-        (stopped input (pipes j), half_pipe_failed j m input (at_node half (stage.topn count keys)) (λ kind rows never. never) pipe below (here j same))
-    below_failed at n (topn_parts id source output m count keys input) notes (j, half, alone, pipe, below, passed) (inr is) =
-        (stopped input (pipes j), below_failed j m input (pipes j).notes below is)
-    below_failed at n (limit id count input) notes stands is = below_failed at n input notes stands.1 is
-    below_failed at n (limit_parts id source output m count input) notes (j, half, alone, pipe, below, passed) (inl same) =
-        (stopped input (pipes j), half_pipe_failed j m input (at_node half (stage.limit count)) (λ kind rows never. never) pipe below (here j same))
-    below_failed at n (limit_parts id source output m count input) notes (j, half, alone, pipe, below, passed) (inr is) =
-        (stopped input (pipes j), below_failed j m input (pipes j).notes below is)
     below_failed at n (union id left right) notes (i, j, first, left_below, second, right_below, passed) (inl (inl same)) =
         (stopped left (pipes i), inl (pipe_failed i n left first left_below (here i same)))
     below_failed at n (union id left right) notes (i, j, first, left_below, second, right_below, passed) (inl (inr is)) =

@@ -1,5 +1,5 @@
 -- What operators gave where the last of them is finished.
-use Rattle.std.proofs.Common.{◌≡◌, ℕ, List, [], ◌∷◌, ◌++◌, Option, Some, None, Bool, true, length, refl, ap, sym, subst, ◌∙◌, append-nil}
+use Rattle.std.proofs.Common.{◌≡◌, ℕ, List, [], ◌∷◌, ◌++◌, Option, Some, None, Bool, true, refl, ap, sym, subst, ◌∙◌, append-nil}
 use Rattle.sql_values.specs.declared.types.SqlType.{SqlType}
 use Rattle.sql_values.specs.declared.relational.JoinKind.{JoinKind}
 use Rattle.col_pages.specs.Fits.{AllFit}
@@ -10,16 +10,15 @@ use Rattle.operator_core.specs.Stages.{Linked, Steps, ToldInTurn, last_finished}
 use Rattle.operator_core.proofs.StageLemmas.{Steps-finished, finished-told}
 use Rattle.plan_trees.specs.Allowed.{skipping, strict, width_of}
 use Rattle.plan_trees.specs.TreeTypes.{types_of}
-use Rattle.plan_run_laws.specs.Nets.{StagesMake as StageChain, Stage}
-use Rattle.plan_run_laws.specs.Nets as stage
-use Rattle.plan_run_laws.specs.RunPlans.{RunPlan, tree_of_run, scan, values, remote, filter, project, join, aggregate, aggregate_parts, sort, topn, topn_parts, limit, limit_parts, union}
+use Rattle.plan_run_laws.specs.Stages.{StagesMake as StageChain, Stage, second_half}
+use Rattle.plan_run_laws.specs.Stages as stage
+use Rattle.plan_run_laws.specs.RunPlans.{RunPlan, tree_of_run, scan, values, remote, step, halves, join, union}
 use Rattle.plan_run_laws.specs.Stops.{StagesCanGoOn, IsNoted}
 use Rattle.stage_meanings.specs.Meanings.{Means}
 use Rattle.stage_meanings.specs.Pipelines.{NodeStage, at_node, stages_of}
 use Rattle.stage_meanings.proofs.MeaningLemmas.{all_make, made-append, stages-append}
-use Rattle.pipe_laws.specs.Trees.{stages_over}
+use Rattle.pipe_laws.specs.Trees.{stages_over, types_between}
 use Rattle.pipe_laws.specs.Stopped.{AgreeWith}
-use Rattle.plan_trees.specs.Layouts.{partial_types}
 use Rattle.pipe_laws.specs.Operators.{EndsIn, LooksUp, NoOperator, Operate, types_of_source}
 use Rattle.pipe_laws.proofs.OperatorLemmas.{Before, Made, came_before, done_is, first_agrees, gave_fits, made_behind}
 
@@ -93,15 +92,10 @@ module _ {S : Type 0} (g : Ghosts S) (laws : IsLawful g) where
   finish_all (scan id table columns types) notes builds all given (none, same) agree ended took gave turns linked fit over = no_operator all types given ended took gave none same linked fit
   finish_all (values id types rows) notes builds all given (none, same) agree ended took gave turns linked fit over = no_operator all types given ended took gave none same linked fit
   finish_all (remote id output tasks input) notes builds all given (none, same) agree ended took gave turns linked fit over = no_operator all (types_of (tree_of_run input)) given ended took gave none same linked fit
-  finish_all (filter id predicate input) notes builds all given o agree ended took gave turns linked fit over =
+  finish_all (step id s input) notes builds all given o agree ended took gave turns linked fit over =
       let b = came_before g laws all o.before o.last ended took gave o.are turns linked in
       let done = done_last all o.before o.last ended o.are over in
-      unary_finish (filter id predicate input) (at_node id (stage.filter (types_of (tree_of_run input)) predicate)) input notes all given builds refl o ended took gave b done
-      (finish_all input notes builds o.before o.between o.input agree ended took b.came b.told b.linked fit (done_before o.before o.last ended took gave b done))
-  finish_all (project id columns input) notes builds all given o agree ended took gave turns linked fit over =
-      let b = came_before g laws all o.before o.last ended took gave o.are turns linked in
-      let done = done_last all o.before o.last ended o.are over in
-      unary_finish (project id columns input) (at_node id (stage.project (types_of (tree_of_run input)) columns)) input notes all given builds refl o ended took gave b done
+      unary_finish (step id s input) (at_node id (stage.does (types_of (tree_of_run input)) s)) input notes all given builds refl o ended took gave b done
       (finish_all input notes builds o.before o.between o.input agree ended took b.came b.told b.linked fit (done_before o.before o.last ended took gave b done))
   finish_all (join id kind on left right) [] builds all given o agree ended took gave turns linked fit over = absurd o
   finish_all (join id kind on left right) (noted ∷ notes) [] all given o agree ended took gave turns linked fit over = absurd agree
@@ -115,31 +109,6 @@ module _ {S : Type 0} (g : Ghosts S) (laws : IsLawful g) where
         gave_fits g laws noted (λ (built : List Row). at_node id (stage.probe kind on (width_of (tree_of_run left)) (width_of (tree_of_run right)) built)) o.last o.between given o.is took b.came gave
             ended (last_finished g ended o.before) b.turn b.steps made.1,
       )
-  finish_all (aggregate id keys calls input) notes builds all given o agree ended took gave turns linked fit over =
-      let b = came_before g laws all o.before o.last ended took gave o.are turns linked in
-      let done = done_last all o.before o.last ended o.are over in
-      unary_finish (aggregate id keys calls input) (at_node id (stage.grouping (types_of (tree_of_run input)) keys calls)) input notes all given builds refl o ended took gave b done
-      (finish_all input notes builds o.before o.between o.input agree ended took b.came b.told b.linked fit (done_before o.before o.last ended took gave b done))
-  finish_all (aggregate_parts id source output tasks keys calls input) notes builds all given o agree ended took gave turns linked fit over =
-      let types = types_of (tree_of_run input) in
-      half_finish (at_node id (stage.final types (length keys) calls)) (partial_types types keys calls) all given o ended took gave turns linked fit over
-  finish_all (sort id keys input) notes builds all given o agree ended took gave turns linked fit over =
-      let b = came_before g laws all o.before o.last ended took gave o.are turns linked in
-      let done = done_last all o.before o.last ended o.are over in
-      unary_finish (sort id keys input) (at_node id (stage.sort keys)) input notes all given builds refl o ended took gave b done
-      (finish_all input notes builds o.before o.between o.input agree ended took b.came b.told b.linked fit (done_before o.before o.last ended took gave b done))
-  finish_all (topn id count keys input) notes builds all given o agree ended took gave turns linked fit over =
-      let b = came_before g laws all o.before o.last ended took gave o.are turns linked in
-      let done = done_last all o.before o.last ended o.are over in
-      unary_finish (topn id count keys input) (at_node id (stage.topn count keys)) input notes all given builds refl o ended took gave b done
-      (finish_all input notes builds o.before o.between o.input agree ended took b.came b.told b.linked fit (done_before o.before o.last ended took gave b done))
-  finish_all (topn_parts id source output tasks count keys input) notes builds all given o agree ended took gave turns linked fit over =
-      half_finish (at_node id (stage.topn count keys)) (types_of (tree_of_run input)) all given o ended took gave turns linked fit over
-  finish_all (limit id count input) notes builds all given o agree ended took gave turns linked fit over =
-      let b = came_before g laws all o.before o.last ended took gave o.are turns linked in
-      let done = done_last all o.before o.last ended o.are over in
-      unary_finish (limit id count input) (at_node id (stage.limit count)) input notes all given builds refl o ended took gave b done
-      (finish_all input notes builds o.before o.between o.input agree ended took b.came b.told b.linked fit (done_before o.before o.last ended took gave b done))
-  finish_all (limit_parts id source output tasks count input) notes builds all given o agree ended took gave turns linked fit over =
-      half_finish (at_node id (stage.limit count)) (types_of (tree_of_run input)) all given o ended took gave turns linked fit over
+  finish_all (halves id source output tasks h input) notes builds all given o agree ended took gave turns linked fit over =
+      let types = types_of (tree_of_run input) in half_finish (at_node id (second_half types h)) (types_between types h) all given o ended took gave turns linked fit over
   finish_all (union id left right) notes builds all given (none, same) agree ended took gave turns linked fit over = no_operator all (types_of (tree_of_run left)) given ended took gave none same linked fit

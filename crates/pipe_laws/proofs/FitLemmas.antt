@@ -15,7 +15,7 @@ use Rattle.plan_trees.specs.TreeForms as tree
 use Rattle.stage_meanings.specs.Fits.{FitsTables}
 use Rattle.plan_run_laws.specs.Spreads.{Tables}
 use Rattle.stage_meanings.proofs.MeaningLemmas.{front-fits}
-use Rattle.row_ops.proofs.OwnLemmas.{fits-width}
+use Rattle.stage_meanings.proofs.OwnLemmas.{fits-width}
 
 -- a tree that fits tables fits in its widths
 pub fits_widths : (t : TreeForm) (tables : Tables) → FitsTables t tables → FitsWidths t
@@ -23,13 +23,8 @@ fits_widths (tree.scan id table columns types) tables fits = sym fits.1
 fits_widths (tree.values id types rows) tables fits =
     All-weaker (λ (row : List Value). IsTrue (fits_row types row)) (λ (row : List Value). length row ≡ length types) (λ row fit. fits-width types row fit) rows fits.1
 fits_widths (tree.remote id input) tables fits = fits_widths input tables fits
-fits_widths (tree.filter id predicate input) tables fits = fits_widths input tables fits.1
-fits_widths (tree.project id columns input) tables fits = fits_widths input tables fits.2
+fits_widths (tree.step id s input) tables fits = fits_widths input tables fits.1
 fits_widths (tree.join id kind on left right) tables fits = (fits_widths left tables fits.0, fits_widths right tables fits.1)
-fits_widths (tree.aggregate id keys calls input) tables fits = fits_widths input tables fits.2
-fits_widths (tree.sort id keys input) tables fits = fits_widths input tables fits
-fits_widths (tree.topn id count keys input) tables fits = fits_widths input tables fits
-fits_widths (tree.limit id count input) tables fits = fits_widths input tables fits
 fits_widths (tree.union id left right) tables fits = (fits_widths left tables fits.1, fits_widths right tables fits.2, ap length fits.0)
 
 pub same_fits : (types : List SqlType) (took rows : List (List Value)) → SameWeights took rows → AllFit types rows → AllFit types took

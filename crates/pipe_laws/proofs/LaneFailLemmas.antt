@@ -10,12 +10,11 @@ use Rattle.operator_core.specs.Rows.{Row}
 use Rattle.operator_core.specs.Calls.{IsLawful}
 use Rattle.operator_core.specs.Stages.{FailsAfter, Linked, ToldInTurn, last_finished}
 use Rattle.bag_laws.proofs.GatherLemmas.{chosen}
-use Rattle.relation_laws.specs.Groups.{groups_of}
-use Rattle.plan_trees.specs.Judges.{filter_judge, project_judge}
 use Rattle.plan_trees.specs.TreeTypes.{types_of}
-use Rattle.plan_run_laws.specs.Faults.{Failed, FailedOver, FailsOnGroupOf, FailsOnOneOf}
-use Rattle.plan_run_laws.specs.Nets.{Lanes, Stage}
-use Rattle.plan_run_laws.specs.RunPlans.{RunPlan, tree_of_run, scan, values, remote, filter, project, join, aggregate, aggregate_parts, sort, topn, topn_parts, limit, limit_parts, union}
+use Rattle.plan_run_laws.specs.Faults.{Failed, FailedOver}
+use Rattle.plan_run_laws.specs.Nets.{Lanes}
+use Rattle.plan_run_laws.specs.Stages.{Stage, does}
+use Rattle.plan_run_laws.specs.RunPlans.{RunPlan, tree_of_run, scan, values, remote, step, halves, join, union}
 use Rattle.plan_run_laws.specs.Spreads.{Tables}
 use Rattle.plan_run_laws.specs.Stops.{AreOpen, StagesCanGoOn, Flags, MayCome, Stops}
 use Rattle.stage_meanings.specs.Meanings.{Means}
@@ -139,41 +138,18 @@ module _ {S : Type 0} (g : Ghosts S) (laws : IsLawful g) where
     lanes_failed_at (scan id table columns types) notes all gave done lanes stops f = absurd f
     lanes_failed_at (values id types rows) notes all gave done lanes stops f = absurd f
     lanes_failed_at (remote id output tasks input) notes all gave done lanes stops f = absurd f
-    lanes_failed_at (filter id predicate input) notes all gave done lanes stops (inl (same, over)) =
+    lanes_failed_at (step id s input) notes all gave done lanes (may, stops) (inl (same, over)) =
         let i = input_lanes n w input notes took ended (λ k d lt less. let l = lanes k d lt less in input_of input (notes k d) (all k d) _ l.noted l.operate (ended k d) (took k d) (gave k d) l.turns l.linked l.fit) in
-        inl (same, failed_over (FailsOnOneOf (filter_judge (types_of (tree_of_run input)) predicate) kind) tables n w input notes took ended task driver i stops in_tasks in_drivers over)
-    lanes_failed_at (filter id predicate input) notes all gave done lanes stops (inr f) =
-        let i = input_lanes n w input notes took ended (λ k d lt less. let l = lanes k d lt less in input_of input (notes k d) (all k d) _ l.noted l.operate (ended k d) (took k d) (gave k d) l.turns l.linked l.fit) in
-        inr (lanes_failed_at input notes i.all i.came i.told i.lanes stops f)
-    lanes_failed_at (project id columns input) notes all gave done lanes stops (inl (same, over)) =
-        let i = input_lanes n w input notes took ended (λ k d lt less. let l = lanes k d lt less in input_of input (notes k d) (all k d) _ l.noted l.operate (ended k d) (took k d) (gave k d) l.turns l.linked l.fit) in
-        inl (same, failed_over (FailsOnOneOf (project_judge (types_of (tree_of_run input)) columns) kind) tables n w input notes took ended task driver i stops in_tasks in_drivers over)
-    lanes_failed_at (project id columns input) notes all gave done lanes stops (inr f) =
+        inl (same, may, failed_over (FailsOn (does (types_of (tree_of_run input)) s) kind) tables n w input notes took ended task driver i stops in_tasks in_drivers over)
+    lanes_failed_at (step id s input) notes all gave done lanes (may, stops) (inr f) =
         let i = input_lanes n w input notes took ended (λ k d lt less. let l = lanes k d lt less in input_of input (notes k d) (all k d) _ l.noted l.operate (ended k d) (took k d) (gave k d) l.turns l.linked l.fit) in
         inr (lanes_failed_at input notes i.all i.came i.told i.lanes stops f)
+    lanes_failed_at (halves id source output tasks h input) notes all gave done lanes stops f =
+        inl (f.0, record { stops = stops; task = task; driver = driver; in_tasks = in_tasks; in_drivers = in_drivers; failed = f.1 })
     lanes_failed_at (join id how on left right) notes all gave done lanes (p, below, opens, known, rest) f =
         let i = input_lanes n w left (λ (k d : ℕ). other_notes (notes k d)) took ended (λ k d lt less. left_lane id how on left right (notes k d) (all k d) (took k d) (gave k d) (ended k d) (done k d) (lanes k d lt less)) in
         inl (lanes_failed_at left (λ (k d : ℕ). other_notes (notes k d)) i.all i.came i.told i.lanes rest
         (fails_left id how on left right (notes task driver) (lanes task driver in_tasks in_drivers).noted f))
-    lanes_failed_at (aggregate id keys calls input) notes all gave done lanes stops (inl (same, over)) =
-        let i = input_lanes n w input notes took ended (λ k d lt less. let l = lanes k d lt less in input_of input (notes k d) (all k d) _ l.noted l.operate (ended k d) (took k d) (gave k d) l.turns l.linked l.fit) in
-        inl (same, stops.0, failed_over (FailsOnGroupOf (groups_of (types_of (tree_of_run input)) keys calls) kind) tables n w input notes took ended task driver i stops.1 in_tasks in_drivers over)
-    lanes_failed_at (aggregate id keys calls input) notes all gave done lanes stops (inr f) =
-        let i = input_lanes n w input notes took ended (λ k d lt less. let l = lanes k d lt less in input_of input (notes k d) (all k d) _ l.noted l.operate (ended k d) (took k d) (gave k d) l.turns l.linked l.fit) in
-        inr (lanes_failed_at input notes i.all i.came i.told i.lanes stops.1 f)
-    lanes_failed_at (aggregate_parts id source output tasks keys calls input) notes all gave done lanes stops f =
-        inl (f.0, record { stops = stops; task = task; driver = driver; in_tasks = in_tasks; in_drivers = in_drivers; failed = f.1 })
-    lanes_failed_at (sort id keys input) notes all gave done lanes stops f =
-        let i = input_lanes n w input notes took ended (λ k d lt less. let l = lanes k d lt less in input_of input (notes k d) (all k d) _ l.noted l.operate (ended k d) (took k d) (gave k d) l.turns l.linked l.fit) in
-        lanes_failed_at input notes i.all i.came i.told i.lanes stops.1 f
-    lanes_failed_at (topn id count keys input) notes all gave done lanes stops f =
-        let i = input_lanes n w input notes took ended (λ k d lt less. let l = lanes k d lt less in input_of input (notes k d) (all k d) _ l.noted l.operate (ended k d) (took k d) (gave k d) l.turns l.linked l.fit) in
-        lanes_failed_at input notes i.all i.came i.told i.lanes stops.1 f
-    lanes_failed_at (topn_parts id source output tasks count keys input) notes all gave done lanes stops f = absurd f
-    lanes_failed_at (limit id count input) notes all gave done lanes stops f =
-        let i = input_lanes n w input notes took ended (λ k d lt less. let l = lanes k d lt less in input_of input (notes k d) (all k d) _ l.noted l.operate (ended k d) (took k d) (gave k d) l.turns l.linked l.fit) in
-        lanes_failed_at input notes i.all i.came i.told i.lanes stops.1 f
-    lanes_failed_at (limit_parts id source output tasks count input) notes all gave done lanes stops f = absurd f
     lanes_failed_at (union id left right) notes all gave done lanes stops f = absurd f
 
     -- an operator of one driver failed
@@ -197,10 +173,10 @@ module _ {S : Type 0} (g : Ghosts S) (laws : IsLawful g) where
       pub halves_failed : (run : RunPlan) (notes : ℕ → ℕ → Noted) (half : NodeStage) (all : ℕ → ℕ → List S) (gave : Lanes) (done : Flags) → NeverFails half.stage
           → AreHalved g n w run notes half all took gave ended done → Stops tables n w run (notes_of_lanes run notes) took ended → i < length (all task driver) → s ≡ get_or (all task driver) i s
           → FailsAfter g (take i (all task driver)) (g.as_made s) (ended task driver) (took task driver) node kind → Failed tables n w run (notes_of_lanes run notes) took ended node kind
-      halves_failed run notes half all gave done never halves stops within is f =
-          let h = halves task driver in_tasks in_drivers in
+      halves_failed run notes half all gave done never halved stops within is f =
+          let h = halved task driver in_tasks in_drivers in
           let inputs = gathered n w (λ k d front. IsInput run (notes k d) (took k d) (ended k d) front)
-          (λ k d lt less. let x = halves k d lt less in (record { all = x.before; came = x.came; told = x.told }, x.lane)) in
+          (λ k d lt less. let x = halved k d lt less in (record { all = x.before; came = x.came; told = x.told }, x.lane)) in
           lanes_failed_at run notes (λ k d. (inputs.0 k d).all) (λ k d. (inputs.0 k d).came) (λ k d. (inputs.0 k d).told) inputs.1 stops
           (in_front h (at_last_or_before g laws (all task driver) h.before h.last i s h.are within is))
         where

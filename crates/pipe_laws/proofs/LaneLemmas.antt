@@ -7,7 +7,8 @@ use Rattle.operator_core.specs.Calls.{IsLawful}
 use Rattle.operator_core.proofs.StageLemmas.{Steps-finished, finished-told}
 use Rattle.bag_laws.specs.Laws.{TaskRows}
 use Rattle.plan_trees.specs.Allowed.{strict}
-use Rattle.plan_run_laws.specs.Nets.{AreFor, StagesMake, Lanes, Makes, Stage, Went, WentInto}
+use Rattle.plan_run_laws.specs.Nets.{AreFor, Lanes, Went, WentInto}
+use Rattle.plan_run_laws.specs.Stages.{StagesMake, Makes, Stage}
 use Rattle.plan_run_laws.specs.RunPlans.{RunPlan}
 use Rattle.plan_run_laws.specs.Stops.{AllSet, AreOpen, StagesCanGoOn, Flags}
 use Rattle.plan_run_laws.proofs.LaneLemmas.{chosen_lanes, only_stage}

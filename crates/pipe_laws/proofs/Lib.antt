@@ -12,3 +12,4 @@ pub mod LaneFailLemmas
 pub mod StandLemmas
 pub mod OverLemmas
 pub mod FailLemmas
+pub use Rattle.stage_meanings.proofs.MeaningLemmas

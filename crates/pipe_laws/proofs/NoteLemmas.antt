@@ -3,7 +3,7 @@ use Rattle.std.proofs.Common.{◌≡◌, ℕ, List, [], ◌∷◌, Some, None, s
 use Rattle.sql_values.specs.declared.relational.JoinKind.{JoinKind}
 use Rattle.operator_core.specs.Rows.{Row}
 use Rattle.bag_laws.specs.Laws.{TaskRows}
-use Rattle.plan_run_laws.specs.RunPlans.{RunPlan, scan, values, remote, filter, project, join, aggregate, aggregate_parts, sort, topn, topn_parts, limit, limit_parts, union}
+use Rattle.plan_run_laws.specs.RunPlans.{RunPlan, scan, values, remote, step, halves, join, union}
 use Rattle.plan_run_laws.specs.Stops.{AreNoted, IsNoted}
 use Rattle.pipe_laws.specs.Stopped.{AgreeWith}
 use Rattle.pipe_laws.specs.Trees.{AreBuilds}
@@ -30,19 +30,12 @@ pub agreed : (run : RunPlan) (notes : ℕ → ℕ → Noted) (builds : List Task
 agreed (scan id table columns types) notes builds k d has noted = none_agree (notes k d) (in_task k builds) has
 agreed (values id types rows) notes builds k d has noted = none_agree (notes k d) (in_task k builds) has
 agreed (remote id output tasks input) notes builds k d has noted = none_agree (notes k d) (in_task k builds) has
-agreed (filter id predicate input) notes builds k d has noted = agreed input notes builds k d has noted
-agreed (project id columns input) notes builds k d has noted = agreed input notes builds k d has noted
+agreed (step id s input) notes builds k d has noted = agreed input notes builds k d has noted
 agreed (join id kind on left right) notes [] k d has noted = absurd noted
 agreed (join id kind on left right) notes (build ∷ builds) k d has noted =
     join_agrees id kind on left right (notes k d) (build k) (in_task k builds) has noted.0
     (agreed left (λ (i e : ℕ). other_notes (notes i e)) builds k d (has_others id kind on left right (notes k d) has) noted.1)
-agreed (aggregate id keys calls input) notes builds k d has noted = agreed input notes builds k d has noted
-agreed (aggregate_parts id source output tasks keys calls input) notes builds k d has noted = none_agree (notes k d) (in_task k builds) has
-agreed (sort id keys input) notes builds k d has noted = agreed input notes builds k d has noted
-agreed (topn id count keys input) notes builds k d has noted = agreed input notes builds k d has noted
-agreed (topn_parts id source output tasks count keys input) notes builds k d has noted = none_agree (notes k d) (in_task k builds) has
-agreed (limit id count input) notes builds k d has noted = agreed input notes builds k d has noted
-agreed (limit_parts id source output tasks count input) notes builds k d has noted = none_agree (notes k d) (in_task k builds) has
+agreed (halves id source output m h input) notes builds k d has noted = none_agree (notes k d) (in_task k builds) has
 agreed (union id left right) notes builds k d has noted = none_agree (notes k d) (in_task k builds) has
 
 -- a driver has a note for each join, so builds that agree with them are as many
@@ -50,16 +43,9 @@ pub builds_for : (run : RunPlan) (notes : Noted) (builds : List (List Row)) → 
 builds_for (scan id table columns types) notes builds has agrees = tt
 builds_for (values id types rows) notes builds has agrees = tt
 builds_for (remote id output tasks input) notes builds has agrees = tt
-builds_for (filter id predicate input) notes builds has agrees = builds_for input notes builds has agrees
-builds_for (project id columns input) notes builds has agrees = builds_for input notes builds has agrees
+builds_for (step id s input) notes builds has agrees = builds_for input notes builds has agrees
 builds_for (join id kind on left right) [] builds has agrees = absurd has
 builds_for (join id kind on left right) (noted ∷ notes) [] has agrees = absurd agrees
 builds_for (join id kind on left right) (noted ∷ notes) (built ∷ builds) has agrees = builds_for left notes builds has (first_agrees noted notes built builds agrees).1
-builds_for (aggregate id keys calls input) notes builds has agrees = builds_for input notes builds has agrees
-builds_for (aggregate_parts id source output tasks keys calls input) notes builds has agrees = tt
-builds_for (sort id keys input) notes builds has agrees = builds_for input notes builds has agrees
-builds_for (topn id count keys input) notes builds has agrees = builds_for input notes builds has agrees
-builds_for (topn_parts id source output tasks count keys input) notes builds has agrees = tt
-builds_for (limit id count input) notes builds has agrees = builds_for input notes builds has agrees
-builds_for (limit_parts id source output tasks count input) notes builds has agrees = tt
+builds_for (halves id source output m h input) notes builds has agrees = tt
 builds_for (union id left right) notes builds has agrees = tt

@@ -14,17 +14,16 @@ use Rattle.operator_core.specs.Stages.{Chain, FailsAfter, Linked, MadeOf, Nothin
 use Rattle.bag_laws.proofs.BagLemmas.{same-refl}
 use Rattle.plan_trees.specs.Allowed.{strict, width_of}
 use Rattle.plan_trees.specs.TreeTypes.{types_of}
-use Rattle.plan_run_laws.specs.Nets.{StagesMake as StageChain, Stage}
-use Rattle.plan_run_laws.specs.Nets as stage
-use Rattle.plan_run_laws.specs.RunPlans.{RunPlan, tree_of_run, scan, values, remote, filter, project, join, aggregate, aggregate_parts, sort, topn, topn_parts, limit, limit_parts, union}
+use Rattle.plan_run_laws.specs.Stages.{StagesMake as StageChain, Stage, second_half}
+use Rattle.plan_run_laws.specs.Stages as stage
+use Rattle.plan_run_laws.specs.RunPlans.{RunPlan, tree_of_run, scan, values, remote, step, halves, join, union}
 use Rattle.plan_run_laws.specs.Stops.{StagesCanGoOn, IsNoted}
 use Rattle.plan_run_laws.proofs.GoOnLemmas.{goes_on-append, goes_on-nil}
 use Rattle.stage_meanings.specs.Meanings.{Means}
 use Rattle.stage_meanings.specs.Pipelines.{FailsOn, NodeStage, at_node, stages_of}
 use Rattle.stage_meanings.proofs.MeaningLemmas.{all_go_on, all_make, comes, made-append, stages-append}
-use Rattle.pipe_laws.specs.Trees.{stages_over}
+use Rattle.pipe_laws.specs.Trees.{stages_over, types_between}
 use Rattle.pipe_laws.specs.Stopped.{AgreeWith, FailsAt, FailsOnAll, FailsOver, IsOpen}
-use Rattle.plan_trees.specs.Layouts.{partial_types}
 use Rattle.pipe_laws.specs.Operators.{AreKnown, EndsIn, LooksUp, NoOperator, Operate, types_of_source}
 use Rattle.pipe_laws.proofs.SnocLemmas.{Chain-snoc, Linked-snoc, Place, Turns-snoc, last-snoc, last_or_before, only_one}
 
@@ -150,13 +149,9 @@ module _ {S : Type 0} (g : Ghosts S) (laws : IsLawful g) where
       let l = leaf all types given ended took gave none same linked fit in ((λ builds agrees. l.0), l.1)
   stood_at (remote id output tasks input) notes all given (none, same) ended took gave turns linked fit =
       let l = leaf all (types_of (tree_of_run input)) given ended took gave none same linked fit in ((λ builds agrees. l.0), l.1)
-  stood_at (filter id predicate input) notes all given o ended took gave turns linked fit =
+  stood_at (step id s input) notes all given o ended took gave turns linked fit =
       let b = came_before all o.before o.last ended took gave o.are turns linked in
-      unary (filter id predicate input) (at_node id (stage.filter (types_of (tree_of_run input)) predicate)) input notes all given (λ builds. refl) o ended took gave b
-      (stood_at input notes o.before o.between o.input ended took b.came b.told b.linked fit)
-  stood_at (project id columns input) notes all given o ended took gave turns linked fit =
-      let b = came_before all o.before o.last ended took gave o.are turns linked in
-      unary (project id columns input) (at_node id (stage.project (types_of (tree_of_run input)) columns)) input notes all given (λ builds. refl) o ended took gave b
+      unary (step id s input) (at_node id (stage.does (types_of (tree_of_run input)) s)) input notes all given (λ builds. refl) o ended took gave b
       (stood_at input notes o.before o.between o.input ended took b.came b.told b.linked fit)
   stood_at (join id kind on left right) [] all given o ended took gave turns linked fit = absurd o
   stood_at (join id kind on left right) (noted ∷ notes) all given o ended took gave turns linked fit =
@@ -166,29 +161,9 @@ module _ {S : Type 0} (g : Ghosts S) (laws : IsLawful g) where
         opens_join left (join id kind on left right) probe noted notes all given (λ built builds. refl) o ended took gave b stood,
         gave_fits noted probe o.last o.between given o.is took b.came gave ended (last_finished g ended o.before) b.turn b.steps stood.1,
       )
-  stood_at (aggregate id keys calls input) notes all given o ended took gave turns linked fit =
-      let b = came_before all o.before o.last ended took gave o.are turns linked in
-      unary (aggregate id keys calls input) (at_node id (stage.grouping (types_of (tree_of_run input)) keys calls)) input notes all given (λ builds. refl) o ended took gave b
-      (stood_at input notes o.before o.between o.input ended took b.came b.told b.linked fit)
-  stood_at (aggregate_parts id source output tasks keys calls input) notes all given o ended took gave turns linked fit =
+  stood_at (halves id source output tasks h input) notes all given o ended took gave turns linked fit =
       let types = types_of (tree_of_run input) in
-      let h = half_stood (at_node id (stage.final types (length keys) calls)) (partial_types types keys calls) all given o ended took gave turns linked fit in ((λ builds agrees. h.0), h.1)
-  stood_at (sort id keys input) notes all given o ended took gave turns linked fit =
-      let b = came_before all o.before o.last ended took gave o.are turns linked in
-      unary (sort id keys input) (at_node id (stage.sort keys)) input notes all given (λ builds. refl) o ended took gave b
-      (stood_at input notes o.before o.between o.input ended took b.came b.told b.linked fit)
-  stood_at (topn id count keys input) notes all given o ended took gave turns linked fit =
-      let b = came_before all o.before o.last ended took gave o.are turns linked in
-      unary (topn id count keys input) (at_node id (stage.topn count keys)) input notes all given (λ builds. refl) o ended took gave b
-      (stood_at input notes o.before o.between o.input ended took b.came b.told b.linked fit)
-  stood_at (topn_parts id source output tasks count keys input) notes all given o ended took gave turns linked fit =
-      let h = half_stood (at_node id (stage.topn count keys)) (types_of (tree_of_run input)) all given o ended took gave turns linked fit in ((λ builds agrees. h.0), h.1)
-  stood_at (limit id count input) notes all given o ended took gave turns linked fit =
-      let b = came_before all o.before o.last ended took gave o.are turns linked in
-      unary (limit id count input) (at_node id (stage.limit count)) input notes all given (λ builds. refl) o ended took gave b
-      (stood_at input notes o.before o.between o.input ended took b.came b.told b.linked fit)
-  stood_at (limit_parts id source output tasks count input) notes all given o ended took gave turns linked fit =
-      let h = half_stood (at_node id (stage.limit count)) (types_of (tree_of_run input)) all given o ended took gave turns linked fit in ((λ builds agrees. h.0), h.1)
+      let stood = half_stood (at_node id (second_half types h)) (types_between types h) all given o ended took gave turns linked fit in ((λ builds agrees. stood.0), stood.1)
   stood_at (union id left right) notes all given (none, same) ended took gave turns linked fit =
       let l = leaf all (types_of (tree_of_run left)) given ended took gave none same linked fit in ((λ builds agrees. l.0), l.1)
 
@@ -231,13 +206,9 @@ module _ {S : Type 0} (g : Ghosts S) (laws : IsLawful g) where
   made_all (scan id table columns types) notes builds all given (none, same) known took gave fit chain = leaf_made all types given took gave none same chain fit
   made_all (values id types rows) notes builds all given (none, same) known took gave fit chain = leaf_made all types given took gave none same chain fit
   made_all (remote id output tasks input) notes builds all given (none, same) known took gave fit chain = leaf_made all (types_of (tree_of_run input)) given took gave none same chain fit
-  made_all (filter id predicate input) notes builds all given o known took gave fit chain =
+  made_all (step id s input) notes builds all given o known took gave fit chain =
       let c = chain_before all o.before o.last took gave o.are chain in
-      made_behind (filter id predicate input) input builds builds (at_node id (stage.filter (types_of (tree_of_run input)) predicate)) (g.as_made o.last) o.between given took c.0 gave refl o.is c.2 c.3
-      (made_all input notes builds o.before o.between o.input known took c.0 fit c.1)
-  made_all (project id columns input) notes builds all given o known took gave fit chain =
-      let c = chain_before all o.before o.last took gave o.are chain in
-      made_behind (project id columns input) input builds builds (at_node id (stage.project (types_of (tree_of_run input)) columns)) (g.as_made o.last) o.between given took c.0 gave refl o.is c.2 c.3
+      made_behind (step id s input) input builds builds (at_node id (stage.does (types_of (tree_of_run input)) s)) (g.as_made o.last) o.between given took c.0 gave refl o.is c.2 c.3
       (made_all input notes builds o.before o.between o.input known took c.0 fit c.1)
   made_all (join id kind on left right) [] builds all given o known took gave fit chain = absurd o
   made_all (join id kind on left right) (noted ∷ notes) [] all given o known took gave fit chain = absurd known
@@ -248,29 +219,8 @@ module _ {S : Type 0} (g : Ghosts S) (laws : IsLawful g) where
       made_behind (join id kind on left right) left builds (built ∷ builds) at (g.as_made o.last) o.between given took c.0 gave refl
       (o.is.means built built first.0 (same-refl built)) c.2 c.3
       (made_all left notes builds o.before o.between o.input first.1 took c.0 fit c.1)
-  made_all (aggregate id keys calls input) notes builds all given o known took gave fit chain =
-      let c = chain_before all o.before o.last took gave o.are chain in
-      made_behind (aggregate id keys calls input) input builds builds (at_node id (stage.grouping (types_of (tree_of_run input)) keys calls)) (g.as_made o.last) o.between given took c.0 gave refl o.is c.2 c.3
-      (made_all input notes builds o.before o.between o.input known took c.0 fit c.1)
-  made_all (aggregate_parts id source output tasks keys calls input) notes builds all given o known took gave fit chain =
-      let types = types_of (tree_of_run input) in
-      half_made (at_node id (stage.final types (length keys) calls)) (partial_types types keys calls) all given o took gave fit chain
-  made_all (sort id keys input) notes builds all given o known took gave fit chain =
-      let c = chain_before all o.before o.last took gave o.are chain in
-      made_behind (sort id keys input) input builds builds (at_node id (stage.sort keys)) (g.as_made o.last) o.between given took c.0 gave refl o.is c.2 c.3
-      (made_all input notes builds o.before o.between o.input known took c.0 fit c.1)
-  made_all (topn id count keys input) notes builds all given o known took gave fit chain =
-      let c = chain_before all o.before o.last took gave o.are chain in
-      made_behind (topn id count keys input) input builds builds (at_node id (stage.topn count keys)) (g.as_made o.last) o.between given took c.0 gave refl o.is c.2 c.3
-      (made_all input notes builds o.before o.between o.input known took c.0 fit c.1)
-  made_all (topn_parts id source output tasks count keys input) notes builds all given o known took gave fit chain =
-      half_made (at_node id (stage.topn count keys)) (types_of (tree_of_run input)) all given o took gave fit chain
-  made_all (limit id count input) notes builds all given o known took gave fit chain =
-      let c = chain_before all o.before o.last took gave o.are chain in
-      made_behind (limit id count input) input builds builds (at_node id (stage.limit count)) (g.as_made o.last) o.between given took c.0 gave refl o.is c.2 c.3
-      (made_all input notes builds o.before o.between o.input known took c.0 fit c.1)
-  made_all (limit_parts id source output tasks count input) notes builds all given o known took gave fit chain =
-      half_made (at_node id (stage.limit count)) (types_of (tree_of_run input)) all given o took gave fit chain
+  made_all (halves id source output tasks h input) notes builds all given o known took gave fit chain =
+      let types = types_of (tree_of_run input) in half_made (at_node id (second_half types h)) (types_between types h) all given o took gave fit chain
   made_all (union id left right) notes builds all given (none, same) known took gave fit chain = leaf_made all (types_of (tree_of_run left)) given took gave none same chain fit
 
   -- the last operator fails on what came to it
@@ -332,14 +282,6 @@ module _ {S : Type 0} (g : Ghosts S) (laws : IsLawful g) where
     unary_fails id st input notes all given o ended took fit i s f here below (inr p) =
         inr (below p (moved (take i o.before) (take i all) (g.as_made s) (g.as_made s) ended took node kind p.front refl f))
 
-    only_below : {Below : Type 0} → ⊥ ⊎ Below → Below
-    only_below (inl never) = absurd never
-    only_below (inr below) = below
-
-    nothing_fails : (id : ℕ) (st : Stage) (input : RunPlan) (notes : List (Option (List Row))) (took : List Row) (ended : Bool) → ((rows : List Row) → FailsOn st kind rows → ⊥)
-        → LastFails id st input notes took ended node kind → ⊥
-    nothing_fails id st input notes took ended never l = never (l.over.came ++ []) (l.over.fails [] (λ e. refl))
-
     probe_fails : {Below : Type 0} (left : RunPlan) (probe : List Row → NodeStage) (noted : Option (List Row)) (notes : List (Option (List Row))) (all : List S) (given : List SqlType)
         → (o : EndsIn (Operate g left notes) (λ last between. LooksUp g last noted between probe given) all)
         → (ended : Bool) (took : List Row) (i : ℕ) (s : S) → FailsAfter g (take i all) (g.as_made s) ended took node kind
@@ -380,33 +322,14 @@ module _ {S : Type 0} (g : Ghosts S) (laws : IsLawful g) where
     fails_of (scan id table columns types) notes all given o ended took fit i s lt at f = absurd (no_operator all i o.0 lt)
     fails_of (values id types rows) notes all given o ended took fit i s lt at f = absurd (no_operator all i o.0 lt)
     fails_of (remote id output tasks input) notes all given o ended took fit i s lt at f = absurd (no_operator all i o.0 lt)
-    fails_of (filter id predicate input) notes all given o ended took fit i s lt at f =
-        unary_fails id (stage.filter (types_of (tree_of_run input)) predicate) input notes all given o ended took fit i s f (λ l. (l.here, l.over))
-        (λ p h. fails_of input notes o.before o.between o.input ended took fit i s p.below p.is h) (at_last_or_before all o.before o.last i s o.are lt at)
-    fails_of (project id columns input) notes all given o ended took fit i s lt at f =
-        unary_fails id (stage.project (types_of (tree_of_run input)) columns) input notes all given o ended took fit i s f (λ l. (l.here, l.over))
-        (λ p h. fails_of input notes o.before o.between o.input ended took fit i s p.below p.is h) (at_last_or_before all o.before o.last i s o.are lt at)
+    fails_of (step id s input) notes all given o ended took fit i op lt at f =
+        unary_fails id (stage.does (types_of (tree_of_run input)) s) input notes all given o ended took fit i op f (λ l. (l.here, l.over))
+        (λ p h. fails_of input notes o.before o.between o.input ended took fit i op p.below p.is h) (at_last_or_before all o.before o.last i op o.are lt at)
     fails_of (join id how on left right) [] all given o ended took fit i s lt at f = absurd o
     fails_of (join id how on left right) (noted ∷ notes) all given o ended took fit i s lt at f =
         probe_fails left (λ (built : List Row). at_node id (stage.probe how on (width_of (tree_of_run left)) (width_of (tree_of_run right)) built)) noted notes all given o ended took i s f
         (λ p h. fails_of left notes o.before o.between o.input ended took fit i s p.below p.is h) (at_last_or_before all o.before o.last i s o.are lt at)
-    fails_of (aggregate id keys calls input) notes all given o ended took fit i s lt at f =
-        unary_fails id (stage.grouping (types_of (tree_of_run input)) keys calls) input notes all given o ended took fit i s f (λ l. (l.here, l.over))
-        (λ p h. fails_of input notes o.before o.between o.input ended took fit i s p.below p.is h) (at_last_or_before all o.before o.last i s o.are lt at)
-    fails_of (aggregate_parts id source output tasks keys calls input) notes all given o ended took fit i s lt at f =
+    fails_of (halves id source output tasks h input) notes all given o ended took fit i op lt at f =
         let types = types_of (tree_of_run input) in
-        half_fails id (stage.final types (length keys) calls) (partial_types types keys calls) all given o ended took fit i s f (at_last_or_before all o.before o.last i s o.are lt at)
-    fails_of (sort id keys input) notes all given o ended took fit i s lt at f =
-        only_below (unary_fails id (stage.sort keys) input notes all given o ended took fit i s f (nothing_fails id (stage.sort keys) input notes took ended (λ rows never. never))
-        (λ p h. fails_of input notes o.before o.between o.input ended took fit i s p.below p.is h) (at_last_or_before all o.before o.last i s o.are lt at))
-    fails_of (topn id count keys input) notes all given o ended took fit i s lt at f =
-        only_below (unary_fails id (stage.topn count keys) input notes all given o ended took fit i s f (nothing_fails id (stage.topn count keys) input notes took ended (λ rows never. never))
-        (λ p h. fails_of input notes o.before o.between o.input ended took fit i s p.below p.is h) (at_last_or_before all o.before o.last i s o.are lt at))
-    fails_of (topn_parts id source output tasks count keys input) notes all given o ended took fit i s lt at f =
-        (half_fails id (stage.topn count keys) (types_of (tree_of_run input)) all given o ended took fit i s f (at_last_or_before all o.before o.last i s o.are lt at)).1 [] (λ e. refl)
-    fails_of (limit id count input) notes all given o ended took fit i s lt at f =
-        only_below (unary_fails id (stage.limit count) input notes all given o ended took fit i s f (nothing_fails id (stage.limit count) input notes took ended (λ rows never. never))
-        (λ p h. fails_of input notes o.before o.between o.input ended took fit i s p.below p.is h) (at_last_or_before all o.before o.last i s o.are lt at))
-    fails_of (limit_parts id source output tasks count input) notes all given o ended took fit i s lt at f =
-        (half_fails id (stage.limit count) (types_of (tree_of_run input)) all given o ended took fit i s f (at_last_or_before all o.before o.last i s o.are lt at)).1 [] (λ e. refl)
+        half_fails id (second_half types h) (types_between types h) all given o ended took fit i op f (at_last_or_before all o.before o.last i op o.are lt at)
     fails_of (union id left right) notes all given o ended took fit i s lt at f = absurd (no_operator all i o.0 lt)

@@ -7,9 +7,10 @@ use Rattle.bag_laws.specs.Laws.{TaskRows}
 use Rattle.bag_laws.specs.Weights.{SameWeights}
 use Rattle.bag_laws.proofs.BagLemmas.{same-from_equal, same-refl, same-sym, same-trans}
 use Rattle.plan_trees.specs.Allowed.{strict}
+use Rattle.plan_trees.specs.TreeTypes.{types_of}
 use Rattle.plan_run_laws.specs.Nets.{Below, Lanes, Pipe, Went, WentInto, of_tasks}
-use Rattle.plan_run_laws.specs.Nets as stage
-use Rattle.plan_run_laws.specs.RunPlans.{Output, RunPlan, scan, values, remote, filter, project, join, aggregate, aggregate_parts, sort, topn, topn_parts, limit, limit_parts, union}
+use Rattle.plan_run_laws.specs.Stages.{first_half}
+use Rattle.plan_run_laws.specs.RunPlans.{Output, RunPlan, scan, values, remote, step, halves, join, union, tree_of_run}
 use Rattle.plan_run_laws.specs.Runs.{EdgePassed}
 use Rattle.plan_run_laws.specs.Spreads.{Tables}
 use Rattle.plan_run_laws.specs.Stops.{AllSet, Flags, Hop, IsNoted, PassedSoFar, StoppedPipe}
@@ -75,10 +76,6 @@ module _ {S : Type 0} (g : Ghosts S) (laws : IsLawful g) (pipes : ℕ → PipeSt
       let w = whole j m pipe.tasks input (pipes j).notes below in
       leaf at n (remote id output m input) notes (λ ns none. none)
       (piped j w.builds, w.below, pipe_went j m input pipe w, passed_all output m n (stopped input (pipes j)) (pipes at).drivers (pipes at).took (pipes at).ended (all_ended at n is) passed)
-  whole at n is (filter id predicate input) notes stands =
-      let w = whole at n is input notes stands in record { builds = w.builds; below = w.below; agree = w.agree }
-  whole at n is (project id columns input) notes stands =
-      let w = whole at n is input notes stands in record { builds = w.builds; below = w.below; agree = w.agree }
   whole at n is (join id kind on left right) notes (j, pipe, below, known, rest) =
       let r = whole j n pipe.tasks right (pipes j).notes below in
       let l = whole at n is left (λ k d. other_notes (notes k d)) rest in
@@ -91,39 +88,15 @@ module _ {S : Type 0} (g : Ghosts S) (laws : IsLawful g) (pipes : ℕ → PipeSt
             (noted_is (first_note (notes k d)) (build k) (λ built told. (known k d lt less built told).1))
             (l.agree k d lt less (has_others id kind on left right (notes k d) has));
       }
-  whole at n is (aggregate id keys calls input) notes stands =
+  whole at n is (step id s input) notes stands =
       let w = whole at n is input notes stands.1 in record { builds = w.builds; below = (stands.0, w.below); agree = w.agree }
-  whole at n is (aggregate_parts id source output m keys calls input) notes (j, half, alone, pipe, below, passed) =
+  whole at n is (halves id source output m h input) notes (j, half, alone, pipe, below, passed) =
       let w = whole j m pipe.tasks input (pipes j).notes below in
-      leaf at n (aggregate_parts id source output m keys calls input) notes (λ ns none. none) (
+      leaf at n (halves id source output m h input) notes (λ ns none. none) (
         piped j w.builds,
         alone,
         w.below,
-        half_pipe_went j m input (at_node half (stage.partial keys calls)) pipe w,
-        passed_all output m n (stopped input (pipes j)) (pipes at).drivers (pipes at).took (pipes at).ended (all_ended at n is) passed,
-      )
-  whole at n is (sort id keys input) notes stands =
-      let w = whole at n is input notes stands.1 in record { builds = w.builds; below = (stands.0, w.below); agree = w.agree }
-  whole at n is (topn id count keys input) notes stands =
-      let w = whole at n is input notes stands.1 in record { builds = w.builds; below = (stands.0, w.below); agree = w.agree }
-  whole at n is (topn_parts id source output m count keys input) notes (j, half, alone, pipe, below, passed) =
-      let w = whole j m pipe.tasks input (pipes j).notes below in
-      leaf at n (topn_parts id source output m count keys input) notes (λ ns none. none) (
-        piped j w.builds,
-        alone,
-        w.below,
-        half_pipe_went j m input (at_node half (stage.topn count keys)) pipe w,
-        passed_all output m n (stopped input (pipes j)) (pipes at).drivers (pipes at).took (pipes at).ended (all_ended at n is) passed,
-      )
-  whole at n is (limit id count input) notes stands =
-      let w = whole at n is input notes stands.1 in record { builds = w.builds; below = (stands.0, w.below); agree = w.agree }
-  whole at n is (limit_parts id source output m count input) notes (j, half, alone, pipe, below, passed) =
-      let w = whole j m pipe.tasks input (pipes j).notes below in
-      leaf at n (limit_parts id source output m count input) notes (λ ns none. none) (
-        piped j w.builds,
-        alone,
-        w.below,
-        half_pipe_went j m input (at_node half (stage.limit count)) pipe w,
+        half_pipe_went j m input (at_node half (first_half (types_of (tree_of_run input)) h)) pipe w,
         passed_all output m n (stopped input (pipes j)) (pipes at).drivers (pipes at).took (pipes at).ended (all_ended at n is) passed,
       )
   whole at n is (union id left right) notes (i, j, first, left_below, second, right_below, passed) =

@@ -20,7 +20,7 @@ use Rattle.relation_laws.specs.Joins.{are_partners, beside_each, join_of, nulls,
 use Rattle.bag_laws.specs.Weights.{SameWeights}
 use Rattle.bag_laws.proofs.BagLemmas.{same-from_equal, same-refl, same-trans}
 use Rattle.bag_laws.proofs.JoinLemmas.{same-join}
-use Rattle.plan_run_laws.specs.Nets as stage
+use Rattle.plan_run_laws.specs.Stages as stage
 use Rattle.plan_run_laws.specs.Stops.{StagesCanGoOn}
 use Rattle.plan_run_laws.proofs.GoOnLemmas.{goes_on-one, goes_on-probe}
 use Rattle.stage_meanings.specs.Pipelines.{NodeStage, at_node, stages_of}

@@ -2,8 +2,9 @@
 use Rattle.std.proofs.Common.{ℕ, [], ◌∷◌, refl}
 use Rattle.operator_core.specs.declared.operator.Operator.{Ghosts}
 use Rattle.operator_core.specs.Calls.{IsLawful}
-use Rattle.plan_run_laws.specs.Nets as stage
-use Rattle.plan_run_laws.specs.RunPlans.{RunPlan, scan, values, remote, filter, project, join, aggregate, aggregate_parts, sort, topn, topn_parts, limit, limit_parts, union}
+use Rattle.plan_trees.specs.TreeTypes.{types_of}
+use Rattle.plan_run_laws.specs.Stages.{first_half}
+use Rattle.plan_run_laws.specs.RunPlans.{RunPlan, scan, values, remote, step, halves, join, union, tree_of_run}
 use Rattle.plan_run_laws.specs.Spreads.{Tables}
 use Rattle.plan_run_laws.specs.Stops.{AreOpen, Stops}
 use Rattle.stage_meanings.specs.Pipelines.{NodeStage, at_node}
@@ -26,20 +27,11 @@ module _ {S : Type 0} (g : Ghosts S) (laws : IsLawful g) where
     stops at n (values id types rows) notes stands = (refl, stands)
     stops at n (remote id output m input) notes (j, is, below, passed) =
         (stopped input (pipes j), refl, stops j m input (pipes j).notes below, pipe_open m input (pipes j) is, passed)
-    stops at n (filter id predicate input) notes stands = stops at n input notes stands
-    stops at n (project id columns input) notes stands = stops at n input notes stands
     stops at n (join id kind on left right) notes (j, is, below, known, rest) =
         (stopped right (pipes j), stops j n right (pipes j).notes below, pipe_open n right (pipes j) is, known, stops at n left (λ k d. other_notes (notes k d)) rest)
-    stops at n (aggregate id keys calls input) notes stands = (stands.0, stops at n input notes stands.1)
-    stops at n (aggregate_parts id source output m keys calls input) notes (j, half, alone, is, below, passed) =
-        (stopped input (pipes j), refl, alone, stops j m input (pipes j).notes below, half_pipe_open m input (at_node half (stage.partial keys calls)) (pipes j) is, passed)
-    stops at n (sort id keys input) notes stands = (stands.0, stops at n input notes stands.1)
-    stops at n (topn id count keys input) notes stands = (stands.0, stops at n input notes stands.1)
-    stops at n (topn_parts id source output m count keys input) notes (j, half, alone, is, below, passed) =
-        (stopped input (pipes j), refl, alone, stops j m input (pipes j).notes below, half_pipe_open m input (at_node half (stage.topn count keys)) (pipes j) is, passed)
-    stops at n (limit id count input) notes stands = (stands.0, stops at n input notes stands.1)
-    stops at n (limit_parts id source output m count input) notes (j, half, alone, is, below, passed) =
-        (stopped input (pipes j), refl, alone, stops j m input (pipes j).notes below, half_pipe_open m input (at_node half (stage.limit count)) (pipes j) is, passed)
+    stops at n (step id s input) notes stands = (stands.0, stops at n input notes stands.1)
+    stops at n (halves id source output m h input) notes (j, half, alone, is, below, passed) =
+        (stopped input (pipes j), refl, alone, stops j m input (pipes j).notes below, half_pipe_open m input (at_node half (first_half (types_of (tree_of_run input)) h)) (pipes j) is, passed)
     stops at n (union id left right) notes (i, j, first, left_below, second, right_below, passed) = (
       stopped left (pipes i),
       stopped right (pipes j),

@@ -5,9 +5,10 @@ use Rattle.bag_laws.specs.Laws.{TaskRows}
 use Rattle.bag_laws.proofs.BagLemmas.{same-refl}
 use Rattle.plan_trees.specs.Allowed.{width_of}
 use Rattle.plan_trees.specs.TreeTypes.{types_of}
-use Rattle.plan_run_laws.specs.Nets.{AreFor, EndsWith, Stage}
-use Rattle.plan_run_laws.specs.Nets as stage
-use Rattle.plan_run_laws.specs.RunPlans.{RunPlan, tree_of_run, scan, values, remote, filter, project, join, aggregate, aggregate_parts, sort, topn, topn_parts, limit, limit_parts, union}
+use Rattle.plan_run_laws.specs.Nets.{AreFor, EndsWith}
+use Rattle.plan_run_laws.specs.Stages.{Stage}
+use Rattle.plan_run_laws.specs.Stages as stage
+use Rattle.plan_run_laws.specs.RunPlans.{RunPlan, tree_of_run, scan, values, remote, step, halves, join, union}
 use Rattle.stage_meanings.specs.Pipelines.{NodeStage, at_node, stages_of}
 use Rattle.stage_meanings.proofs.MeaningLemmas.{stages-append}
 use Rattle.pipe_laws.specs.Trees.{AreBuilds, stages_over}
@@ -23,10 +24,8 @@ pub are_for : (run : RunPlan) (builds : List TaskRows) (k : ℕ) → AreBuilds r
 are_for (scan id table columns types) builds k are = refl
 are_for (values id types rows) builds k are = refl
 are_for (remote id output tasks input) builds k are = refl
-are_for (filter id predicate input) builds k are =
-    ends (AreFor input builds k) (stages_over input (in_task k builds)) id (stage.filter (types_of (tree_of_run input)) predicate) (are_for input builds k are)
-are_for (project id columns input) builds k are =
-    ends (AreFor input builds k) (stages_over input (in_task k builds)) id (stage.project (types_of (tree_of_run input)) columns) (are_for input builds k are)
+are_for (step id s input) builds k are =
+    ends (AreFor input builds k) (stages_over input (in_task k builds)) id (stage.does (types_of (tree_of_run input)) s) (are_for input builds k are)
 are_for (join id kind on left right) [] k are = absurd are
 are_for (join id kind on left right) (build ∷ builds) k are = (
   build k,
@@ -34,12 +33,5 @@ are_for (join id kind on left right) (build ∷ builds) k are = (
   ends (AreFor left builds k) (stages_over left (in_task k builds)) id (stage.probe kind on (width_of (tree_of_run left)) (width_of (tree_of_run right)) (build k))
       (are_for left builds k are),
 )
-are_for (aggregate id keys calls input) builds k are =
-    ends (AreFor input builds k) (stages_over input (in_task k builds)) id (stage.grouping (types_of (tree_of_run input)) keys calls) (are_for input builds k are)
-are_for (aggregate_parts id source output tasks keys calls input) builds k are = refl
-are_for (sort id keys input) builds k are = ends (AreFor input builds k) (stages_over input (in_task k builds)) id (stage.sort keys) (are_for input builds k are)
-are_for (topn id count keys input) builds k are = ends (AreFor input builds k) (stages_over input (in_task k builds)) id (stage.topn count keys) (are_for input builds k are)
-are_for (topn_parts id source output tasks count keys input) builds k are = refl
-are_for (limit id count input) builds k are = ends (AreFor input builds k) (stages_over input (in_task k builds)) id (stage.limit count) (are_for input builds k are)
-are_for (limit_parts id source output tasks count input) builds k are = refl
+are_for (halves id source output tasks h input) builds k are = refl
 are_for (union id left right) builds k are = refl

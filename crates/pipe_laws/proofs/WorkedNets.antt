@@ -5,7 +5,7 @@ use Rattle.sql_values.specs.declared.fail.Fail.{Fail}
 use Rattle.sql_values.specs.declared.relational.JoinKind.TheVariants.{Inner}
 use Rattle.sql_exprs.specs.Forms.{Form, column}
 use Rattle.operator_core.specs.Rows.{Row}
-use Rattle.plan_run_laws.specs.Nets as stage
+use Rattle.plan_run_laws.specs.Stages as stage
 use Rattle.plan_run_laws.specs.RunPlans.{RunPlan, filter, join, limit, project, scan}
 use Rattle.stage_meanings.specs.Pipelines.{at_node}
 use Rattle.pipe_laws.specs.Trees.{stages_over}
@@ -29,7 +29,7 @@ plan = limit 5 7 (project 4 columns (join 3 Inner ((0, 0) ∷ []) left right))
 -- the stages go from the source to the root, each with its node; a probe has the widths of left and right
 pipeline : (built : List Row)
     → stages_over plan (built ∷ []) ≡ at_node 3 (stage.probe Inner ((0, 0) ∷ []) 1 2 built)
-    ∷ at_node 4 (stage.project (type.Bigint ∷ type.Varchar ∷ type.Date ∷ []) columns) ∷ at_node 5 (stage.limit 7) ∷ []
+    ∷ at_node 4 (stage.project (type.Bigint ∷ type.Varchar ∷ type.Date ∷ []) columns) ∷ at_node 5 (stage.limit (type.Date ∷ []) 7) ∷ []
 pipeline built = refl
 
 source_types : types_of_source plan ≡ type.Bigint ∷ []

@@ -6,8 +6,9 @@ use Rattle.col_pages.specs.Fits.{AllFit}
 use Rattle.operator_core.specs.declared.operator.Operator.{Ghosts}
 use Rattle.operator_core.specs.Rows.{Row}
 use Rattle.operator_core.specs.Stages.{Linked, Steps, ToldInTurn, last_finished}
-use Rattle.plan_run_laws.specs.Nets.{Lanes, Stage}
-use Rattle.plan_run_laws.specs.RunPlans.{RunPlan, scan, values, remote, filter, project, join, aggregate, aggregate_parts, sort, topn, topn_parts, limit, limit_parts, union}
+use Rattle.plan_run_laws.specs.Nets.{Lanes}
+use Rattle.plan_run_laws.specs.Stages.{Stage}
+use Rattle.plan_run_laws.specs.RunPlans.{RunPlan, scan, values, remote, step, halves, join, union}
 use Rattle.plan_run_laws.specs.Stops.{Flags, Notes}
 use Rattle.stage_meanings.specs.Meanings.{Means}
 use Rattle.stage_meanings.specs.Pipelines.{FailsOn, NodeStage}
@@ -22,17 +23,10 @@ abbrev pub HasNotes : RunPlan → Noted → Type 0
 HasNotes (scan id table columns types) notes = notes ≡ []
 HasNotes (values id types rows) notes = notes ≡ []
 HasNotes (remote id output tasks input) notes = notes ≡ []
-HasNotes (filter id predicate input) notes = HasNotes input notes
-HasNotes (project id columns input) notes = HasNotes input notes
+HasNotes (step id s input) notes = HasNotes input notes
 HasNotes (join id kind on left right) [] = ⊥
 HasNotes (join id kind on left right) (noted ∷ notes) = HasNotes left notes
-HasNotes (aggregate id keys calls input) notes = HasNotes input notes
-HasNotes (aggregate_parts id source output tasks keys calls input) notes = notes ≡ []
-HasNotes (sort id keys input) notes = HasNotes input notes
-HasNotes (topn id count keys input) notes = HasNotes input notes
-HasNotes (topn_parts id source output tasks count keys input) notes = notes ≡ []
-HasNotes (limit id count input) notes = HasNotes input notes
-HasNotes (limit_parts id source output tasks count input) notes = notes ≡ []
+HasNotes (halves id source output m h input) notes = notes ≡ []
 HasNotes (union id left right) notes = notes ≡ []
 
 -- A driver whose operators are the stages of the node's pipeline: they took and gave these rows, each was told to
@@ -89,15 +83,8 @@ abbrev pub notes_of_lanes : RunPlan → (ℕ → ℕ → Noted) → Notes
 notes_of_lanes (scan id table columns types) notes = []
 notes_of_lanes (values id types rows) notes = []
 notes_of_lanes (remote id output tasks input) notes = []
-notes_of_lanes (filter id predicate input) notes = notes_of_lanes input notes
-notes_of_lanes (project id columns input) notes = notes_of_lanes input notes
+notes_of_lanes (step id s input) notes = notes_of_lanes input notes
 notes_of_lanes (join id kind on left right) notes =
     (λ k d. first_note (notes k d)) ∷ notes_of_lanes left (λ k d. other_notes (notes k d))
-notes_of_lanes (aggregate id keys calls input) notes = notes_of_lanes input notes
-notes_of_lanes (aggregate_parts id source output tasks keys calls input) notes = []
-notes_of_lanes (sort id keys input) notes = notes_of_lanes input notes
-notes_of_lanes (topn id count keys input) notes = notes_of_lanes input notes
-notes_of_lanes (topn_parts id source output tasks count keys input) notes = []
-notes_of_lanes (limit id count input) notes = notes_of_lanes input notes
-notes_of_lanes (limit_parts id source output tasks count input) notes = []
+notes_of_lanes (halves id source output m h input) notes = []
 notes_of_lanes (union id left right) notes = []

@@ -10,29 +10,23 @@ use Rattle.operator_core.specs.Rows.{Row}
 use Rattle.operator_core.specs.Stages.{Steps}
 use Rattle.bag_laws.specs.Weights.{SameWeights}
 use Rattle.plan_trees.specs.Allowed.{width_of}
-use Rattle.plan_trees.specs.Layouts.{partial_types}
 use Rattle.plan_trees.specs.TreeTypes.{types_of}
-use Rattle.plan_run_laws.specs.Nets as stage
-use Rattle.plan_run_laws.specs.RunPlans.{RunPlan, tree_of_run, scan, values, remote, filter, project, join, aggregate, aggregate_parts, sort, topn, topn_parts, limit, limit_parts, union}
+use Rattle.plan_run_laws.specs.Stages.{second_half}
+use Rattle.plan_run_laws.specs.Stages as stage
+use Rattle.plan_run_laws.specs.RunPlans.{RunPlan, tree_of_run, scan, values, remote, step, halves, join, union}
 use Rattle.plan_run_laws.specs.Stops.{StagesCanGoOn}
 use Rattle.stage_meanings.specs.Meanings.{Means}
 use Rattle.stage_meanings.specs.Pipelines.{NodeStage, at_node, stages_of}
+use Rattle.pipe_laws.specs.Trees.{types_between}
 
 -- the types of the rows of the source of the node's pipeline: between halves, those of the first half
 abbrev pub types_of_source : RunPlan → List SqlType
 types_of_source (scan id table columns types) = types
 types_of_source (values id types rows) = types
 types_of_source (remote id output tasks input) = types_of (tree_of_run input)
-types_of_source (filter id predicate input) = types_of_source input
-types_of_source (project id columns input) = types_of_source input
+types_of_source (step id s input) = types_of_source input
+types_of_source (halves id source output tasks h input) = types_between (types_of (tree_of_run input)) h
 types_of_source (join id kind on left right) = types_of_source left
-types_of_source (aggregate id keys calls input) = types_of_source input
-types_of_source (aggregate_parts id source output tasks keys calls input) = partial_types (types_of (tree_of_run input)) keys calls
-types_of_source (sort id keys input) = types_of_source input
-types_of_source (topn id count keys input) = types_of_source input
-types_of_source (topn_parts id source output tasks count keys input) = types_of (tree_of_run input)
-types_of_source (limit id count input) = types_of_source input
-types_of_source (limit_parts id source output tasks count input) = types_of (tree_of_run input)
 types_of_source (union id left right) = types_of (tree_of_run left)
 
 -- the last operator is so over rows of some types, and those before it are for the input
@@ -71,29 +65,15 @@ abbrev pub Operate : {S : Type 0} → Ghosts S → RunPlan → List (Option (Lis
 Operate g (scan id table columns types) notes all given = NoOperator types all given
 Operate g (values id types rows) notes all given = NoOperator types all given
 Operate g (remote id output tasks input) notes all given = NoOperator (types_of (tree_of_run input)) all given
-Operate g (filter id predicate input) notes all given =
-    EndsIn (Operate g input notes) (λ last between. Means g (g.as_made last) between (at_node id (stage.filter (types_of (tree_of_run input)) predicate) ∷ []) given) all
-Operate g (project id columns input) notes all given =
-    EndsIn (Operate g input notes) (λ last between. Means g (g.as_made last) between (at_node id (stage.project (types_of (tree_of_run input)) columns) ∷ []) given) all
+Operate g (step id s input) notes all given =
+    EndsIn (Operate g input notes) (λ last between. Means g (g.as_made last) between (at_node id (stage.does (types_of (tree_of_run input)) s) ∷ []) given) all
+Operate g (halves id source output tasks h input) notes all given =
+    EndsIn (NoOperator (types_between (types_of (tree_of_run input)) h))
+    (λ last between. Means g (g.as_made last) between (at_node id (second_half (types_of (tree_of_run input)) h) ∷ []) given) all
 Operate g (join id kind on left right) [] all given = ⊥
 Operate g (join id kind on left right) (noted ∷ notes) all given =
     EndsIn (Operate g left notes)
     (λ last between. LooksUp g last noted between (λ built. at_node id (stage.probe kind on (width_of (tree_of_run left)) (width_of (tree_of_run right)) built)) given) all
-Operate g (aggregate id keys calls input) notes all given =
-    EndsIn (Operate g input notes) (λ last between. Means g (g.as_made last) between (at_node id (stage.grouping (types_of (tree_of_run input)) keys calls) ∷ []) given) all
-Operate g (aggregate_parts id source output tasks keys calls input) notes all given =
-    EndsIn (NoOperator (partial_types (types_of (tree_of_run input)) keys calls))
-    (λ last between. Means g (g.as_made last) between (at_node id (stage.final (types_of (tree_of_run input)) (length keys) calls) ∷ []) given) all
-Operate g (sort id keys input) notes all given =
-    EndsIn (Operate g input notes) (λ last between. Means g (g.as_made last) between (at_node id (stage.sort keys) ∷ []) given) all
-Operate g (topn id count keys input) notes all given =
-    EndsIn (Operate g input notes) (λ last between. Means g (g.as_made last) between (at_node id (stage.topn count keys) ∷ []) given) all
-Operate g (topn_parts id source output tasks count keys input) notes all given =
-    EndsIn (NoOperator (types_of (tree_of_run input))) (λ last between. Means g (g.as_made last) between (at_node id (stage.topn count keys) ∷ []) given) all
-Operate g (limit id count input) notes all given =
-    EndsIn (Operate g input notes) (λ last between. Means g (g.as_made last) between (at_node id (stage.limit count) ∷ []) given) all
-Operate g (limit_parts id source output tasks count input) notes all given =
-    EndsIn (NoOperator (types_of (tree_of_run input))) (λ last between. Means g (g.as_made last) between (at_node id (stage.limit count) ∷ []) given) all
 Operate g (union id left right) notes all given = NoOperator (types_of (tree_of_run left)) all given
 
 -- the notes know all builds

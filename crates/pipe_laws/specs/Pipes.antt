@@ -9,9 +9,10 @@ use Rattle.operator_core.specs.Stages.{FailsAfter}
 use Rattle.bag_laws.specs.Gather.{gather}
 use Rattle.bag_laws.specs.Weights.{SameWeights}
 use Rattle.plan_trees.specs.Allowed.{scanned}
+use Rattle.plan_trees.specs.TreeTypes.{types_of}
 use Rattle.plan_run_laws.specs.Nets.{IsAlone, Lanes, of_tasks}
-use Rattle.plan_run_laws.specs.Nets as stage
-use Rattle.plan_run_laws.specs.RunPlans.{RunPlan, scan, values, remote, filter, project, join, aggregate, aggregate_parts, sort, topn, topn_parts, limit, limit_parts, union}
+use Rattle.plan_run_laws.specs.Stages.{MayHave, first_half}
+use Rattle.plan_run_laws.specs.RunPlans.{RunPlan, scan, values, remote, step, halves, join, union, tree_of_run}
 use Rattle.plan_run_laws.specs.Spreads.{Tables}
 use Rattle.plan_run_laws.specs.Stops.{AllSet, Flags, Hop, PassedSoFar, StoppedPipe, TookOf}
 use Rattle.stage_meanings.specs.Pipelines.{NodeStage, at_node}
@@ -67,27 +68,14 @@ Stands g pipes tables at n (values id types rows) notes =
 Stands g pipes tables at n (remote id output m input) notes =
     (j : ℕ) × IsPipeOf g m input (pipes j) × Stands g pipes tables j m input (pipes j).notes
     × PassedSoFar output m n (stopped input (pipes j)) (pipes at).drivers (pipes at).took (pipes at).ended
-Stands g pipes tables at n (filter id predicate input) notes = Stands g pipes tables at n input notes
-Stands g pipes tables at n (project id columns input) notes = Stands g pipes tables at n input notes
 Stands g pipes tables at n (join id kind on left right) notes =
     (j : ℕ) × IsPipeOf g n right (pipes j) × Stands g pipes tables j n right (pipes j).notes
     × ((k d : ℕ) → k < n → d < (pipes at).drivers → (built : List Row) → first_note (notes k d) ≡ Some built
     → ((e : ℕ) → e < (pipes j).drivers → (pipes j).done k e ≡ true) × SameWeights (of_tasks (pipes j).drivers (pipes j).gave k) built)
     × Stands g pipes tables at n left (λ k d. other_notes (notes k d))
-Stands g pipes tables at n (aggregate id keys calls input) notes = IsAlone (pipes at).drivers × Stands g pipes tables at n input notes
-Stands g pipes tables at n (aggregate_parts id source output m keys calls input) notes =
-    (j : ℕ) × (half : ℕ) × IsAlone (pipes at).drivers × IsHalfPipeOf g m input (at_node half (stage.partial keys calls)) (pipes j)
-    × Stands g pipes tables j m input (pipes j).notes
-    × PassedSoFar output m n (stopped input (pipes j)) (pipes at).drivers (pipes at).took (pipes at).ended
-Stands g pipes tables at n (sort id keys input) notes = IsAlone (pipes at).drivers × Stands g pipes tables at n input notes
-Stands g pipes tables at n (topn id count keys input) notes = IsAlone (pipes at).drivers × Stands g pipes tables at n input notes
-Stands g pipes tables at n (topn_parts id source output m count keys input) notes =
-    (j : ℕ) × (half : ℕ) × IsAlone (pipes at).drivers × IsHalfPipeOf g m input (at_node half (stage.topn count keys)) (pipes j)
-    × Stands g pipes tables j m input (pipes j).notes
-    × PassedSoFar output m n (stopped input (pipes j)) (pipes at).drivers (pipes at).took (pipes at).ended
-Stands g pipes tables at n (limit id count input) notes = IsAlone (pipes at).drivers × Stands g pipes tables at n input notes
-Stands g pipes tables at n (limit_parts id source output m count input) notes =
-    (j : ℕ) × (half : ℕ) × IsAlone (pipes at).drivers × IsHalfPipeOf g m input (at_node half (stage.limit count)) (pipes j)
+Stands g pipes tables at n (step id s input) notes = MayHave s (pipes at).drivers × Stands g pipes tables at n input notes
+Stands g pipes tables at n (halves id source output m h input) notes =
+    (j : ℕ) × (half : ℕ) × IsAlone (pipes at).drivers × IsHalfPipeOf g m input (at_node half (first_half (types_of (tree_of_run input)) h)) (pipes j)
     × Stands g pipes tables j m input (pipes j).notes
     × PassedSoFar output m n (stopped input (pipes j)) (pipes at).drivers (pipes at).took (pipes at).ended
 Stands g pipes tables at n (union id left right) notes =
@@ -104,20 +92,11 @@ IsBelow g pipes tables place at n (scan id table columns types) notes stands = �
 IsBelow g pipes tables place at n (values id types rows) notes stands = ⊥
 IsBelow g pipes tables place at n (remote id output m input) notes (j, is, below, passed) =
     (place ≡ j) ⊎ IsBelow g pipes tables place j m input (pipes j).notes below
-IsBelow g pipes tables place at n (filter id predicate input) notes stands = IsBelow g pipes tables place at n input notes stands
-IsBelow g pipes tables place at n (project id columns input) notes stands = IsBelow g pipes tables place at n input notes stands
 IsBelow g pipes tables place at n (join id kind on left right) notes (j, is, below, known, rest) =
     ((place ≡ j) ⊎ IsBelow g pipes tables place j n right (pipes j).notes below)
     ⊎ IsBelow g pipes tables place at n left (λ k d. other_notes (notes k d)) rest
-IsBelow g pipes tables place at n (aggregate id keys calls input) notes stands = IsBelow g pipes tables place at n input notes stands.1
-IsBelow g pipes tables place at n (aggregate_parts id source output m keys calls input) notes (j, half, alone, is, below, passed) =
-    (place ≡ j) ⊎ IsBelow g pipes tables place j m input (pipes j).notes below
-IsBelow g pipes tables place at n (sort id keys input) notes stands = IsBelow g pipes tables place at n input notes stands.1
-IsBelow g pipes tables place at n (topn id count keys input) notes stands = IsBelow g pipes tables place at n input notes stands.1
-IsBelow g pipes tables place at n (topn_parts id source output m count keys input) notes (j, half, alone, is, below, passed) =
-    (place ≡ j) ⊎ IsBelow g pipes tables place j m input (pipes j).notes below
-IsBelow g pipes tables place at n (limit id count input) notes stands = IsBelow g pipes tables place at n input notes stands.1
-IsBelow g pipes tables place at n (limit_parts id source output m count input) notes (j, half, alone, is, below, passed) =
+IsBelow g pipes tables place at n (step id s input) notes stands = IsBelow g pipes tables place at n input notes stands.1
+IsBelow g pipes tables place at n (halves id source output m h input) notes (j, half, alone, is, below, passed) =
     (place ≡ j) ⊎ IsBelow g pipes tables place j m input (pipes j).notes below
 IsBelow g pipes tables place at n (union id left right) notes (i, j, first, left_below, second, right_below, passed) =
     ((place ≡ i) ⊎ IsBelow g pipes tables place i n left (pipes i).notes left_below)

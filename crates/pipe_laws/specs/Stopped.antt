@@ -1,16 +1,13 @@
 -- A driver that stands anywhere: how it can go on, and how one of its stages fails.
-use Rattle.std.specs.Prelude.{◌≡◌, ◌⊎◌, ℕ, List, [], ◌∷◌, ◌++◌, Bool, Option, Some, None, length}
+use Rattle.std.specs.Prelude.{◌≡◌, ◌⊎◌, ℕ, List, [], ◌∷◌, ◌++◌, Bool, Option, Some, None}
 use Rattle.sql_values.specs.declared.fail.Fail.{Fail}
 use Rattle.operator_core.specs.Rows.{Row}
-use Rattle.bag_laws.specs.Pieces.{finals_of}
 use Rattle.bag_laws.specs.Weights.{SameWeights}
-use Rattle.relation_laws.specs.Groups.{groups_of}
-use Rattle.plan_trees.specs.Judges.{filter_judge, project_judge}
 use Rattle.plan_trees.specs.TreeTypes.{types_of}
-use Rattle.plan_run_laws.specs.Faults.{FailsOnGroupOf, FailsOnOneOf}
-use Rattle.plan_run_laws.specs.RunPlans.{RunPlan, tree_of_run, scan, values, remote, filter, project, join, aggregate, aggregate_parts, sort, topn, topn_parts, limit, limit_parts, union}
+use Rattle.plan_run_laws.specs.RunPlans.{RunPlan, tree_of_run, scan, values, remote, step, halves, join, union}
+use Rattle.plan_run_laws.specs.Stages.{does, second_half}
 use Rattle.plan_run_laws.specs.Stops.{StagesCanGoOn, MayCome}
-use Rattle.stage_meanings.specs.Pipelines.{stages_of}
+use Rattle.stage_meanings.specs.Pipelines.{FailsOn, stages_of}
 use Rattle.pipe_laws.specs.Trees.{stages_over}
 
 -- the builds are what the notes of a driver know, in any order; where a note knows nothing, any
@@ -40,22 +37,10 @@ abbrev pub FailsAt : RunPlan → List (Option (List Row)) → List Row → Bool 
 FailsAt (scan id table columns types) notes took ended node kind = ⊥
 FailsAt (values id types rows) notes took ended node kind = ⊥
 FailsAt (remote id output tasks input) notes took ended node kind = ⊥
-FailsAt (filter id predicate input) notes took ended node kind =
-    ((id ≡ node) × FailsOver (FailsOnOneOf (filter_judge (types_of (tree_of_run input)) predicate) kind) input notes took ended)
-    ⊎ FailsAt input notes took ended node kind
-FailsAt (project id columns input) notes took ended node kind =
-    ((id ≡ node) × FailsOver (FailsOnOneOf (project_judge (types_of (tree_of_run input)) columns) kind) input notes took ended)
-    ⊎ FailsAt input notes took ended node kind
+FailsAt (step id s input) notes took ended node kind =
+    ((id ≡ node) × FailsOver (FailsOn (does (types_of (tree_of_run input)) s) kind) input notes took ended) ⊎ FailsAt input notes took ended node kind
+FailsAt (halves id source output tasks h input) notes took ended node kind =
+    (id ≡ node) × FailsOnAll (FailsOn (second_half (types_of (tree_of_run input)) h) kind) took ended
 FailsAt (join id how on left right) [] took ended node kind = ⊥
 FailsAt (join id how on left right) (noted ∷ notes) took ended node kind = FailsAt left notes took ended node kind
-FailsAt (aggregate id keys calls input) notes took ended node kind =
-    ((id ≡ node) × FailsOver (FailsOnGroupOf (groups_of (types_of (tree_of_run input)) keys calls) kind) input notes took ended)
-    ⊎ FailsAt input notes took ended node kind
-FailsAt (aggregate_parts id source output tasks keys calls input) notes took ended node kind =
-    (id ≡ node) × FailsOnAll (FailsOnGroupOf (finals_of (types_of (tree_of_run input)) (length keys) calls) kind) took ended
-FailsAt (sort id keys input) notes took ended node kind = FailsAt input notes took ended node kind
-FailsAt (topn id count keys input) notes took ended node kind = FailsAt input notes took ended node kind
-FailsAt (topn_parts id source output tasks count keys input) notes took ended node kind = ⊥
-FailsAt (limit id count input) notes took ended node kind = FailsAt input notes took ended node kind
-FailsAt (limit_parts id source output tasks count input) notes took ended node kind = ⊥
 FailsAt (union id left right) notes took ended node kind = ⊥

@@ -9,7 +9,7 @@ ghost use Rattle.col_pages.specs.Fits.{AllFit};
 ghost use Rattle.operator_core.specs.Rows.{Row};
 ghost use Rattle.operator_core.specs.Stages.{Chain, FailsAfter, Linked, ToldInTurn, last_finished};
 ghost use Rattle.plan_trees.specs.Allowed.{strict};
-ghost use Rattle.plan_run_laws.specs.Nets.{StagesMake as StageChain, probe};
+ghost use Rattle.plan_run_laws.specs.Stages.{StagesMake as StageChain, probe};
 ghost use Rattle.plan_run_laws.specs.RunPlans.{RunPlan};
 ghost use Rattle.stage_meanings.specs.Pipelines.{at_node, stages_of};
 ghost use Rattle.pipe_laws.specs.Trees.{stages_over};

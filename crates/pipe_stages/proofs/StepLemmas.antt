@@ -6,7 +6,7 @@ use Rattle.sql_values.specs.declared.types.SqlType.{SqlType}
 use Rattle.sql_values.specs.declared.relational.Call.{Call}
 use Rattle.sql_values.specs.declared.relational.JoinKind.{JoinKind}
 use Rattle.hash_join.specs.Cells.{CellState}
-use Rattle.plan_run_laws.specs.Nets as stage
+use Rattle.plan_run_laws.specs.Stages as stage
 use Rattle.plan_trees.specs.Layouts.{partial_types}
 use Rattle.plan_trees.specs.declared.tree.Pair.{Pair}
 use Rattle.plan_trees.specs.TreeForms.{pair_view}

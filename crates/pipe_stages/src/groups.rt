@@ -3,7 +3,7 @@ ghost use Rattle.std.specs.Prelude.{◌≡◌, ◌<◌, ◌≤◌, ◌+◌, ◌+
 ghost use Rattle.accumulators.specs.Limits.{are_allowed};
 ghost use Rattle.sql_functions.specs.CallTypes.{type_at};
 ghost use Rattle.plan_trees.specs.TreeTypes.{call_kind};
-ghost use Rattle.plan_run_laws.specs.Nets.{final, grouping, partial};
+ghost use Rattle.plan_run_laws.specs.Stages.{final, grouping, partial};
 ghost use Rattle.plan_trees.specs.Layouts.{partial_types};
 ghost use Rattle.stage_meanings.specs.Pipelines.{at_node};
 ghost use Rattle.driver_net_laws.specs.Stages.{IsStageOf};

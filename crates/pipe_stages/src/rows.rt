@@ -3,7 +3,7 @@ ghost use Rattle.std.specs.Prelude.{◌≡◌, ◌<◌, map, length, IfOk};
 ghost use Rattle.sql_exprs.specs.Forms.{form_view};
 ghost use Rattle.sql_exprs.specs.Meaning.{kind_of};
 ghost use Rattle.page_processor.specs.Typed.{AllTyped, IsTyped};
-ghost use Rattle.plan_run_laws.specs.Nets.{filter, project};
+ghost use Rattle.plan_run_laws.specs.Stages.{filter, project};
 ghost use Rattle.stage_meanings.specs.Pipelines.{at_node};
 ghost use Rattle.driver_net_laws.specs.Stages.{IsStageOf};
 

@@ -1,3 +1,4 @@
+pub mod Operators
 pub mod Nodes
 pub mod Plans
 pub mod Words

@@ -29,7 +29,7 @@ mod read_nodes;
 mod tables;
 mod words;
 
-pub use node::{DynamicFilter, DynamicFilters, Node, NodeStep};
+pub use node::{DynamicFilter, DynamicFilters, Node, NodeOperator, NodeStep};
 pub use plan::{Fragment, Fragments, Output, Placement, Plan, TableDoc, TableDocs};
 pub use plan_trees::{CallList, KeyList, Pair, Pairs};
 pub use read::read_plan_doc;

@@ -22,14 +22,9 @@ pub enum Node {
         id: u32,
         fragment: u32,
     },
-    Filter {
+    Step {
         id: u32,
-        predicate: Expr,
-        input: Box<Node>,
-    },
-    Project {
-        id: u32,
-        columns: ExprList,
+        operator: NodeOperator,
         input: Box<Node>,
     },
     Join {
@@ -40,48 +35,42 @@ pub enum Node {
         right: Box<Node>,
         filters: DynamicFilters,
     },
-    Aggregate {
-        id: u32,
-        step: NodeStep,
-        keys: Places,
-        calls: CallList,
-        input: Box<Node>,
-    },
-    AggregateFinal {
-        id: u32,
-        input: Box<Node>,
-    },
-    Sort {
-        id: u32,
-        keys: KeyList,
-        input: Box<Node>,
-    },
-    TopN {
-        id: u32,
-        step: NodeStep,
-        count: u32,
-        keys: KeyList,
-        input: Box<Node>,
-    },
-    TopNFinal {
-        id: u32,
-        input: Box<Node>,
-    },
-    Limit {
-        id: u32,
-        step: NodeStep,
-        count: u32,
-        input: Box<Node>,
-    },
-    LimitFinal {
-        id: u32,
-        input: Box<Node>,
-    },
     Union {
         id: u32,
         left: Box<Node>,
         right: Box<Node>,
     },
+}
+
+/// What a node of one input does.
+#[derive(Drop)]
+pub enum NodeOperator {
+    Filter {
+        predicate: Expr,
+    },
+    Project {
+        columns: ExprList,
+    },
+    Aggregate {
+        half: NodeStep,
+        keys: Places,
+        calls: CallList,
+    },
+    AggregateFinal,
+    Sort {
+        keys: KeyList,
+    },
+    TopN {
+        half: NodeStep,
+        count: u32,
+        keys: KeyList,
+    },
+    TopNFinal,
+    Limit {
+        half: NodeStep,
+        count: u32,
+    },
+    LimitFinal,
 }
 
 /// Whether a node does the whole of its operator, or the part that comes before a FINAL node.

@@ -13,7 +13,7 @@ use Rattle.plan_docs.specs.Documents.{fragment_of, table_of}
 use Rattle.plan_docs.specs.Plans.{FragmentForm, PlanForm}
 use Rattle.plan_trees.specs.TreeForms.{TreeForm}
 use Rattle.plan_run_laws.specs.RunPlans.{tree_of_run}
-use Rattle.plan_reader.specs.Trees.{tree_of}
+use Rattle.plan_link_laws.specs.Trees.{tree_of}
 use Rattle.plan_spreads.specs.Runs.{plan_run}
 use Rattle.plan_link_laws.specs.Consistent.{IsConsistent}
 use Rattle.plan_link_laws.proofs.DocumentLemmas.{document_checked, fragments_of, judged_plan, passes_first, plan_meets, plan_tree, tables_of}

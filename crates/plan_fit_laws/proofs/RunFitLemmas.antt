@@ -240,7 +240,7 @@ module _ (tables : List Table) where
         let typed = are_typed (tree.types_of (tree_of_run (node_run first parts input))) (under path key.Columns) 0 columns kinds
         (subst (λ cs. column_types cs (under path key.Columns) 0 columns ≡ Ok kinds) (sym ih.same) h2) in
         let same : plain kinds ≡ t = cc g2 in
-        record { same = typed.same ∙ ap (λ (u : RowTypes). u.columns) same; plain_is = plainly kinds t same; fits = (w.0, typed.typed, ih.fits) }))
+        record { same = typed.same ∙ ap (λ (u : RowTypes). u.columns) same; plain_is = plainly kinds t same; fits = ((w.0, typed.typed), ih.fits) }))
     node_agrees path (join id kind on filters left right) t m w e =
         typed_then_ok (node_types first types (under path key.Left) left) (λ l. typed_then (node_types first types (under path key.Right) right) (join_types path on l)) t
         (Runs (join id kind on filters left right) t) e
@@ -266,22 +266,22 @@ module _ (tables : List Table) where
         record {
           same = ap (λ (ts : List SqlType). whole_types ts keys calls) ih.same ∙ ap (λ (u : RowTypes). u.columns) single;
           plain_is = plainly (whole_types below.columns keys calls) t single;
-          fits = (w.0, subst (λ (ts : List SqlType). IsTrue (are_allowed ts calls)) (sym ih.same) found.allowed, ih.fits);
+          fits = ((w.0, subst (λ (ts : List SqlType). IsTrue (are_allowed ts calls)) (sym ih.same) found.allowed), ih.fits);
         })
     node_agrees path (aggregate_final id input) t m w e = final_agrees id path input t (over_half first later aggregates input m) e
     node_agrees path (sort id keys input) t m w e =
         typed_then_ok (node_types first types (under path key.Input) input) (sort_types path keys) t (Runs (sort id keys input) t) e
         (λ below h g. passed (node_run first parts input) below t (node_agrees (under path key.Input) input below m w h) (sorted path keys below t g)
-        (node_run first parts (sort id keys input)) refl (λ f. f))
+        (node_run first parts (sort id keys input)) refl (λ f. (tt, f)))
     node_agrees path (top_n id step count keys input) t m w e =
         typed_then_ok (node_types first types (under path key.Input) input) (sort_types path keys) t (Runs (top_n id step count keys input) t) e
         (λ below h g. passed (node_run first parts input) below t (node_agrees (under path key.Input) input below m.1 w h) (sorted path keys below t g)
-        (node_run first parts (top_n id step count keys input)) refl (λ f. f))
+        (node_run first parts (top_n id step count keys input)) refl (λ f. (tt, f)))
     node_agrees path (top_n_final id input) t m w e = other_agrees id top_ns path input t (λ h. cc h) (over_half first later top_ns input m) e
     node_agrees path (limit id step count input) t m w e =
         typed_then_ok (node_types first types (under path key.Input) input) same_rows t (Runs (limit id step count input) t) e
         (λ below h g. passed (node_run first parts input) below t (node_agrees (under path key.Input) input below m.1 w h) g
-        (node_run first parts (limit id step count input)) refl (λ f. f))
+        (node_run first parts (limit id step count input)) refl (λ f. (tt, f)))
     node_agrees path (limit_final id input) t m w e = other_agrees id limits path input t (λ h. cc h) (over_half first later limits input m) e
     node_agrees path (union id left right) t m w e =
         typed_then_ok (node_types first types (under path key.Left) left) (λ l. typed_then (node_types first types (under path key.Right) right) (union_types path l)) t
@@ -315,18 +315,18 @@ module _ (tables : List Table) where
             record {
               same = ap (λ (ts : List SqlType). whole_types ts keys calls) ih.same ∙ ap whole_of found.is;
               plain_is = λ other. absurd (other (ap half is));
-              fits = (w.0, subst (λ (ts : List SqlType). IsTrue (are_allowed ts calls)) (sym ih.same) found.allowed, ih.fits);
+              fits = ((w.0, subst (λ (ts : List SqlType). IsTrue (are_allowed ts calls)) (sym ih.same) found.allowed), ih.fits);
             })
         by (top_n id step count keys input) is m w e =
             typed_then_ok (node_types first types (under path key.Input) input) (sort_types path keys) t (Known f t (node_run first parts (top_n id step count keys input))) e
             (λ below h g. plain_known (top_n id step count keys input) is
             (passed (node_run first parts input) below t (node_agrees (under path key.Input) input below m w h) (sorted path keys below t g)
-            (node_run first parts (top_n id step count keys input)) refl (λ k. k)))
+            (node_run first parts (top_n id step count keys input)) refl (λ k. (tt, k))))
         by (limit id step count input) is m w e =
             typed_then_ok (node_types first types (under path key.Input) input) same_rows t (Known f t (node_run first parts (limit id step count input))) e
             (λ below h g. plain_known (limit id step count input) is
             (passed (node_run first parts input) below t (node_agrees (under path key.Input) input below m w h) g
-            (node_run first parts (limit id step count input)) refl (λ k. k)))
+            (node_run first parts (limit id step count input)) refl (λ k. (tt, k))))
         by (scan id table columns kinds) is m w e = plain_known (scan id table columns kinds) is (node_agrees path (scan id table columns kinds) t m w e)
         by (values id kinds rows) is m w e = plain_known (values id kinds rows) is (node_agrees path (values id kinds rows) t m w e)
         by (remote id fragment) is m w e = plain_known (remote id fragment) is (node_agrees path (remote id fragment) t m w e)

@@ -3,7 +3,7 @@ use Rattle.std.specs.Prelude.{◌≡◌, ℕ, List, map}
 use Rattle.sql_values.specs.declared.table.Table.{Table}
 use Rattle.plan_docs.specs.declared.plan.TableDoc.{TableDoc}
 use Rattle.plan_docs.specs.Plans.{PlanForm}
-use Rattle.plan_reader.specs.Judgement.{IsPlan}
+use Rattle.plan_link_laws.specs.Judgement.{IsPlan}
 
 -- some bytes are this plan
 pub record WasRead (plan : PlanForm) : Type 0 where

@@ -17,18 +17,10 @@ module _ (P : PipeForm → Type 0) where
     each_side own next (node.scan id place columns types) = tt
     each_side own next (node.values id types list) = tt
     each_side own next (node.remote id number) = tt
-    each_side own next (node.filter id predicate input) = each_side own next input
-    each_side own next (node.project id columns input) = each_side own next input
+    each_side own next (node.step id operator input) = each_side own next input
     each_side own next (node.join id kind on filters left right) =
         let at = next + side_count left in
         each_join P (sides_of s own next left) (pipes_of s at (built_for id on filters) right) (each_side own next left) (one (at + 1) (built_for id on filters) right, each_side at (at + 1) right)
-    each_side own next (node.aggregate id step keys calls input) = each_side own next input
-    each_side own next (node.aggregate_final id input) = each_side own next input
-    each_side own next (node.sort id keys input) = each_side own next input
-    each_side own next (node.top_n id step count keys input) = each_side own next input
-    each_side own next (node.top_n_final id input) = each_side own next input
-    each_side own next (node.limit id step count input) = each_side own next input
-    each_side own next (node.limit_final id input) = each_side own next input
     each_side own next (node.union id left right) =
         let at = next + 1 + side_count left in
         each_join P (pipes_of s next (side own) left) (pipes_of s at (side own) right) (one (next + 1) (side own) left, each_side next (next + 1) left)

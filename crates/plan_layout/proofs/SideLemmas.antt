@@ -16,8 +16,7 @@ pub side_length : (s : Site) (own next : ℕ) (n : NodeForm) → length (sides_o
 side_length s own next (node.scan id place columns types) = refl
 side_length s own next (node.values id types list) = refl
 side_length s own next (node.remote id number) = refl
-side_length s own next (node.filter id predicate input) = side_length s own next input
-side_length s own next (node.project id columns input) = side_length s own next input
+side_length s own next (node.step id operator input) = side_length s own next input
 side_length s own next (node.join id kind on filters left right) =
     let at = next + side_count left in
     omega (
@@ -26,13 +25,6 @@ side_length s own next (node.join id kind on filters left right) =
       side_length s own next left,
       side_length s at (at + 1) right,
     )
-side_length s own next (node.aggregate id step keys calls input) = side_length s own next input
-side_length s own next (node.aggregate_final id input) = side_length s own next input
-side_length s own next (node.sort id keys input) = side_length s own next input
-side_length s own next (node.top_n id step count keys input) = side_length s own next input
-side_length s own next (node.top_n_final id input) = side_length s own next input
-side_length s own next (node.limit id step count input) = side_length s own next input
-side_length s own next (node.limit_final id input) = side_length s own next input
 side_length s own next (node.union id left right) =
     let at = next + 1 + side_count left in
     omega (
@@ -101,8 +93,7 @@ module _ (layout : List PipeForm) (s : Site) where
   nodes_run own next (node.scan id place columns types) stand reads = (refl, refl, reads)
   nodes_run own next (node.values id types list) stand reads = (refl, refl)
   nodes_run own next (node.remote id number) stand reads = (refl, refl)
-  nodes_run own next (node.filter id predicate input) stand reads = (steps_of s.fragments next input, refl, nodes_run own next input stand reads)
-  nodes_run own next (node.project id columns input) stand reads = (steps_of s.fragments next input, refl, nodes_run own next input stand reads)
+  nodes_run own next (node.step id operator input) stand reads = (steps_of s.fragments next input, refl, nodes_run own next input stand reads)
   nodes_run own next (node.join id kind on filters left right) stand reads =
       let at = next + side_count left in
       let before = sides_of s own next left in
@@ -111,13 +102,6 @@ module _ (layout : List PipeForm) (s : Site) where
         pipe_runs at (built_for id on filters) right (nodes_run at (at + 1) right) (stand_right layout next before beside (side_count left) (side_length s own next left) stand),
         (steps_of s.fragments next left, refl, nodes_run own next left (stand_left layout next before beside stand) reads),
       )
-  nodes_run own next (node.aggregate id step keys calls input) stand reads = (steps_of s.fragments next input, refl, nodes_run own next input stand reads)
-  nodes_run own next (node.aggregate_final id input) stand reads = (steps_of s.fragments next input, refl, nodes_run own next input stand reads)
-  nodes_run own next (node.sort id keys input) stand reads = (steps_of s.fragments next input, refl, nodes_run own next input stand reads)
-  nodes_run own next (node.top_n id step count keys input) stand reads = (steps_of s.fragments next input, refl, nodes_run own next input stand reads)
-  nodes_run own next (node.top_n_final id input) stand reads = (steps_of s.fragments next input, refl, nodes_run own next input stand reads)
-  nodes_run own next (node.limit id step count input) stand reads = (steps_of s.fragments next input, refl, nodes_run own next input stand reads)
-  nodes_run own next (node.limit_final id input) stand reads = (steps_of s.fragments next input, refl, nodes_run own next input stand reads)
   nodes_run own next (node.union id left right) stand reads =
       let at = next + 1 + side_count left in
       let first = pipes_of s next (side own) left in

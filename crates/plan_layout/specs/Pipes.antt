@@ -9,6 +9,7 @@ use Rattle.sql_exprs.specs.Forms.{Form, form_view}
 use Rattle.plan_docs.specs.declared.node.DynamicFilter.{DynamicFilter}
 use Rattle.plan_docs.specs.declared.plan.Output.{Output}
 use Rattle.plan_trees.specs.declared.tree.Pair.{Pair}
+use Rattle.plan_trees.specs.Steps as steps
 use Rattle.plan_layout.specs.declared.pipe.BuildSide.{BuildSide}
 use Rattle.plan_layout.specs.declared.pipe.Pipe.{Pipe}
 use Rattle.plan_layout.specs.declared.pipe.Series.{Series}
@@ -33,16 +34,30 @@ pub data SourceForm : Type 0 where
 
 -- each begins with the node's number
 pub data StepForm : Type 0 where
-  filter : ℕ → Form → StepForm
-  project : ℕ → List Form → StepForm
+  does : ℕ → steps.StepForm → StepForm
   -- of what a pipe builds
   probe : ℕ → JoinKind → List Pair → ℕ → StepForm
-  aggregate : ℕ → List ℕ → List Call → StepForm
+  -- the halves of an aggregate
   partial : ℕ → List ℕ → List Call → StepForm
   final : ℕ → List ℕ → List Call → StepForm
-  sort : ℕ → List KeySpec → StepForm
-  top_n : ℕ → ℕ → List KeySpec → StepForm
-  limit : ℕ → ℕ → StepForm
+
+pattern abbrev pub filter : ℕ → Form → StepForm
+filter id predicate = does id (steps.filter predicate)
+
+pattern abbrev pub project : ℕ → List Form → StepForm
+project id columns = does id (steps.project columns)
+
+pattern abbrev pub aggregate : ℕ → List ℕ → List Call → StepForm
+aggregate id keys calls = does id (steps.aggregate keys calls)
+
+pattern abbrev pub sort : ℕ → List KeySpec → StepForm
+sort id keys = does id (steps.sort keys)
+
+pattern abbrev pub top_n : ℕ → ℕ → List KeySpec → StepForm
+top_n id count keys = does id (steps.topn count keys)
+
+pattern abbrev pub limit : ℕ → ℕ → StepForm
+limit id count = does id (steps.limit count)
 
 -- the right side of a join: the join's number, its pairs of columns, and its dynamic filters
 pub record BuildForm : Type 0 where

@@ -7,10 +7,10 @@ use Rattle.plan_docs.specs.Plans.{FragmentForm}
 use Rattle.plan_layout.specs.declared.pipe.Parallelism.{Parallelism}
 use Rattle.plan_layout.specs.declared.pipe.Series.{Series}
 use Rattle.plan_layout.specs.Edges.{reads_fragment, target_of}
-use Rattle.plan_layout.specs.Pipes.{PipeForm, SourceForm, StepForm, TargetForm, table, rows, sides, fragment, edge, filter, project, probe, sort, top_n, limit, side, takers}
+use Rattle.plan_layout.specs.Pipes.{PipeForm, SourceForm, StepForm, TargetForm, table, rows, sides, fragment, edge, probe, side, takers}
 use Rattle.plan_layout.specs.Layouts.{site_of}
 use Rattle.plan_layout.specs.Sides.{Site, built_for, unnumbered}
-use Rattle.plan_layout.specs.Steps.{aggregate_step, drivers_in_task, final_over}
+use Rattle.plan_layout.specs.Steps.{drivers_in_task, operator_steps}
 
 -- a pipe without the numbers of its drivers
 abbrev pub bare : PipeForm → PipeForm
@@ -44,27 +44,11 @@ Runs layout s own (node.scan id place columns types) source steps =
     (source ≡ table place columns types) × (steps ≡ []) × HasScan layout own (Some id)
 Runs layout s own (node.values id types list) source steps = (source ≡ rows types list) × (steps ≡ [])
 Runs layout s own (node.remote id number) source steps = (source ≡ fragment number) × (steps ≡ [])
-Runs layout s own (node.filter id predicate input) source steps =
-    EndsWith (Runs layout s own input source) (filter id predicate ∷ []) steps
-Runs layout s own (node.project id columns input) source steps =
-    EndsWith (Runs layout s own input source) (project id columns ∷ []) steps
+Runs layout s own (node.step id operator input) source steps =
+    EndsWith (Runs layout s own input source) (operator_steps s.fragments id operator input) steps
 Runs layout s own (node.join id kind on filters left right) source steps =
     (at : ℕ) × PipeAt layout s (built_for id on filters) at (Runs layout s at right)
     × EndsWith (Runs layout s own left source) (probe id kind on at ∷ []) steps
-Runs layout s own (node.aggregate id step keys calls input) source steps =
-    EndsWith (Runs layout s own input source) (aggregate_step id step keys calls ∷ []) steps
-Runs layout s own (node.aggregate_final id input) source steps =
-    EndsWith (Runs layout s own input source) (final_over s.fragments id input) steps
-Runs layout s own (node.sort id keys input) source steps =
-    EndsWith (Runs layout s own input source) (sort id keys ∷ []) steps
-Runs layout s own (node.top_n id step count keys input) source steps =
-    EndsWith (Runs layout s own input source) (top_n id count keys ∷ []) steps
-Runs layout s own (node.top_n_final id input) source steps =
-    EndsWith (Runs layout s own input source) (final_over s.fragments id input) steps
-Runs layout s own (node.limit id step count input) source steps =
-    EndsWith (Runs layout s own input source) (limit id count ∷ []) steps
-Runs layout s own (node.limit_final id input) source steps =
-    EndsWith (Runs layout s own input source) (final_over s.fragments id input) steps
 Runs layout s own (node.union id left right) source steps =
     (source ≡ sides) × (steps ≡ [])
     × (first : (i : ℕ) × PipeAt layout s (side own) i (Runs layout s i left))

@@ -2,7 +2,7 @@
 -- which a walk to each node, its input or left side and then its right side, meets their topmost nodes.
 use Rattle.std.specs.Prelude.{ℕ, ◌+◌, List, [], ◌∷◌, ◌++◌, map}
 use Rattle.plan_docs.specs.declared.node.DynamicFilter.{DynamicFilter}
-use Rattle.plan_docs.specs.Nodes.{NodeForm, scan, values, remote, filter, project, join, aggregate, aggregate_final, sort, top_n, top_n_final, limit, limit_final, union}
+use Rattle.plan_docs.specs.Nodes.{NodeForm, scan, values, remote, step, join, union}
 use Rattle.plan_docs.specs.Plans.{FragmentForm, fragment_view}
 use Rattle.plan_trees.specs.declared.tree.Pair.{Pair}
 use Rattle.plan_layout.specs.declared.pipe.Series.{Series}
@@ -51,19 +51,11 @@ abbrev pub sides_of : Site → ℕ → ℕ → NodeForm → List PipeForm
 sides_of s own next (scan id place columns types) = []
 sides_of s own next (values id types list) = []
 sides_of s own next (remote id number) = []
-sides_of s own next (filter id predicate input) = sides_of s own next input
-sides_of s own next (project id columns input) = sides_of s own next input
+sides_of s own next (step id operator input) = sides_of s own next input
 sides_of s own next (join id kind on filters left right) =
     sides_of s own next left
     ++ pipe_of s (next + side_count left + 1) (built_for id on filters) right
     ∷ sides_of s (next + side_count left) (next + side_count left + 1) right
-sides_of s own next (aggregate id step keys calls input) = sides_of s own next input
-sides_of s own next (aggregate_final id input) = sides_of s own next input
-sides_of s own next (sort id keys input) = sides_of s own next input
-sides_of s own next (top_n id step count keys input) = sides_of s own next input
-sides_of s own next (top_n_final id input) = sides_of s own next input
-sides_of s own next (limit id step count input) = sides_of s own next input
-sides_of s own next (limit_final id input) = sides_of s own next input
 sides_of s own next (union id left right) =
     (pipe_of s (next + 1) (side own) left ∷ sides_of s next (next + 1) left)
     ++ pipe_of s (next + 1 + side_count left + 1) (side own) right

@@ -126,15 +126,7 @@ fn push_sides<'p>(
             push_pipe(alloc, site, pipes, below, PipeTarget::Side(own), right)?;
             push_sides(alloc, site, pipes, at, below, right)
         }
-        Node::Filter { input, .. }
-        | Node::Project { input, .. }
-        | Node::Aggregate { input, .. }
-        | Node::AggregateFinal { input, .. }
-        | Node::Sort { input, .. }
-        | Node::TopN { input, .. }
-        | Node::TopNFinal { input, .. }
-        | Node::Limit { input, .. }
-        | Node::LimitFinal { input, .. } => push_sides(alloc, site, pipes, own, next, input),
+        Node::Step { input, .. } => push_sides(alloc, site, pipes, own, next, input),
     }
 }
 

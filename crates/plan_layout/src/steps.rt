@@ -2,13 +2,14 @@
 ghost use Rattle.std.specs.Prelude.{◌≡◌, ◌+◌, ◌++◌, ◌∷◌, [], map, IfOk, OnOk, option_map, slice_get};
 ghost use Rattle.std.specs.List.{list_any};
 ghost use Rattle.plan_docs.specs.Nodes.{node_view};
+ghost use Rattle.plan_docs.specs.Operators.{operator_view};
 ghost use Rattle.plan_docs.specs.Plans.{fragment_view};
 ghost use Rattle.plan_layout.specs.Pipes.{probe, source_view, step_view, target_view};
-ghost use Rattle.plan_layout.specs.Steps.{aggregate_step, builds, drivers_in_task, final_in, final_of, final_over, groups_rows, is_shared, own_steps, scan_read, side_count, source_of, steps_of};
+ghost use Rattle.plan_layout.specs.Steps.{aggregate_step, builds, drivers_in_task, final_in, final_of, final_over, groups_rows, is_shared, operator_steps, other_half, scan_read, side_count, source_of, steps_of};
 
 use crate::pipe::{PipeSource, PipeStep, PipeTarget};
 use crate::sums::sum_of;
-use plan_docs::{Fragment, Node, NodeStep};
+use plan_docs::{Fragment, Node, NodeOperator, NodeStep};
 use plan_trees::{CallList, Pairs};
 use sql_values::{JoinKind, Memory, Places};
 use std::alloc::Global;
@@ -27,15 +28,7 @@ pub fn source_of(node: &Node) -> PipeSource<'_>
         Node::Remote { fragment, .. } => PipeSource::Fragment(*fragment),
         Node::Union { .. } => PipeSource::Sides,
         Node::Join { left, .. } => source_of(left),
-        Node::Filter { input, .. }
-        | Node::Project { input, .. }
-        | Node::Aggregate { input, .. }
-        | Node::AggregateFinal { input, .. }
-        | Node::Sort { input, .. }
-        | Node::TopN { input, .. }
-        | Node::TopNFinal { input, .. }
-        | Node::Limit { input, .. }
-        | Node::LimitFinal { input, .. } => source_of(input),
+        Node::Step { input, .. } => source_of(input),
     }
 }
 
@@ -47,15 +40,7 @@ pub fn scan_read(node: &Node) -> Option<u32>
         Node::Scan { id, .. } => Some(*id),
         Node::Values { .. } | Node::Remote { .. } | Node::Union { .. } => None,
         Node::Join { left, .. } => scan_read(left),
-        Node::Filter { input, .. }
-        | Node::Project { input, .. }
-        | Node::Aggregate { input, .. }
-        | Node::AggregateFinal { input, .. }
-        | Node::Sort { input, .. }
-        | Node::TopN { input, .. }
-        | Node::TopNFinal { input, .. }
-        | Node::Limit { input, .. }
-        | Node::LimitFinal { input, .. } => scan_read(input),
+        Node::Step { input, .. } => scan_read(input),
     }
 }
 
@@ -73,15 +58,7 @@ pub fn side_count(node: &Node) -> Result<usize, Memory>
             let count = sum_of(1, side_count(left)?)?;
             sum_of(count, sum_of(1, side_count(right)?)?)
         }
-        Node::Filter { input, .. }
-        | Node::Project { input, .. }
-        | Node::Aggregate { input, .. }
-        | Node::AggregateFinal { input, .. }
-        | Node::Sort { input, .. }
-        | Node::TopN { input, .. }
-        | Node::TopNFinal { input, .. }
-        | Node::Limit { input, .. }
-        | Node::LimitFinal { input, .. } => side_count(input),
+        Node::Step { input, .. } => side_count(input),
     }
 }
 
@@ -114,20 +91,39 @@ fn push_final<'p>(steps: &mut Vec<PipeStep<'p>>, id: u32, root: &'p Node) -> Res
         ≡ map step_view steps.old.items ++ final_of id (node_view root.now)) }
 {
     match root {
-        Node::Aggregate { keys, calls, .. } => push_step(steps, PipeStep::Final(id, keys, calls)),
-        Node::TopN { count, keys, .. } => push_step(steps, PipeStep::TopN(id, *count, keys)),
-        Node::Limit { count, .. } => push_step(steps, PipeStep::Limit(id, *count)),
+        Node::Step { operator, .. } => push_other_half(steps, id, operator),
         Node::Scan { .. }
         | Node::Values { .. }
         | Node::Remote { .. }
-        | Node::Filter { .. }
-        | Node::Project { .. }
         | Node::Join { .. }
-        | Node::AggregateFinal { .. }
-        | Node::Sort { .. }
-        | Node::TopNFinal { .. }
-        | Node::LimitFinal { .. }
         | Node::Union { .. } => Ok(()),
+    }
+}
+
+/// The FINAL half of an operator that is one of which a PARTIAL half may be read.
+fn push_other_half<'p>(
+    steps: &mut Vec<PipeStep<'p>>,
+    id: u32,
+    operator: &'p NodeOperator,
+) -> Result<(), Memory>
+    ensures { OnOk result (map step_view steps.new.items
+        ≡ map step_view steps.old.items ++ other_half id (operator_view operator.now)) }
+{
+    match operator {
+        NodeOperator::Aggregate { keys, calls, .. } => {
+            push_step(steps, PipeStep::Final(id, keys, calls))
+        }
+        NodeOperator::TopN { count, keys, .. } => push_step(
+            steps,
+            PipeStep::TopN(id, *count, keys),
+        ),
+        NodeOperator::Limit { count, .. } => push_step(steps, PipeStep::Limit(id, *count)),
+        NodeOperator::Filter { .. }
+        | NodeOperator::Project { .. }
+        | NodeOperator::Sort { .. }
+        | NodeOperator::AggregateFinal
+        | NodeOperator::TopNFinal
+        | NodeOperator::LimitFinal => Ok(()),
     }
 }
 
@@ -171,16 +167,8 @@ fn push_final_over<'p>(
         ),
         Node::Scan { .. }
         | Node::Values { .. }
-        | Node::Filter { .. }
-        | Node::Project { .. }
+        | Node::Step { .. }
         | Node::Join { .. }
-        | Node::Aggregate { .. }
-        | Node::AggregateFinal { .. }
-        | Node::Sort { .. }
-        | Node::TopN { .. }
-        | Node::TopNFinal { .. }
-        | Node::Limit { .. }
-        | Node::LimitFinal { .. }
         | Node::Union { .. } => Ok(()),
     }
 }
@@ -217,42 +205,34 @@ fn push_probe<'p>(
     push_step(steps, PipeStep::Probe(id, kind, on, built))
 }
 
-/// The step of a node over one input, behind those of the input.
-fn push_own<'p>(
+/// The step of an operator over its input, behind those of the input.
+fn push_operator<'p>(
     steps: &mut Vec<PipeStep<'p>>,
     fragments: &'p [Fragment],
-    node: &'p Node,
+    id: u32,
+    operator: &'p NodeOperator,
+    input: &Node,
 ) -> Result<(), Memory>
     ensures { OnOk result (map step_view steps.new.items
         ≡ map step_view steps.old.items
-        ++ own_steps (map fragment_view fragments.now) (node_view node.now)) }
+        ++ operator_steps (map fragment_view fragments.now) id (operator_view operator.now)
+        (node_view input.now)) }
 {
-    match node {
-        Node::Scan { .. }
-        | Node::Values { .. }
-        | Node::Remote { .. }
-        | Node::Join { .. }
-        | Node::Union { .. } => Ok(()),
-        Node::Filter { id, predicate, .. } => push_step(steps, PipeStep::Filter(*id, predicate)),
-        Node::Project { id, columns, .. } => push_step(steps, PipeStep::Project(*id, columns)),
-        Node::Aggregate {
-            id,
-            step,
-            keys,
-            calls,
-            ..
-        } => push_step(steps, aggregate_step(*id, *step, keys, calls)),
-        Node::Sort { id, keys, .. } => push_step(steps, PipeStep::Sort(*id, keys)),
-        Node::TopN {
-            id,
-            count,
-            keys,
-            ..
-        } => push_step(steps, PipeStep::TopN(*id, *count, keys)),
-        Node::Limit { id, count, .. } => push_step(steps, PipeStep::Limit(*id, *count)),
-        Node::AggregateFinal { id, input }
-        | Node::TopNFinal { id, input }
-        | Node::LimitFinal { id, input } => push_final_over(steps, fragments, *id, input),
+    match operator {
+        NodeOperator::Filter { predicate } => push_step(steps, PipeStep::Filter(id, predicate)),
+        NodeOperator::Project { columns } => push_step(steps, PipeStep::Project(id, columns)),
+        NodeOperator::Aggregate { half, keys, calls } => {
+            push_step(steps, aggregate_step(id, *half, keys, calls))
+        }
+        NodeOperator::Sort { keys } => push_step(steps, PipeStep::Sort(id, keys)),
+        NodeOperator::TopN { count, keys, .. } => push_step(
+            steps,
+            PipeStep::TopN(id, *count, keys),
+        ),
+        NodeOperator::Limit { count, .. } => push_step(steps, PipeStep::Limit(id, *count)),
+        NodeOperator::AggregateFinal | NodeOperator::TopNFinal | NodeOperator::LimitFinal => {
+            push_final_over(steps, fragments, id, input)
+        }
     }
 }
 
@@ -280,17 +260,13 @@ fn push_steps<'p>(
             push_steps(steps, fragments, next, left)?;
             push_probe(steps, next, *id, *kind, on, left)
         }
-        Node::Filter { input, .. }
-        | Node::Project { input, .. }
-        | Node::Aggregate { input, .. }
-        | Node::AggregateFinal { input, .. }
-        | Node::Sort { input, .. }
-        | Node::TopN { input, .. }
-        | Node::TopNFinal { input, .. }
-        | Node::Limit { input, .. }
-        | Node::LimitFinal { input, .. } => {
+        Node::Step {
+            id,
+            operator,
+            input,
+        } => {
             push_steps(steps, fragments, next, input)?;
-            push_own(steps, fragments, node)
+            push_operator(steps, fragments, *id, operator, input)
         }
     }
 }

@@ -22,7 +22,7 @@ use Rattle.plan_grammar.specs.declared.words.OpWord.{OpWord}
 use Rattle.plan_grammar.specs.declared.words.OpWord.TheVariants as op
 use Rattle.plan_grammar.specs.declared.words.StepWord.{StepWord}
 use Rattle.plan_grammar.specs.declared.words.StepWord.TheVariants as word
-use Rattle.plan_grammar.specs.Grammar.{aggregate_parts, join_parts, limit_parts, parts_of_node, topn_parts}
+use Rattle.plan_grammar.specs.Grammar.{join_parts, parts_of_node}
 use Rattle.plan_grammar.specs.Json.{count_of, entries, entries_count, entries_in, entries_of, entries_under, has_entry, under}
 use Rattle.plan_grammar.specs.Spots.{Spot, spot}
 use Rattle.plan_grammar.specs.Tables.{part}
@@ -35,11 +35,11 @@ use Rattle.plan_docs.specs.Documents.{fragment_of}
 use Rattle.plan_docs.specs.Names.{column_place, column_type, scanned_columns}
 use Rattle.plan_docs.specs.Nodes.{NodeForm}
 use Rattle.plan_docs.specs.Parts.{kinds_of}
-use Rattle.plan_docs.specs.ReadNodes.{aggregate_of, inner_node, limit_of, node_at, node_by, node_form, top_n_of}
+use Rattle.plan_docs.specs.ReadNodes.{inner_node, node_at, node_by, node_form}
 use Rattle.plan_docs.specs.Words.{type_of}
 use Rattle.plan_spreads.specs.Widths.{AllLeavesFit, LeavesFit}
 use Rattle.plan_spreads.proofs.EachLemmas.{first_true, second_true}
-use Rattle.plan_link_laws.proofs.InputLemmas.{aggregate_input, join_left, join_right, limit_input, topn_input}
+use Rattle.plan_link_laws.proofs.InputLemmas.{input_at, join_left, join_right, step_node, step_parts}
 use Rattle.plan_link_laws.proofs.PlaceLemmas.{PartAt, RootAt, Sound, entry_there, here, not_false, part_there, root_at, sound_under}
 
 length-entries : (ds : Items) → length (entries_of ds) ≡ items_len ds
@@ -60,17 +60,10 @@ rows_fit types width (d ∷ ds) each =
     All-cons (λ (row : List Value). length row ≡ width) (row_of_entries types d) (rows_of_node types ds) (cells_count types 0 (entries_in d) ∙ each 0 d refl)
     (rows_fit types width ds (λ j e at. each (suc j) e at))
 
-aggregate_leaves : (s : StepWord) (d : Data) (input : NodeForm) → LeavesFit input → LeavesFit (aggregate_of s d input)
-aggregate_leaves word.Final d input h = h
-aggregate_leaves s d input h = h
-
-top_n_leaves : (s : StepWord) (d : Data) (input : NodeForm) → LeavesFit input → LeavesFit (top_n_of s d input)
-top_n_leaves word.Final d input h = h
-top_n_leaves s d input h = h
-
-limit_leaves : (s : StepWord) (d : Data) (input : NodeForm) → LeavesFit input → LeavesFit (limit_of s d input)
-limit_leaves word.Final d input h = h
-limit_leaves s d input h = h
+step_leaves : (w : OpWord) (s : StepWord) (d : Data) (input : NodeForm) → LeavesFit input → LeavesFit (step_node w s d input)
+step_leaves op.Aggregate word.Final d input h = h
+step_leaves w word.Final d input h = h
+step_leaves w s d input h = h
 
 no_rows : HaveWidth 0 []
 no_rows = All-nil (λ (row : List Value). length row ≡ 0)
@@ -118,24 +111,16 @@ module _ (document : Data) (all : List Spot) where
           input_leaves parts 4 key.Left (under key.Left d) refl (own_parts op.Join is) (join_left (has_entry key.Filters d)),
           input_leaves parts 5 key.Right (under key.Right d) refl (own_parts op.Join is) (join_right (has_entry key.Filters d)),
         )
-    by_word op.Aggregate is =
-        let input = aggregate_input (step_of d) in
-        aggregate_leaves (step_of d) d (inner_node (node_at n document) (under key.Input d))
-        (input_leaves (aggregate_parts (step_of d)) input.place key.Input (under key.Input d) refl (own_parts op.Aggregate is) input.is)
     by_word op.Sort is = input_leaves table.sort 3 key.Input (under key.Input d) refl (own_parts op.Sort is) refl
-    by_word op.TopN is =
-        let input = topn_input (step_of d) in
-        top_n_leaves (step_of d) d (inner_node (node_at n document) (under key.Input d))
-        (input_leaves (topn_parts (step_of d)) input.place key.Input (under key.Input d) refl (own_parts op.TopN is) input.is)
-    by_word op.Limit is =
-        let input = limit_input (step_of d) in
-        limit_leaves (step_of d) d (inner_node (node_at n document) (under key.Input d))
-        (input_leaves (limit_parts (step_of d)) input.place key.Input (under key.Input d) refl (own_parts op.Limit is) input.is)
     by_word op.Union is = (
       input_leaves table.union 2 key.Left (under key.Left d) refl (own_parts op.Union is) refl,
       input_leaves table.union 3 key.Right (under key.Right d) refl (own_parts op.Union is) refl,
     )
     by_word op.Unknown is = no_rows
+    by_word w is =
+        let at = input_at w (step_of d) in
+        step_leaves w (step_of d) d (inner_node (node_at n document) (under key.Input d))
+        (input_leaves (step_parts w (step_of d)) at.place key.Input (under key.Input d) refl (own_parts w is) at.is)
 
   node_leaves : (n : ℕ) (d : Data) (path : List Step) (owner : Data) (level : ℕ) → Sound document all d path owner kind.Node level → LeavesFit (node_at n document d)
   unfolding node_at

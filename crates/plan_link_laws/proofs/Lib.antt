@@ -11,3 +11,4 @@ pub mod LeafLemmas
 pub mod ReadLemmas
 pub mod RunLemmas
 pub mod DocumentLemmas
+pub use Rattle.plan_reader.proofs.ReachLemmas

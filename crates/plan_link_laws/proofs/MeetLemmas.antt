@@ -16,7 +16,7 @@ use Rattle.plan_grammar.specs.declared.words.OpWord.{OpWord}
 use Rattle.plan_grammar.specs.declared.words.OpWord.TheVariants as op
 use Rattle.plan_grammar.specs.declared.words.StepWord.{StepWord}
 use Rattle.plan_grammar.specs.declared.words.StepWord.TheVariants as word
-use Rattle.plan_grammar.specs.Grammar.{aggregate_parts, has_steps, join_parts, limit_parts, parts_of_node, topn_parts}
+use Rattle.plan_grammar.specs.Grammar.{has_steps, join_parts, parts_of_node}
 use Rattle.plan_grammar.specs.Json.{entries_under, has_entry, number_under, under}
 use Rattle.plan_grammar.specs.Spots.{Spot}
 use Rattle.plan_grammar.specs.Tables.{part}
@@ -27,69 +27,56 @@ use Rattle.plan_checks.specs.Halves.{is_root_path, joins, root_of}
 use Rattle.plan_checks.specs.Names.{part_index}
 use Rattle.plan_docs.specs.Documents.{fragment_of}
 use Rattle.plan_docs.specs.Nodes.{NodeForm}
+use Rattle.plan_docs.specs.Nodes as node
 use Rattle.plan_docs.specs.Plans.{FragmentForm}
-use Rattle.plan_docs.specs.ReadNodes.{aggregate_of, inner_node, limit_of, node_at, node_by, node_form, top_n_of}
+use Rattle.plan_docs.specs.ReadNodes.{inner_node, node_at, node_by, node_form}
 use Rattle.plan_docs.specs.Words.{small_under}
-use Rattle.plan_spreads.specs.Halves.{AllMeet, Halved, aggregates, top_ns, limits, HalvesMeet, HasHalf, Meets, ReadsHalf, RootMeets, half}
+use Rattle.plan_spreads.specs.Halves.{AllMeet, Halved, HalvesMeet, HasHalf, Meets, ReadsHalf, RootMeets, half}
 use Rattle.plan_spreads.specs.Sources.{fragment_read}
 use Rattle.plan_spreads.proofs.EachLemmas.{Each, first_true}
 use Rattle.plan_link_laws.proofs.HalfLemmas.{BelowFinal, below_final, ends_same, final_input, final_joined, leads, other, partial_root}
-use Rattle.plan_link_laws.proofs.InputLemmas.{InputAt, aggregate_input, join_left, join_right, limit_input, topn_input}
+use Rattle.plan_link_laws.proofs.InputLemmas.{InputAt, input_at, join_left, join_right, node_is, parts_are, step_half, step_node, step_parts}
 use Rattle.plan_link_laws.proofs.PlaceLemmas.{Checked, RootAt, Sound, fragment_there, here, root_at, sound_under, source_at}
 use Rattle.plan_link_laws.proofs.StepLemmas.{Known, value_at}
 
 -- of which operator a node of the word is a half, if it is one
 abbrev halved : OpWord → Option Halved
-halved op.Aggregate = Some aggregates
-halved op.TopN = Some top_ns
-halved op.Limit = Some limits
-halved w = None
+halved w = if has_steps w then Some (step_half w) else None
 
 abbrev partial_of : StepWord → Option Halved → Option Halved
 partial_of word.Partial operator = operator
 partial_of s operator = None
 
-aggregate_half : (s : StepWord) (d : Data) (input : NodeForm) → half (aggregate_of s d input) ≡ partial_of s (Some aggregates)
-aggregate_half word.Single d input = refl
-aggregate_half word.Partial d input = refl
-aggregate_half word.Final d input = refl
-aggregate_half word.Unknown d input = refl
-
-top_n_half : (s : StepWord) (d : Data) (input : NodeForm) → half (top_n_of s d input) ≡ partial_of s (Some top_ns)
-top_n_half word.Single d input = refl
-top_n_half word.Partial d input = refl
-top_n_half word.Final d input = refl
-top_n_half word.Unknown d input = refl
-
-limit_half : (s : StepWord) (d : Data) (input : NodeForm) → half (limit_of s d input) ≡ partial_of s (Some limits)
-limit_half word.Single d input = refl
-limit_half word.Partial d input = refl
-limit_half word.Final d input = refl
-limit_half word.Unknown d input = refl
+half_of_step : (w : OpWord) (s : StepWord) (d : Data) (input : NodeForm) → half (step_node w s d input) ≡ partial_of s (Some (step_half w))
+half_of_step op.Aggregate word.Single d input = refl
+half_of_step w word.Single d input = refl
+half_of_step w word.Partial d input = refl
+half_of_step w s d input = refl
 
 no_half : (s : StepWord) → None ≡ partial_of s None
 no_half word.Partial = refl
 no_half s = refl
 
-half_by : (read : Data → NodeForm) (document d : Data) (w : OpWord) → half (node_by read document d w) ≡ partial_of (step_of d) (halved w)
-half_by read document d op.Aggregate = aggregate_half (step_of d) d (inner_node read (under key.Input d))
-half_by read document d op.TopN = top_n_half (step_of d) d (inner_node read (under key.Input d))
-half_by read document d op.Limit = limit_half (step_of d) d (inner_node read (under key.Input d))
-half_by read document d w = no_half (step_of d)
+half_by : (b : Bool) (read : Data → NodeForm) (document d : Data) (w : OpWord) → has_steps w ≡ b
+    → half (node_by read document d w) ≡ partial_of (step_of d) (if b then Some (step_half w) else None)
+half_by true read document d w h = ap half (node_is read document d w h) ∙ half_of_step w (step_of d) d (inner_node read (under key.Input d))
+half_by false read document d op.Scan h = no_half (step_of d)
+half_by false read document d w h = cc (no_half (step_of d))
 
 node_half : (n : ℕ) (document d : Data) → half (node_at (suc n) document d) ≡ partial_of (step_of d) (halved (op_of d))
 unfolding node_at
-node_half n document d = half_by (node_at n document) document d (op_of d)
+node_half n document d = half_by (has_steps (op_of d)) (node_at n document) document d (op_of d) refl
 
 root_half : (document d root : Data) → under key.Root d ≡ Some root → half (fragment_of document d).root ≡ partial_of (step_of root) (halved (op_of root))
 unfolding node_form
 root_half document d root is = ap (λ (o : Option Data). half (inner_node (node_form document) o)) is ∙ node_half 31 document root
 
+has_if : (b : Bool) (o operator : Halved) → (if b then Some o else None) ≡ Some operator → b ≡ true
+has_if true o operator h = refl
+has_if false o operator h = absurd cc
+
 has_by : (w : OpWord) (operator : Halved) → halved w ≡ Some operator → has_steps w ≡ true
-has_by op.Aggregate operator h = refl
-has_by op.TopN operator h = refl
-has_by op.Limit operator h = refl
-has_by w operator h = absurd cc
+has_by w operator h = has_if (has_steps w) (step_half w) operator h
 
 partial_none : (s : StepWord) (o : Option Halved) → (s ≡ word.Partial → (operator : Halved) → o ≡ Some operator → ⊥) → partial_of s o ≡ None
 partial_none word.Partial None none = refl
@@ -109,47 +96,24 @@ remote_read (suc n) operator document d first later some is h =
 
 -- the halves of an operator over its input
 module _ (first : ℕ) (later : List FragmentForm) (d : Data) (input : NodeForm) where
-  over_aggregate : (s : StepWord) → (s ≡ word.Partial → ⊥) → (s ≡ word.Final → ReadsHalf aggregates first later input) → ((s ≡ word.Final → ⊥) → Meets first later input)
-      → Meets first later (aggregate_of s d input)
-  over_aggregate word.Single whole reads_half meets = (refl, meets (λ h. absurd cc))
-  over_aggregate word.Partial whole reads_half meets = absurd (whole refl)
-  over_aggregate word.Final whole reads_half meets = reads_half refl
-  over_aggregate word.Unknown whole reads_half meets = (refl, meets (λ h. absurd cc))
+  over_step : (w : OpWord) (s : StepWord) → (s ≡ word.Partial → ⊥) → (s ≡ word.Final → ReadsHalf (step_half w) first later input) → ((s ≡ word.Final → ⊥) → Meets first later input)
+      → Meets first later (step_node w s d input)
+  over_step op.Aggregate word.Partial whole reads_half meets = absurd (whole refl)
+  over_step w word.Partial whole reads_half meets = absurd (whole refl)
+  over_step w word.Final whole reads_half meets = reads_half refl
+  over_step w s whole reads_half meets = (refl, meets (λ h. absurd cc))
 
-  over_top_n : (s : StepWord) → (s ≡ word.Partial → ⊥) → (s ≡ word.Final → ReadsHalf top_ns first later input) → ((s ≡ word.Final → ⊥) → Meets first later input)
-      → Meets first later (top_n_of s d input)
-  over_top_n word.Single whole reads_half meets = (refl, meets (λ h. absurd cc))
-  over_top_n word.Partial whole reads_half meets = absurd (whole refl)
-  over_top_n word.Final whole reads_half meets = reads_half refl
-  over_top_n word.Unknown whole reads_half meets = (refl, meets (λ h. absurd cc))
+  root_step : (w : OpWord) (s : StepWord) → (s ≡ word.Final → ReadsHalf (step_half w) first later input) → ((s ≡ word.Final → ⊥) → Meets first later input)
+      → RootMeets first later (step_node w s d input)
+  root_step op.Aggregate word.Final reads_half meets = reads_half refl
+  root_step w word.Final reads_half meets = reads_half refl
+  root_step w s reads_half meets = meets (λ h. absurd cc)
 
-  over_limit : (s : StepWord) → (s ≡ word.Partial → ⊥) → (s ≡ word.Final → ReadsHalf limits first later input) → ((s ≡ word.Final → ⊥) → Meets first later input)
-      → Meets first later (limit_of s d input)
-  over_limit word.Single whole reads_half meets = (refl, meets (λ h. absurd cc))
-  over_limit word.Partial whole reads_half meets = absurd (whole refl)
-  over_limit word.Final whole reads_half meets = reads_half refl
-  over_limit word.Unknown whole reads_half meets = (refl, meets (λ h. absurd cc))
-
-  root_aggregate : (s : StepWord) → (s ≡ word.Final → ReadsHalf aggregates first later input) → ((s ≡ word.Final → ⊥) → Meets first later input)
-      → RootMeets first later (aggregate_of s d input)
-  root_aggregate word.Single reads_half meets = meets (λ h. absurd cc)
-  root_aggregate word.Partial reads_half meets = meets (λ h. absurd cc)
-  root_aggregate word.Final reads_half meets = reads_half refl
-  root_aggregate word.Unknown reads_half meets = meets (λ h. absurd cc)
-
-  root_top_n : (s : StepWord) → (s ≡ word.Final → ReadsHalf top_ns first later input) → ((s ≡ word.Final → ⊥) → Meets first later input)
-      → RootMeets first later (top_n_of s d input)
-  root_top_n word.Single reads_half meets = meets (λ h. absurd cc)
-  root_top_n word.Partial reads_half meets = meets (λ h. absurd cc)
-  root_top_n word.Final reads_half meets = reads_half refl
-  root_top_n word.Unknown reads_half meets = meets (λ h. absurd cc)
-
-  root_limit : (s : StepWord) → (s ≡ word.Final → ReadsHalf limits first later input) → ((s ≡ word.Final → ⊥) → Meets first later input)
-      → RootMeets first later (limit_of s d input)
-  root_limit word.Single reads_half meets = meets (λ h. absurd cc)
-  root_limit word.Partial reads_half meets = meets (λ h. absurd cc)
-  root_limit word.Final reads_half meets = reads_half refl
-  root_limit word.Unknown reads_half meets = meets (λ h. absurd cc)
+meets_root : (first : ℕ) (later : List FragmentForm) (x : NodeForm) → Meets first later x → RootMeets first later x
+meets_root first later (node.aggregate id step keys calls input) m = m.1
+meets_root first later (node.top_n id step count keys input) m = m.1
+meets_root first later (node.limit id step count input) m = m.1
+meets_root first later x m = m
 
 module _ (document : Data) (all : List Spot) (sound_all : Sound document all document [] document kind.Document 0)
     (known : Each (Known (Checked document all) document) all)
@@ -254,17 +218,11 @@ module _ (document : Data) (all : List Spot) (sound_all : Sound document all doc
       meets = λ other. input_meets n d rest owner level parts input.place key.Input (under key.Input d) refl at own input.is (λ has final. other final);
     }
 
-    over_aggregates : (n : ℕ) (d : Data) (rest : List Step) (owner : Data) (level : ℕ) → NodeAt n d rest owner level → op_of d ≡ op.Aggregate → OverHalf n d aggregates
-    over_aggregates n d rest owner level at is =
-        over_half n d rest owner level (aggregate_parts (step_of d)) aggregates at (aggregate_input (step_of d)) (ap (λ (w : OpWord). parts_of_node w d) is) (ap halved is)
-
-    over_top_ns : (n : ℕ) (d : Data) (rest : List Step) (owner : Data) (level : ℕ) → NodeAt n d rest owner level → op_of d ≡ op.TopN → OverHalf n d top_ns
-    over_top_ns n d rest owner level at is =
-        over_half n d rest owner level (topn_parts (step_of d)) top_ns at (topn_input (step_of d)) (ap (λ (w : OpWord). parts_of_node w d) is) (ap halved is)
-
-    over_limits : (n : ℕ) (d : Data) (rest : List Step) (owner : Data) (level : ℕ) → NodeAt n d rest owner level → op_of d ≡ op.Limit → OverHalf n d limits
-    over_limits n d rest owner level at is =
-        over_half n d rest owner level (limit_parts (step_of d)) limits at (limit_input (step_of d)) (ap (λ (w : OpWord). parts_of_node w d) is) (ap halved is)
+    over_steps : (n : ℕ) (d : Data) (rest : List Step) (owner : Data) (level : ℕ) → NodeAt n d rest owner level → (w : OpWord) → op_of d ≡ w → has_steps w ≡ true
+        → OverHalf n d (step_half w)
+    over_steps n d rest owner level at w is h =
+        over_half n d rest owner level (step_parts w (step_of d)) (step_half w) at (input_at w (step_of d)) (ap (λ (x : OpWord). parts_of_node x d) is ∙ parts_are w d h)
+        (ap halved is ∙ ap (λ (b : Bool). if b then Some (step_half w) else None) h)
 
     by_word : (n : ℕ) (d : Data) (rest : List Step) (owner : Data) (level : ℕ) → NodeAt n d rest owner level → (w : OpWord) → op_of d ≡ w
         → (has_steps w ≡ true → step_of d ≡ word.Partial → ⊥) → NodeMeets (node_by (node_at n document) document d w)
@@ -282,17 +240,8 @@ module _ (document : Data) (all : List Spot) (sound_all : Sound document all doc
           input_meets n d rest owner level parts 4 key.Left (under key.Left d) refl at own (join_left (has_entry key.Filters d)) other,
           input_meets n d rest owner level parts 5 key.Right (under key.Right d) refl at own (join_right (has_entry key.Filters d)) other,
         )
-    by_word n d rest owner level at op.Aggregate is whole =
-        let h = over_aggregates n d rest owner level at is in
-        over_aggregate (i + 1) later d (inner_node (node_at n document) (under key.Input d)) (step_of d) (whole refl) h.reads h.meets
     by_word n d rest owner level at op.Sort is whole =
         input_meets n d rest owner level table.sort 3 key.Input (under key.Input d) refl at (ap (λ (w : OpWord). parts_of_node w d) is) refl (no_steps d op.Sort is refl)
-    by_word n d rest owner level at op.TopN is whole =
-        let h = over_top_ns n d rest owner level at is in
-        over_top_n (i + 1) later d (inner_node (node_at n document) (under key.Input d)) (step_of d) (whole refl) h.reads h.meets
-    by_word n d rest owner level at op.Limit is whole =
-        let h = over_limits n d rest owner level at is in
-        over_limit (i + 1) later d (inner_node (node_at n document) (under key.Input d)) (step_of d) (whole refl) h.reads h.meets
     by_word n d rest owner level at op.Union is whole =
         let own = ap (λ (w : OpWord). parts_of_node w d) is in
         let other = no_steps d op.Union is refl in (
@@ -300,19 +249,20 @@ module _ (document : Data) (all : List Spot) (sound_all : Sound document all doc
           input_meets n d rest owner level table.union 3 key.Right (under key.Right d) refl at own refl other,
         )
     by_word n d rest owner level at op.Unknown is whole = tt
+    by_word n d rest owner level at w is whole =
+        let h = over_steps n d rest owner level at w is refl in
+        over_step (i + 1) later d (inner_node (node_at n document) (under key.Input d)) w (step_of d) (whole refl) h.reads h.meets
 
     root_by_word : (n : ℕ) (d : Data) (rest : List Step) (owner : Data) (level : ℕ) → NodeAt n d rest owner level → (w : OpWord) → op_of d ≡ w
         → RootMeets (i + 1) later (node_by (node_at n document) document d w)
-    root_by_word n d rest owner level at op.Aggregate is =
-        let h = over_aggregates n d rest owner level at is in
-        root_aggregate (i + 1) later d (inner_node (node_at n document) (under key.Input d)) (step_of d) h.reads h.meets
-    root_by_word n d rest owner level at op.TopN is =
-        let h = over_top_ns n d rest owner level at is in
-        root_top_n (i + 1) later d (inner_node (node_at n document) (under key.Input d)) (step_of d) h.reads h.meets
-    root_by_word n d rest owner level at op.Limit is =
-        let h = over_limits n d rest owner level at is in
-        root_limit (i + 1) later d (inner_node (node_at n document) (under key.Input d)) (step_of d) h.reads h.meets
-    root_by_word n d rest owner level at w is = by_word n d rest owner level at w is (λ has partial. absurd cc)
+    root_by_word n d rest owner level at w is = by (has_steps w) refl
+      where
+        by : (b : Bool) → has_steps w ≡ b → RootMeets (i + 1) later (node_by (node_at n document) document d w)
+        by true h =
+            let o = over_steps n d rest owner level at w is h in
+            subst (RootMeets (i + 1) later) (sym (node_is (node_at n document) document d w h))
+            (root_step (i + 1) later d (inner_node (node_at n document) (under key.Input d)) w (step_of d) o.reads o.meets)
+        by false h = meets_root (i + 1) later (node_by (node_at n document) document d w) (by_word n d rest owner level at w is (λ has partial. absurd cc))
 
     node_meets : (n : ℕ) (d : Data) (rest : List Step) (owner : Data) (level : ℕ) → level + n ≡ 33 → Sound document all d (inside rest) owner kind.Node level → 4 ≤ length (inside rest)
         → (Below (inside rest) → ⊥) → NodeMeets (node_at n document d)

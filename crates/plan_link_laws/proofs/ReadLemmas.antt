@@ -1,5 +1,5 @@
 -- The sources of a document are those of its fragments' nodes.
-use Rattle.std.proofs.Common.{◌≡◌, ℕ, ◌+◌, ◌<◌, ◌≤◌, suc, zero, List, [], ◌∷◌, ◌++◌, map, take, Bool, true, false, Option, Some, None, option_map, unwrap_or, refl, ap, sym, ◌∙◌, subst, arith, append_assoc}
+use Rattle.std.proofs.Common.{◌≡◌, ℕ, ◌+◌, ◌-◌, ◌<◌, ◌≤◌, suc, zero, List, [], ◌∷◌, ◌++◌, length, map, take, Bool, true, false, Option, Some, None, option_map, unwrap_or, refl, ap, sym, ◌∙◌, subst, arith, append_assoc}
 use Rattle.std.specs.Prelude.{slice_get, ◌==◌, if◌then◌else◌, option_and_then}
 use Rattle.std.specs.List.{find, flat_map, list_all, list_any}
 use Rattle.std.proofs.lemmas.Bool.{eqb-true, ltb-false}
@@ -17,7 +17,7 @@ use Rattle.plan_grammar.specs.declared.words.OpWord.{OpWord}
 use Rattle.plan_grammar.specs.declared.words.OpWord.TheVariants as op
 use Rattle.plan_grammar.specs.declared.words.StepWord.{StepWord}
 use Rattle.plan_grammar.specs.declared.words.StepWord.TheVariants as word
-use Rattle.plan_grammar.specs.Grammar.{aggregate_parts, join_parts, depth_of, limit_parts, parts_of_node, topn_parts}
+use Rattle.plan_grammar.specs.Grammar.{has_steps, join_parts, depth_of, parts_of_node}
 use Rattle.plan_grammar.specs.Json.{entries, entries_of, entries_under, has_entry, number_of, under}
 use Rattle.plan_grammar.specs.Spots.{Spot, inner_of, item_spots, part_spots, places_of, spot, spots}
 use Rattle.plan_grammar.specs.Tables.{part}
@@ -27,11 +27,12 @@ use Rattle.plan_grammar.proofs.WalkLemmas.{spots_are}
 use Rattle.plan_checks.specs.Fragments.{fragments_count, is_unread, reads}
 use Rattle.plan_docs.specs.Documents.{fragment_of}
 use Rattle.plan_docs.specs.Nodes.{NodeForm}
-use Rattle.plan_docs.specs.ReadNodes.{aggregate_of, inner_node, limit_of, node_at, node_by, node_form, top_n_of}
+use Rattle.plan_docs.specs.ReadNodes.{inner_node, node_at, node_by, node_form}
 use Rattle.plan_docs.specs.Words.{small_under}
 use Rattle.plan_spreads.specs.Reading.{reads_in, reads_of}
 use Rattle.plan_link_laws.proofs.CountLemmas.{found_append, found_in, found_none, none_below, one_if, plain_part}
 use Rattle.plan_spreads.proofs.EachLemmas.{none_passes}
+use Rattle.plan_link_laws.proofs.InputLemmas.{have_parts, parts_are, step_node, step_parts}
 use Rattle.plan_link_laws.proofs.PlaceLemmas.{PartAt, RootAt, Sound, entry_there, fragment_there, here, not_false, number_is, part_there, root_at, sound_under, source_at}
 use Rattle.plan_link_laws.proofs.SourceLemmas.{found_some}
 use Rattle.plan_link_laws.proofs.WalkLemmas.{no_array}
@@ -39,6 +40,12 @@ use Rattle.plan_link_laws.proofs.WalkLemmas.{no_array}
 one_same : (b : Bool) → one_if b ≡ (if b then 1 else 0)
 one_same true = refl
 one_same false = refl
+
+-- a node of an operator that has steps reads what its input reads
+step_reads : (n : ℕ) (w : OpWord) (s : StepWord) (d : Data) (input : NodeForm) → reads_of n (step_node w s d input) ≡ reads_of n input
+step_reads n op.Aggregate word.Final d input = refl
+step_reads n w word.Final d input = refl
+step_reads n w s d input = refl
 
 -- a list is no node
 list_unknown : (d : Data) (ds : Items) → as_array d ≡ Some ds → op_of d ≡ op.Unknown
@@ -143,23 +150,13 @@ module _ (n : ℕ) where
         let both = found_two (take 4 table.join) (part key.Left kind.Node) (part key.Right kind.Node) [] (part_spots here_spot) refl refl (none_under here_spot) in
         omega (arith, left, right, both)
 
-    found_aggregate : (s : StepWord) → parts_of_node (op_of d) d ≡ aggregate_parts s → inside (aggregate_parts s) ≡ reads_of n (aggregate_of s d (input key.Input))
-    found_aggregate word.Single own = one_input (take 5 table.aggregate) table.aggregate 5 key.Input refl refl own refl
-    found_aggregate word.Partial own = one_input (take 5 table.aggregate) table.aggregate 5 key.Input refl refl own refl
-    found_aggregate word.Final own = one_input (take 3 table.step_node) table.step_node 3 key.Input refl refl own refl
-    found_aggregate word.Unknown own = one_input (take 3 table.step_node) table.step_node 3 key.Input refl refl own refl
-
-    found_top_n : (s : StepWord) → parts_of_node (op_of d) d ≡ topn_parts s → inside (topn_parts s) ≡ reads_of n (top_n_of s d (input key.Input))
-    found_top_n word.Single own = one_input (take 5 table.topn) table.topn 5 key.Input refl refl own refl
-    found_top_n word.Partial own = one_input (take 5 table.topn) table.topn 5 key.Input refl refl own refl
-    found_top_n word.Final own = one_input (take 3 table.step_node) table.step_node 3 key.Input refl refl own refl
-    found_top_n word.Unknown own = one_input (take 3 table.step_node) table.step_node 3 key.Input refl refl own refl
-
-    found_limit : (s : StepWord) → parts_of_node (op_of d) d ≡ limit_parts s → inside (limit_parts s) ≡ reads_of n (limit_of s d (input key.Input))
-    found_limit word.Single own = one_input (take 4 table.limit) table.limit 4 key.Input refl refl own refl
-    found_limit word.Partial own = one_input (take 4 table.limit) table.limit 4 key.Input refl refl own refl
-    found_limit word.Final own = one_input (take 3 table.step_node) table.step_node 3 key.Input refl refl own refl
-    found_limit word.Unknown own = one_input (take 3 table.step_node) table.step_node 3 key.Input refl refl own refl
+    found_step : (w : OpWord) → op_of d ≡ w → has_steps w ≡ true → inside (step_parts w (step_of d)) ≡ reads_of n (step_node w (step_of d) d (input key.Input))
+    found_step w is h =
+        let s = step_of d in
+        let parts = step_parts w s in
+        let have = have_parts w s in
+        one_input (take (length parts - 1) parts) parts (length parts - 1) key.Input have.last have.plain (own_parts w is ∙ parts_are w d h) have.input
+        ∙ sym (step_reads n w s d (input key.Input))
 
     by_word : (w : OpWord) → op_of d ≡ w → inside (parts_of_node w d) ≡ reads_of n (node_by (node_at m document) document d w)
     by_word op.Scan is = found_none n table.scan (part_spots here_spot) refl (none_under here_spot)
@@ -168,16 +165,14 @@ module _ (n : ℕ) where
     by_word op.Filter is = one_input (take 3 table.filter) table.filter 3 key.Input refl refl (own_parts op.Filter is) refl
     by_word op.Project is = one_input (take 3 table.project) table.project 3 key.Input refl refl (own_parts op.Project is) refl
     by_word op.Join is = found_sides (has_entry key.Filters d) (own_parts op.Join is)
-    by_word op.Aggregate is = found_aggregate (step_of d) (own_parts op.Aggregate is)
     by_word op.Sort is = one_input (take 3 table.sort) table.sort 3 key.Input refl refl (own_parts op.Sort is) refl
-    by_word op.TopN is = found_top_n (step_of d) (own_parts op.TopN is)
-    by_word op.Limit is = found_limit (step_of d) (own_parts op.Limit is)
     by_word op.Union is =
         let left = found_input table.union 2 key.Left (own_parts op.Union is) refl in
         let right = found_input table.union 3 key.Right (own_parts op.Union is) refl in
         let both = found_two (take 2 table.union) (part key.Left kind.Node) (part key.Right kind.Node) [] (part_spots here_spot) refl refl (none_under here_spot) in
         omega (arith, left, right, both)
     by_word op.Unknown is = found_none n table.node (part_spots here_spot) refl (none_under here_spot)
+    by_word w is = found_step w is refl
 
     pub node_found : found_in n (spots d path owner kind.Node level) ≡ reads_of n (node_by (node_at m document) document d (op_of d))
     node_found =

@@ -13,28 +13,31 @@ use Rattle.plan_spreads.specs.Reading.{AllReadOn, EachSource, IsAmong}
 
 over_one : (id source : ℕ) (o : Output) (tasks : ℕ) (r : RunPlan) → whole_over id source (tree_of_run r) ≡ tree_of_run (one_over id source o tasks r)
 over_one id source o tasks (run.aggregate half keys calls input) = refl
+over_one id source o tasks (run.aggregate_parts half below p n keys calls input) = refl
 over_one id source o tasks r = refl
 
 whole_one : (id : ℕ) (r : RunPlan) → whole id (tree_of_run r) ≡ tree_of_run (one_with id r)
 whole_one id (run.remote source o tasks r) = over_one id source o tasks r
+whole_one id (run.filter half predicate input) = refl
+whole_one id (run.aggregate_parts half below p n keys calls input) = refl
 whole_one id r = refl
 
 module _ (reads : ℕ → TreeForm) (first : ℕ) (parts : List Part) (P : ℕ → Type 0)
     (same : (n : ℕ) → P n → reads n ≡ tree_of_run (part_read first parts n).root) where
-  node_runs : (node : NodeForm) → EachSource P node → node_tree reads node ≡ tree_of_run (node_run first parts node)
+  pub node_runs : (node : NodeForm) → EachSource P node → node_tree reads node ≡ tree_of_run (node_run first parts node)
   node_runs (scan id table columns types) each = refl
   node_runs (values id types rows) each = refl
   node_runs (remote id fragment) each = ap (tree.remote id) (same fragment each)
-  node_runs (filter id predicate input) each = ap (tree.filter id predicate) (node_runs input each)
-  node_runs (project id columns input) each = ap (tree.project id columns) (node_runs input each)
+  node_runs (filter id predicate input) each = cc (node_runs input each)
+  node_runs (project id columns input) each = cc (node_runs input each)
   node_runs (join id kind on filters left right) each =
       (λ i. tree.join id kind (map pair_view on) (node_runs left each.0 i) (node_runs right each.1 i))
-  node_runs (aggregate id step keys calls input) each = ap (tree.aggregate id keys calls) (node_runs input each)
+  node_runs (aggregate id step keys calls input) each = cc (node_runs input each)
   node_runs (aggregate_final id input) each = ap (whole id) (node_runs input each) ∙ whole_one id (node_run first parts input)
-  node_runs (sort id keys input) each = ap (tree.sort id keys) (node_runs input each)
-  node_runs (top_n id step count keys input) each = ap (tree.topn id count keys) (node_runs input each)
+  node_runs (sort id keys input) each = cc (node_runs input each)
+  node_runs (top_n id step count keys input) each = cc (node_runs input each)
   node_runs (top_n_final id input) each = ap (whole id) (node_runs input each) ∙ whole_one id (node_run first parts input)
-  node_runs (limit id step count input) each = ap (tree.limit id count) (node_runs input each)
+  node_runs (limit id step count input) each = cc (node_runs input each)
   node_runs (limit_final id input) each = ap (whole id) (node_runs input each) ∙ whole_one id (node_run first parts input)
   node_runs (union id left right) each = (λ i. tree.union id (node_runs left each.0 i) (node_runs right each.1 i))
 

@@ -1,5 +1,5 @@
 -- Every place of a document holds what its path leads to, and a step stands in a node.
-use Rattle.std.proofs.Common.{◌≡◌, ℕ, ◌+◌, suc, List, [], ◌∷◌, ◌++◌, Bool, true, false, Option, Some, None, Ordering, Less, Equal, Greater, refl, ap, subst, arith}
+use Rattle.std.proofs.Common.{◌≡◌, ℕ, ◌+◌, suc, List, [], ◌∷◌, ◌++◌, Bool, true, false, Option, Some, None, Ordering, Less, Equal, Greater, refl, ap, ◌∙◌, subst, arith}
 use Rattle.std.specs.Prelude.{slice_get, ◌&&◌, ◌||◌, ◌==◌, not, if◌then◌else◌, option_and_then}
 use Rattle.std.specs.Ordering.{nat_cmp, match_ordering}
 use Rattle.std.specs.Cmp.Lexicographic.{slice_cmp}
@@ -22,12 +22,13 @@ use Rattle.plan_grammar.specs.declared.words.OutputWord.{OutputWord}
 use Rattle.plan_grammar.specs.declared.words.OutputWord.TheVariants as output
 use Rattle.plan_grammar.specs.declared.words.StepWord.{StepWord}
 use Rattle.plan_grammar.specs.declared.words.StepWord.TheVariants as word
-use Rattle.plan_grammar.specs.Grammar.{aggregate_parts, call_parts, element_of, has_entries, join_parts, depth_of, limit_parts, output_parts, parts_of, parts_of_form, parts_of_node, topn_parts}
+use Rattle.plan_grammar.specs.Grammar.{call_parts, element_of, has_entries, has_steps, join_parts, depth_of, output_parts, parts_of, parts_of_form, parts_of_node}
 use Rattle.plan_grammar.specs.Json.{entries_in, entries_of, has_entry, under}
 use Rattle.plan_grammar.specs.Spots.{Spot, item_spots, member_spots, spot, spots}
 use Rattle.plan_grammar.specs.Words.{form_of, is_count_all, op_of, output_of, step_of}
 use Rattle.plan_checks.specs.Halves.{is_step_kind}
 use Rattle.plan_checks.specs.Limits.{is_node_kind}
+use Rattle.plan_link_laws.proofs.InputLemmas.{parts_are, step_parts}
 use Rattle.plan_spreads.proofs.EachLemmas.{Each, all_pass, each_again, each_join, each_left, each_right}
 
 -- where a path leads
@@ -66,27 +67,16 @@ join_fits : (b : Bool) → list_all (fits_step kind.Node) (join_parts b) ≡ tru
 join_fits true = refl
 join_fits false = refl
 
-aggregate_fits : (w : StepWord) → list_all (fits_step kind.Node) (aggregate_parts w) ≡ true
-aggregate_fits word.Single = refl
-aggregate_fits word.Partial = refl
-aggregate_fits w = refl
+step_fits : (w : OpWord) (s : StepWord) → list_all (fits_step kind.Node) (step_parts w s) ≡ true
+step_fits op.Aggregate word.Single = refl
+step_fits w word.Single = refl
+step_fits w word.Partial = refl
+step_fits w s = refl
 
-topn_fits : (w : StepWord) → list_all (fits_step kind.Node) (topn_parts w) ≡ true
-topn_fits word.Single = refl
-topn_fits word.Partial = refl
-topn_fits w = refl
-
-limit_fits : (w : StepWord) → list_all (fits_step kind.Node) (limit_parts w) ≡ true
-limit_fits word.Single = refl
-limit_fits word.Partial = refl
-limit_fits w = refl
-
-node_fits : (w : OpWord) (d : Data) → list_all (fits_step kind.Node) (parts_of_node w d) ≡ true
-node_fits op.Join d = join_fits (has_entry key.Filters d)
-node_fits op.Aggregate d = aggregate_fits (step_of d)
-node_fits op.TopN d = topn_fits (step_of d)
-node_fits op.Limit d = limit_fits (step_of d)
-node_fits w d = refl
+node_fits : (b : Bool) (w : OpWord) (d : Data) → has_steps w ≡ b → list_all (fits_step kind.Node) (parts_of_node w d) ≡ true
+node_fits true w d h = ap (list_all (fits_step kind.Node)) (parts_are w d h) ∙ step_fits w (step_of d)
+node_fits false op.Join d h = join_fits (has_entry key.Filters d)
+node_fits false w d h = cc
 
 form_fits : (k : Kind) (w : FormWord) → list_all (fits_step k) (parts_of_form w) ≡ true
 form_fits k form.Col = refl
@@ -102,7 +92,7 @@ call_fits false = refl
 
 tables_fit : (k : Kind) (d : Data) → list_all (fits_step k) (parts_of k d) ≡ true
 tables_fit kind.Output d = output_fits (output_of d)
-tables_fit kind.Node d = node_fits (op_of d) d
+tables_fit kind.Node d = node_fits (has_steps (op_of d)) (op_of d) d refl
 tables_fit kind.Expression d = form_fits kind.Expression (form_of d)
 tables_fit kind.Form d = form_fits kind.Form (form_of d)
 tables_fit kind.AggregateCall d = call_fits (is_count_all d)

@@ -14,7 +14,7 @@ use Rattle.plan_trees.specs.TreeForms.{TreeForm}
 use Rattle.column_origins.specs.declared.origin.Origin.{Origin}
 use Rattle.column_origins.specs.Origins.{origin_of}
 use Rattle.plan_docs.specs.declared.node.DynamicFilter.{DynamicFilter}
-use Rattle.plan_docs.specs.Nodes.{NodeForm, scan, values, remote, filter, project, join, aggregate, aggregate_final, sort, top_n, top_n_final, limit, limit_final, union}
+use Rattle.plan_docs.specs.Nodes.{NodeForm, scan, values, remote, step, filter, join, union}
 use Rattle.plan_docs.specs.Plans.{FragmentForm, PlanForm}
 use Rattle.plan_types.specs.Faults.{entry_fault}
 use Rattle.plan_types.specs.Plans.{root_path}
@@ -85,8 +85,7 @@ nodes : (reads : ℕ → TreeForm) (path : Path) (n : NodeForm) → node_fault r
 nodes reads path (scan id table columns types) h = tt
 nodes reads path (values id types rows) h = tt
 nodes reads path (remote id fragment) h = tt
-nodes reads path (filter id predicate input) h = nodes reads (under path key.Input) input h
-nodes reads path (project id columns input) h = nodes reads (under path key.Input) input h
+nodes reads path (step id operator input) h = nodes reads (under path key.Input) input h
 nodes reads path (join id kind on filters left right) h =
     let first = node_fault reads (under path key.Left) left in
     let second = node_fault reads (under path key.Right) right in
@@ -96,13 +95,6 @@ nodes reads path (join id kind on filters left right) h =
       nodes reads (under path key.Right) right (first_option second own later),
       joins path kind on (node_tree reads left) filters (second_option second own later),
     )
-nodes reads path (aggregate id step keys calls input) h = nodes reads (under path key.Input) input h
-nodes reads path (aggregate_final id input) h = nodes reads (under path key.Input) input h
-nodes reads path (sort id keys input) h = nodes reads (under path key.Input) input h
-nodes reads path (top_n id step count keys input) h = nodes reads (under path key.Input) input h
-nodes reads path (top_n_final id input) h = nodes reads (under path key.Input) input h
-nodes reads path (limit id step count input) h = nodes reads (under path key.Input) input h
-nodes reads path (limit_final id input) h = nodes reads (under path key.Input) input h
 nodes reads path (union id left right) h =
     let first = node_fault reads (under path key.Left) left in
     let second = node_fault reads (under path key.Right) right in

@@ -3,7 +3,7 @@
 use Rattle.std.proofs.Common.{◌≡◌, ℕ, zero, suc, ◌+◌, ◌-◌, ◌*◌, ◌<◌, ◌≤◌, List, [], ◌∷◌, length, map, get_or, Some, None, refl, ap, arith}
 use Rattle.std.specs.Prelude.{slice_get}
 use Rattle.plan_docs.specs.declared.plan.Fragment.{Fragment}
-use Rattle.plan_docs.specs.Nodes.{NodeForm, scan, values, remote, filter, project, join, aggregate, aggregate_final, sort, top_n, top_n_final, limit, limit_final, union, node_view}
+use Rattle.plan_docs.specs.Nodes.{NodeForm, scan, values, remote, step, join, union, node_view}
 use Rattle.plan_docs.specs.Plans.{FragmentForm, fragment_view}
 use Rattle.plan_reader.specs.Trees.{fragment_tree, node_tree, nothing, root_tree}
 
@@ -11,16 +11,8 @@ abbrev pub node_size : NodeForm → ℕ
 node_size (scan id table columns types) = 1
 node_size (values id types rows) = 1
 node_size (remote id fragment) = 1
-node_size (filter id predicate input) = 1 + node_size input
-node_size (project id columns input) = 1 + node_size input
+node_size (step id operator input) = 1 + node_size input
 node_size (join id kind on filters left right) = 1 + node_size left + node_size right
-node_size (aggregate id step keys calls input) = 1 + node_size input
-node_size (aggregate_final id input) = 1 + node_size input
-node_size (sort id keys input) = 1 + node_size input
-node_size (top_n id step count keys input) = 1 + node_size input
-node_size (top_n_final id input) = 1 + node_size input
-node_size (limit id step count input) = 1 + node_size input
-node_size (limit_final id input) = 1 + node_size input
 node_size (union id left right) = 1 + node_size left + node_size right
 
 abbrev pub all_size : List Fragment → ℕ

@@ -12,7 +12,7 @@ use Rattle.plan_trees.specs.TreeForms.{TreeForm}
 use Rattle.column_origins.specs.declared.origin.Origin.{Origin}
 use Rattle.column_origins.specs.Origins.{origin_of}
 use Rattle.plan_docs.specs.declared.node.DynamicFilter.{DynamicFilter}
-use Rattle.plan_docs.specs.Nodes.{NodeForm, scan, values, remote, filter, project, join, aggregate, aggregate_final, sort, top_n, top_n_final, limit, limit_final, union}
+use Rattle.plan_docs.specs.Nodes.{NodeForm, scan, values, remote, step, filter, join, union}
 use Rattle.plan_docs.specs.Plans.{FragmentForm, PlanForm}
 use Rattle.plan_types.specs.Faults.{entry_fault}
 use Rattle.plan_types.specs.Plans.{root_path}
@@ -39,19 +39,11 @@ abbrev pub node_fault : (ℕ → TreeForm) → Path → NodeForm → Option Path
 node_fault reads path (scan id table columns types) = None
 node_fault reads path (values id types rows) = None
 node_fault reads path (remote id fragment) = None
-node_fault reads path (filter id predicate input) = node_fault reads (under path key.Input) input
-node_fault reads path (project id columns input) = node_fault reads (under path key.Input) input
+node_fault reads path (step id operator input) = node_fault reads (under path key.Input) input
 node_fault reads path (join id kind on filters left right) =
     option_or (node_fault reads (under path key.Left) left)
     (option_or (node_fault reads (under path key.Right) right)
     (join_fault path kind on (node_tree reads left) filters))
-node_fault reads path (aggregate id step keys calls input) = node_fault reads (under path key.Input) input
-node_fault reads path (aggregate_final id input) = node_fault reads (under path key.Input) input
-node_fault reads path (sort id keys input) = node_fault reads (under path key.Input) input
-node_fault reads path (top_n id step count keys input) = node_fault reads (under path key.Input) input
-node_fault reads path (top_n_final id input) = node_fault reads (under path key.Input) input
-node_fault reads path (limit id step count input) = node_fault reads (under path key.Input) input
-node_fault reads path (limit_final id input) = node_fault reads (under path key.Input) input
 node_fault reads path (union id left right) =
     option_or (node_fault reads (under path key.Left) left) (node_fault reads (under path key.Right) right)
 

@@ -6,7 +6,7 @@ use Rattle.plan_trees.specs.declared.tree.Pair.{Pair}
 use Rattle.plan_trees.specs.TreeForms.{TreeForm}
 use Rattle.column_origins.specs.Origins.{origin_of}
 use Rattle.plan_docs.specs.declared.node.DynamicFilter.{DynamicFilter}
-use Rattle.plan_docs.specs.Nodes.{NodeForm, scan, values, remote, filter, project, join, aggregate, aggregate_final, sort, top_n, top_n_final, limit, limit_final, union}
+use Rattle.plan_docs.specs.Nodes.{NodeForm, scan, values, remote, step, filter, join, union}
 use Rattle.plan_docs.specs.Plans.{FragmentForm, PlanForm}
 use Rattle.plan_reader.specs.Filters.{trees_of}
 use Rattle.plan_reader.specs.Trees.{node_tree}
@@ -23,17 +23,9 @@ abbrev pub NodeReaches : (ℕ → TreeForm) → NodeForm → Type 0
 NodeReaches reads (scan id table columns types) = Unit {0}
 NodeReaches reads (values id types rows) = Unit {0}
 NodeReaches reads (remote id fragment) = Unit {0}
-NodeReaches reads (filter id predicate input) = NodeReaches reads input
-NodeReaches reads (project id columns input) = NodeReaches reads input
+NodeReaches reads (step id operator input) = NodeReaches reads input
 NodeReaches reads (join id kind on filters left right) =
     NodeReaches reads left × NodeReaches reads right × All (ReachesScan kind on (node_tree reads left)) filters
-NodeReaches reads (aggregate id step keys calls input) = NodeReaches reads input
-NodeReaches reads (aggregate_final id input) = NodeReaches reads input
-NodeReaches reads (sort id keys input) = NodeReaches reads input
-NodeReaches reads (top_n id step count keys input) = NodeReaches reads input
-NodeReaches reads (top_n_final id input) = NodeReaches reads input
-NodeReaches reads (limit id step count input) = NodeReaches reads input
-NodeReaches reads (limit_final id input) = NodeReaches reads input
 NodeReaches reads (union id left right) = NodeReaches reads left × NodeReaches reads right
 
 -- the filters of all fragments

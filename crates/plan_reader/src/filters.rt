@@ -87,15 +87,7 @@ fn pass_node(alloc: Global, all: &[Fragment], path: &[Step], node: &Node) -> Res
             let inner = then(alloc, path, Step::Key(Key::Right))?;
             pass_node(alloc, all, inner.as_slice(), right)
         }
-        Node::Filter { input, .. }
-        | Node::Project { input, .. }
-        | Node::Aggregate { input, .. }
-        | Node::AggregateFinal { input, .. }
-        | Node::Sort { input, .. }
-        | Node::TopN { input, .. }
-        | Node::TopNFinal { input, .. }
-        | Node::Limit { input, .. }
-        | Node::LimitFinal { input, .. } => {
+        Node::Step { input, .. } => {
             let inner = then(alloc, path, Step::Key(Key::Input))?;
             pass_node(alloc, all, inner.as_slice(), input)
         }

@@ -1,15 +1,16 @@
-ghost use Rattle.std.specs.Prelude.{◌≡◌, map, IfOk};
+ghost use Rattle.std.specs.Prelude.{◌≡◌, map, option_map, IfOk};
 ghost use Rattle.plan_docs.specs.Nodes.{node_view};
 ghost use Rattle.plan_docs.specs.Plans.{fragment_view, plan_view};
-ghost use Rattle.sql_exprs.specs.Forms.{form_view};
-ghost use Rattle.plan_trees.specs.TreeForms.{aggregate, filter, join, limit, pair_view, project, remote, scan, sort, topn, tree_view, union, values};
-ghost use Rattle.plan_reader.specs.Trees.{fragment_tree, node_tree, nothing, tree_of, whole, whole_over};
+ghost use Rattle.plan_docs.specs.Operators.{operator_view};
+ghost use Rattle.plan_trees.specs.Steps.{aggregate};
+ghost use Rattle.plan_trees.specs.TreeForms.{join, pair_view, remote, scan, step as step_node, step_view, tree_view, union, values};
+ghost use Rattle.plan_reader.specs.Trees.{fragment_tree, has_halves, node_tree, nothing, step_of, step_over, tree_of, whole, whole_over};
 
 use crate::copies::{copy_exprs, copy_items, copy_rows};
-use plan_docs::{Fragment, Node, Plan};
-use plan_trees::{Pair, Tree};
-use sql_exprs::{Expr, copy_expr};
-use sql_values::{Call, JoinKind, KeySpec, Memory, RowList, SqlType, Types};
+use plan_docs::{Fragment, Node, NodeOperator, Plan};
+use plan_trees::{Pair, Tree, TreeStep};
+use sql_exprs::copy_expr;
+use sql_values::{Call, JoinKind, Memory, RowList, SqlType, Types};
 use std::alloc::Global;
 
 /// What a plan means, as one tree.
@@ -86,17 +87,14 @@ pub fn node_tree(
             let read = fragment_tree(alloc, fragments, most, *fragment as usize)?;
             remote(alloc, *id, read)
         }
-        Node::Filter {
+        Node::Step {
             id,
-            predicate,
+            operator,
             input,
         } => {
-            let input = inner(alloc, fragments, most, input)?;
-            filter_tree(alloc, *id, predicate, input)
-        }
-        Node::Project { id, columns, input } => {
-            let input = inner(alloc, fragments, most, input)?;
-            project_tree(alloc, *id, columns.as_slice(), input)
+            let step = tree_step(alloc, operator)?;
+            let input = node_tree(alloc, fragments, most, input)?;
+            step_over(alloc, *id, step, input)
         }
         Node::Join {
             id,
@@ -109,51 +107,6 @@ pub fn node_tree(
             let left = inner(alloc, fragments, most, left)?;
             let right = inner(alloc, fragments, most, right)?;
             join_tree(alloc, *id, *kind, on.as_slice(), left, right)
-        }
-        Node::Aggregate {
-            id,
-            keys,
-            calls,
-            input,
-            ..
-        } => {
-            let input = inner(alloc, fragments, most, input)?;
-            aggregate_tree(alloc, *id, keys.as_slice(), calls.as_slice(), input)
-        }
-        Node::AggregateFinal { id, input } => {
-            let read = node_tree(alloc, fragments, most, input)?;
-            whole(alloc, *id, read)
-        }
-        Node::Sort { id, keys, input } => {
-            let input = inner(alloc, fragments, most, input)?;
-            sort_tree(alloc, *id, keys.as_slice(), input)
-        }
-        Node::TopN {
-            id,
-            count,
-            keys,
-            input,
-            ..
-        } => {
-            let input = inner(alloc, fragments, most, input)?;
-            topn_tree(alloc, *id, *count, keys.as_slice(), input)
-        }
-        Node::TopNFinal { id, input } => {
-            let read = node_tree(alloc, fragments, most, input)?;
-            whole(alloc, *id, read)
-        }
-        Node::Limit {
-            id,
-            count,
-            input,
-            ..
-        } => {
-            let input = inner(alloc, fragments, most, input)?;
-            Ok(limit_tree(*id, *count, input))
-        }
-        Node::LimitFinal { id, input } => {
-            let read = node_tree(alloc, fragments, most, input)?;
-            whole(alloc, *id, read)
         }
         Node::Union { id, left, right } => {
             let left = inner(alloc, fragments, most, left)?;
@@ -190,26 +143,6 @@ fn values_tree(alloc: Global, id: u32, types: &[SqlType], rows: &RowList) -> Res
     Ok(Tree::Values { id, types, rows })
 }
 
-fn filter_tree(alloc: Global, id: u32, predicate: &Expr, input: Box<Tree>) -> Result<Tree, Memory>
-    ensures { IfOk result
-        (λ t. tree_view t ≡ filter id (form_view predicate.now) (tree_view input.value)) }
-{
-    let predicate = copy_expr(alloc, predicate)?;
-    Ok(Tree::Filter {
-        id,
-        predicate,
-        input,
-    })
-}
-
-fn project_tree(alloc: Global, id: u32, columns: &[Expr], input: Box<Tree>) -> Result<Tree, Memory>
-    ensures { IfOk result
-        (λ t. tree_view t ≡ project id (map form_view columns.now) (tree_view input.value)) }
-{
-    let columns = copy_exprs(alloc, columns)?;
-    Ok(Tree::Project { id, columns, input })
-}
-
 fn join_tree(
     alloc: Global,
     id: u32,
@@ -231,55 +164,55 @@ fn join_tree(
     })
 }
 
-fn aggregate_tree(
-    alloc: Global,
-    id: u32,
-    keys: &[u32],
-    calls: &[Call],
-    input: Box<Tree>,
-) -> Result<Tree, Memory>
-    ensures { IfOk result
-        (λ t. tree_view t ≡ aggregate id keys.now calls.now (tree_view input.value)) }
+/// The step that an operator is, but for a FINAL one.
+fn tree_step(alloc: Global, operator: &NodeOperator) -> Result<Option<TreeStep>, Memory>
+    ensures { IfOk result (λ s. option_map step_view s ≡ step_of (operator_view operator.now)) }
+{
+    Ok(Some(match operator {
+        NodeOperator::Filter { predicate } => TreeStep::Filter {
+            predicate: copy_expr(alloc, predicate)?,
+        },
+        NodeOperator::Project { columns } => TreeStep::Project {
+            columns: copy_exprs(alloc, columns.as_slice())?,
+        },
+        NodeOperator::Aggregate { keys, calls, .. } => {
+            grouping(alloc, keys.as_slice(), calls.as_slice())?
+        }
+        NodeOperator::Sort { keys } => TreeStep::Sort {
+            keys: copy_items(alloc, keys.as_slice())?,
+        },
+        NodeOperator::TopN { count, keys, .. } => TreeStep::TopN {
+            count: *count,
+            keys: copy_items(alloc, keys.as_slice())?,
+        },
+        NodeOperator::Limit { count, .. } => TreeStep::Limit { count: *count },
+        NodeOperator::AggregateFinal | NodeOperator::TopNFinal | NodeOperator::LimitFinal => {
+            return Ok(None);
+        }
+    }))
+}
+
+fn grouping(alloc: Global, keys: &[u32], calls: &[Call]) -> Result<TreeStep, Memory>
+    ensures { IfOk result (λ s. step_view s ≡ aggregate keys.now calls.now) }
 {
     let keys = copy_items(alloc, keys)?;
     let calls = copy_items(alloc, calls)?;
-    Ok(Tree::Aggregate {
-        id,
-        keys,
-        calls,
-        input,
-    })
+    Ok(TreeStep::Aggregate { keys, calls })
 }
 
-fn sort_tree(alloc: Global, id: u32, keys: &[KeySpec], input: Box<Tree>) -> Result<Tree, Memory>
-    ensures { IfOk result (λ t. tree_view t ≡ sort id keys.now (tree_view input.value)) }
+/// The tree of a step over that of its input, or of a FINAL node over what it reads.
+fn step_over(alloc: Global, id: u32, step: Option<TreeStep>, input: Tree) -> Result<Tree, Memory>
+    ensures { IfOk result (λ t. tree_view t
+        ≡ step_over id (option_map step_view step) (tree_view input)) }
 {
-    let keys = copy_items(alloc, keys)?;
-    Ok(Tree::Sort { id, keys, input })
-}
-
-fn topn_tree(
-    alloc: Global,
-    id: u32,
-    count: u32,
-    keys: &[KeySpec],
-    input: Box<Tree>,
-) -> Result<Tree, Memory>
-    ensures { IfOk result (λ t. tree_view t ≡ topn id count keys.now (tree_view input.value)) }
-{
-    let keys = copy_items(alloc, keys)?;
-    Ok(Tree::TopN {
-        id,
-        count,
-        keys,
-        input,
-    })
-}
-
-fn limit_tree(id: u32, count: u32, input: Box<Tree>) -> Tree
-    ensures { tree_view result ≡ limit id count (tree_view input.value) }
-{
-    Tree::Limit { id, count, input }
+    match step {
+        Some(step) => Ok(Tree::Step {
+            id,
+            step,
+            input: Box::new(alloc, input)?,
+        }),
+        None => whole(alloc, id, input),
+    }
 }
 
 fn union_tree(id: u32, left: Box<Tree>, right: Box<Tree>) -> Tree
@@ -313,15 +246,46 @@ fn whole(alloc: Global, id: u32, read: Tree) -> Result<Tree, Memory>
         }
         Tree::Scan { .. } => Ok(read),
         Tree::Values { .. } => Ok(read),
-        Tree::Filter { .. } => Ok(read),
-        Tree::Project { .. } => Ok(read),
+        Tree::Step { .. } => Ok(read),
         Tree::Join { .. } => Ok(read),
-        Tree::Aggregate { .. } => Ok(read),
-        Tree::Sort { .. } => Ok(read),
-        Tree::TopN { .. } => Ok(read),
-        Tree::Limit { .. } => Ok(read),
         Tree::Union { .. } => Ok(read),
     }
+}
+
+fn has_halves(step: &TreeStep) -> bool
+    ensures { result ≡ has_halves (step_view step.now) }
+{
+    match step {
+        TreeStep::Aggregate { .. } | TreeStep::TopN { .. } | TreeStep::Limit { .. } => true,
+        TreeStep::Filter { .. } | TreeStep::Project { .. } | TreeStep::Sort { .. } => false,
+    }
+}
+
+/// The whole of a step of which one half may stand below a remote source.
+fn whole_step_over(
+    alloc: Global,
+    id: u32,
+    source: u32,
+    half: u32,
+    step: TreeStep,
+    input: Box<Tree>,
+) -> Result<Tree, Memory>
+    ensures { IfOk result (λ t. tree_view t ≡ whole_over id source
+        (step_node half (step_view step) (tree_view input.value))) }
+{
+    if has_halves(&step) {
+        let input = remote_box(alloc, source, input)?;
+        return Ok(Tree::Step { id, step, input });
+    }
+    remote(
+        alloc,
+        source,
+        Tree::Step {
+            id: half,
+            step,
+            input,
+        },
+    )
 }
 
 /// The whole of a node of which one half stands below a remote source.
@@ -329,40 +293,15 @@ fn whole_over(alloc: Global, id: u32, source: u32, half: Tree) -> Result<Tree, M
     ensures { IfOk result (λ t. tree_view t ≡ whole_over id source (tree_view half)) }
 {
     match half {
-        Tree::Aggregate {
-            keys,
-            calls,
+        Tree::Step {
+            id: half,
+            step,
             input,
-            ..
-        } => Ok(Tree::Aggregate {
-            id,
-            keys,
-            calls,
-            input: remote_box(alloc, source, input)?,
-        }),
-        Tree::TopN {
-            count,
-            keys,
-            input,
-            ..
-        } => Ok(Tree::TopN {
-            id,
-            count,
-            keys,
-            input: remote_box(alloc, source, input)?,
-        }),
-        Tree::Limit { count, input, .. } => Ok(Tree::Limit {
-            id,
-            count,
-            input: remote_box(alloc, source, input)?,
-        }),
+        } => whole_step_over(alloc, id, source, half, step, input),
         Tree::Scan { .. } => remote(alloc, source, half),
         Tree::Values { .. } => remote(alloc, source, half),
         Tree::Remote { .. } => remote(alloc, source, half),
-        Tree::Filter { .. } => remote(alloc, source, half),
-        Tree::Project { .. } => remote(alloc, source, half),
         Tree::Join { .. } => remote(alloc, source, half),
-        Tree::Sort { .. } => remote(alloc, source, half),
         Tree::Union { .. } => remote(alloc, source, half),
     }
 }

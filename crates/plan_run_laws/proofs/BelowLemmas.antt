@@ -6,7 +6,7 @@ use Rattle.sql_functions.specs.CallTypes.{type_at}
 use Rattle.sql_exprs.specs.Meaning.{kind_of}
 use Rattle.plan_trees.specs.Allowed.{width_of}
 use Rattle.plan_trees.specs.TreeTypes.{call_kind, types_of}
-use Rattle.plan_run_laws.specs.Placements.{Placed, scan_whole, scan_any, values_whole, values_every, remote_whole, remote_by, remote_every, filter_stays, project_whole, project_any, project_by, project_every, join_whole, join_right_every, join_by, aggregate_whole, aggregate_by, final_whole, final_by, sort_whole, topn_whole, topn_parts_whole, limit_whole, limit_parts_whole, union_whole, union_any, union_every, any_from_by}
+use Rattle.plan_run_laws.specs.Placements.{Placed, scan_whole, scan_any, values_whole, values_every, remote_whole, remote_by, remote_every, step_whole, halves_whole, filter_stays, project_any, project_by, project_every, join_whole, join_right_every, join_by, aggregate_by, final_by, union_whole, union_any, union_every, any_from_by}
 use Rattle.plan_run_laws.specs.RunPlans.{RunPlan, tree_of_run}
 use Rattle.plan_run_laws.specs.Spreads.{Spread, any, by, every, whole}
 
@@ -34,8 +34,9 @@ columns_below values_every = tt
 columns_below (remote_whole r d) = tt
 columns_below (remote_by below r d) = below
 columns_below (remote_every r d) = tt
+columns_below (step_whole d) = tt
+columns_below (halves_whole r d) = tt
 columns_below (filter_stays d) = columns_below d
-columns_below (project_whole d) = tt
 columns_below (project_any d) = tt
 columns_below (project_by {columns = columns} {input = input} {places = places} plain d) =
     below-more (length columns) (length (map (kind_of (types_of (tree_of_run input))) columns)) places
@@ -48,21 +49,14 @@ columns_below (join_right_every {left = left} {right = right} {s = s} d e) =
 columns_below (join_by {left = left} {right = right} pairs among d e) =
     below-more (width_of (tree_of_run left)) (length (types_of (tree_of_run left) ++ types_of (tree_of_run right))) (lefts pairs)
     (omega (arith, length-append (types_of (tree_of_run left)) (types_of (tree_of_run right)))) (columns_below d)
-columns_below (aggregate_whole d) = tt
 columns_below (aggregate_by {keys = keys} {places = places} {calls = calls} {input = input} some below d) =
     let types = types_of (tree_of_run input) in
     below-more (length keys) (length (map (type_at types) keys ++ map (call_kind types) calls)) places
     (omega (arith, length-append (map (type_at types) keys) (map (call_kind types) calls), length-map keys (type_at types))) below
-columns_below (final_whole r d) = tt
 columns_below (final_by {keys = keys} {columns = columns} {calls = calls} {input = input} some below r d) =
     let types = types_of (tree_of_run input) in
     below-more (length keys) (length (map (type_at types) keys ++ map (call_kind types) calls)) columns
     (omega (arith, length-append (map (type_at types) keys) (map (call_kind types) calls), length-map keys (type_at types))) below
-columns_below (sort_whole d) = tt
-columns_below (topn_whole d) = tt
-columns_below (topn_parts_whole r d) = tt
-columns_below (limit_whole d) = tt
-columns_below (limit_parts_whole r d) = tt
 columns_below (union_whole d e) = tt
 columns_below (union_any d e) = tt
 columns_below (union_every d e) = tt

@@ -12,15 +12,15 @@ use Rattle.plan_trees.specs.TreeForms.{TreeForm}
 use Rattle.plan_trees.specs.TreeForms as tree
 use Rattle.plan_trees.specs.TreeTypes.{types_of}
 use Rattle.plan_trees.specs.Widths.{FitsWidths}
-use Rattle.plan_run_laws.specs.Placements.{AreColumnsAt, IsRead, Placed, scan_whole, scan_any, values_whole, values_every, remote_whole, remote_by, remote_every, filter_stays, project_whole, project_any, project_by, project_every, join_whole, join_right_every, join_by, aggregate_whole, aggregate_by, final_whole, final_by, sort_whole, topn_whole, topn_parts_whole, limit_whole, limit_parts_whole, union_whole, union_any, union_every, any_from_by}
+use Rattle.plan_run_laws.specs.Placements.{AreColumnsAt, IsRead, Placed, scan_whole, scan_any, values_whole, values_every, remote_whole, remote_by, remote_every, step_whole, halves_whole, filter_stays, project_any, project_by, project_every, join_whole, join_right_every, join_by, aggregate_by, final_by, union_whole, union_any, union_every, any_from_by}
 use Rattle.plan_run_laws.specs.RunPlans.{RunPlan, tree_of_run}
 use Rattle.plan_run_laws.specs.Runs.{Ran}
 use Rattle.plan_run_laws.specs.Spreads.{Says, Spread, Together, any, by, every, whole}
 use Rattle.plan_run_laws.proofs.BelowLemmas.{SpreadBelow, columns_below}
 use Rattle.plan_run_laws.proofs.ColumnLemmas.{sits-filter_judge, sits-project_judge}
 use Rattle.plan_run_laws.proofs.EdgeSteps.{remote_by_step, remote_every_step, remote_whole_step, scan_any_step, scan_whole_step, values_every_step, values_whole_step}
-use Rattle.plan_run_laws.proofs.FirstSteps.{limit_parts_step, limit_step, sort_step, topn_parts_step, topn_step}
-use Rattle.plan_run_laws.proofs.GroupSteps.{aggregate_by_step, aggregate_whole_step, final_by_step, final_whole_step}
+use Rattle.plan_run_laws.proofs.GroupSteps.{aggregate_by_step, final_by_step}
+use Rattle.plan_run_laws.proofs.HalvesSteps.{halves_step}
 use Rattle.plan_run_laws.proofs.JoinSteps.{join_beside_step, join_by_step, join_whole_step}
 use Rattle.plan_run_laws.proofs.JudgeSteps.{judged_every_step, judged_together, judged_whole_step}
 use Rattle.plan_run_laws.proofs.ReadLemmas.{read}
@@ -55,9 +55,6 @@ module _ (mode : Mode) (tables : List (List (List Value))) where
 
   module _ (id : ℕ) (forms : List Form) (t : TreeForm) (n : ℕ) (ins out : TaskRows)
       (judged : (k : ℕ) → k < n → Judged mode (project_judge (types_of t) forms) (ins k) (out k)) where
-    project_whole_step : 0 < n → Says whole mode t tables n ins → Says whole mode (tree.project id forms t) tables n out
-    project_whole_step = judged_whole_step mode tables t (tree.project id forms t) (project_judge (types_of t) forms) (λ A rows h j. (A, h, j)) n ins out judged
-
     project_together : Together mode t tables n ins → Together mode (tree.project id forms t) tables n out
     project_together = judged_together mode tables t (tree.project id forms t) (project_judge (types_of t) forms) (λ A rows h j. (A, h, j)) n ins out judged
 
@@ -88,10 +85,12 @@ module _ (mode : Mode) (tables : List (List (List Value))) where
   composed {n = n} lt fits (remote_every {id = id} {m = m} {input = input} {s = s} r d) out (ins, below, passed) =
       remote_every_step mode tables id m (tree_of_run input) ins out
       (read mode (tree_of_run input) tables m s ins r (composed (some_tasks m s r) fits d ins below)) n passed
+  composed lt fits (step_whole d) out (ins, ran, gives) = (ins 0, composed lt fits d ins ran, gives 0 lt)
+  composed lt fits (halves_whole {id = id} {source = source} {m = m} {halved = h} {input = input} {s = s} r d) out (ins, parts, got, below, each, passed, makes) =
+      halves_step mode tables id source (tree_of_run input) h m ins parts got out
+      (read mode (tree_of_run input) tables m s ins r (composed (some_tasks m s r) fits d ins below)) each passed makes
   composed {n = n} lt fits (filter_stays {id = id} {predicate = predicate} {input = input} {s = s} d) out (ins, ran, judged) =
       filter_step id predicate (tree_of_run input) n s ins out lt (composed lt fits d ins ran) judged
-  composed lt fits (project_whole {id = id} {columns = columns} {input = input} d) out (ins, ran, judged) =
-      project_whole_step id columns (tree_of_run input) 1 ins out judged lt (composed lt fits d ins ran)
   composed {n = n} lt fits (project_any {id = id} {columns = columns} {input = input} d) out (ins, ran, judged) =
       project_together id columns (tree_of_run input) n ins out judged (composed lt fits d ins ran)
   composed {n = n} lt fits (project_by {id = id} {columns = columns} {input = input} {places = places} {taken = taken} plain d) out (ins, ran, judged) =
@@ -106,29 +105,12 @@ module _ (mode : Mode) (tables : List (List (List Value))) where
   composed {n = n} lt fits (join_by {id = id} {kind = kind} {on = on} {left = left} {right = right} pairs among d e) out (ls, rs, ran, also, joined) =
       join_by_step mode tables id kind on (tree_of_run left) (tree_of_run right) n ls rs out joined pairs among (columns_below d) fits.0
       (composed lt fits.0 d ls ran) (composed lt fits.1 e rs also)
-  composed lt fits (aggregate_whole {id = id} {keys = keys} {calls = calls} {input = input} d) out (ins, ran, taken) =
-      aggregate_whole_step mode tables id calls (tree_of_run input) ins out 1 keys taken lt (composed lt fits d ins ran)
   composed {n = n} lt fits (aggregate_by {id = id} {keys = keys} {places = places} {calls = calls} {input = input} some among d) out (ins, ran, taken) =
       aggregate_by_step mode tables id calls (tree_of_run input) ins out n keys places lt some among (composed lt fits d ins ran) taken
-  composed lt fits (final_whole {id = id} {source = source} {m = m} {keys = keys} {calls = calls} {input = input} {s = s} r d) out (ins, parts, got, below, each, passed, taken) =
-      final_whole_step mode tables id source m keys calls (tree_of_run input) ins parts got out
-      (read mode (tree_of_run input) tables m s ins r (composed (some_tasks m s r) fits d ins below)) each passed taken
   composed {n = n} lt fits (final_by {id = id} {source = source} {m = m} {keys = keys} {columns = columns} {calls = calls} {input = input} {s = s} some among r d) out
       (ins, parts, got, below, each, passed, taken) =
       final_by_step mode tables id source m keys calls (tree_of_run input) ins parts got out
       (read mode (tree_of_run input) tables m s ins r (composed (some_tasks m s r) fits d ins below)) each n columns lt some among passed taken
-  composed lt fits (sort_whole {id = id} {keys = keys} {input = input} d) out (ins, ran, sorted) =
-      sort_step mode tables id (tree_of_run input) ins out 1 keys lt (composed lt fits d ins ran) sorted
-  composed lt fits (topn_whole {id = id} {count = count} {keys = keys} {input = input} d) out (ins, ran, top) =
-      topn_step mode tables id (tree_of_run input) ins out 1 count keys lt (composed lt fits d ins ran) top
-  composed lt fits (topn_parts_whole {id = id} {source = source} {m = m} {count = count} {keys = keys} {input = input} {s = s} r d) out (ins, parts, got, below, each, passed, top) =
-      topn_parts_step mode tables id (tree_of_run input) ins out source m count parts got
-      (read mode (tree_of_run input) tables m s ins r (composed (some_tasks m s r) fits d ins below)) passed keys each top
-  composed lt fits (limit_whole {id = id} {count = count} {input = input} d) out (ins, ran, first) =
-      limit_step mode tables id (tree_of_run input) ins out 1 count lt (composed lt fits d ins ran) first
-  composed lt fits (limit_parts_whole {id = id} {source = source} {m = m} {count = count} {input = input} {s = s} r d) out (ins, parts, got, below, each, passed, first) =
-      limit_parts_step mode tables id (tree_of_run input) ins out source m count parts got
-      (read mode (tree_of_run input) tables m s ins r (composed (some_tasks m s r) fits d ins below)) passed each first
   composed lt fits (union_whole {id = id} {left = left} {right = right} d e) out (ls, rs, ran, also, put) =
       union_whole_step mode tables id (tree_of_run left) (tree_of_run right) 1 ls rs out put lt (composed lt fits.0 d ls ran) (composed lt fits.1 e rs also)
   composed {n = n} lt fits (union_any {id = id} {left = left} {right = right} d e) out (ls, rs, ran, also, put) =

@@ -11,8 +11,10 @@ use Rattle.bag_laws.specs.Weights.{SameWeights}
 use Rattle.bag_laws.proofs.BagLemmas.{same-append, same-exchange, same-filter, same-from_equal, same-refl, same-sym, same-trans}
 use Rattle.bag_laws.proofs.GatherLemmas.{gather-none, same-gather, same-gather_append}
 use Rattle.plan_trees.specs.Allowed.{skipping}
-use Rattle.plan_run_laws.specs.Nets.{AreFor, Pipe, StagesMake, Lanes, Stage, Went, WentInto, limit, partial, of_tasks, topn}
-use Rattle.plan_run_laws.specs.RunPlans.{Output, RunPlan, single, hashed, broadcast}
+use Rattle.plan_trees.specs.TreeTypes.{types_of}
+use Rattle.plan_run_laws.specs.Nets.{AreFor, Pipe, Lanes, Went, WentInto, of_tasks}
+use Rattle.plan_run_laws.specs.Stages.{Stage, StagesMake, first_half}
+use Rattle.plan_run_laws.specs.RunPlans.{Output, RunPlan, single, hashed, broadcast, tree_of_run}
 use Rattle.plan_run_laws.specs.RunPlans as plan
 use Rattle.plan_run_laws.specs.Runs.{EdgePassed, sent}
 use Rattle.plan_run_laws.specs.Stops.{AllSet, AreNoted, AreOpen, Flags, StoppedPipe, IsNoted, MayCome, Notes, PassedSoFar, Stops}
@@ -27,17 +29,17 @@ same-longer n w lanes more =
     same-trans (same-gather n (of_tasks w (longer lanes more)) (λ k. of_tasks w lanes k ++ of_tasks w more k) (λ k lt. same-gather_append w (lanes k) (more k)))
     (same-gather_append n (of_tasks w lanes) (of_tasks w more))
 
-same-sent : (output : Output) (n k : ℕ) {A B : List (List Value)} → SameWeights A B → SameWeights (sent output n k A) (sent output n k B)
+pub same-sent : (output : Output) (n k : ℕ) {A B : List (List Value)} → SameWeights A B → SameWeights (sent output n k A) (sent output n k B)
 same-sent single n k s = s
 same-sent (hashed columns) n k s = same-filter (λ row. key_bucket n columns row == k) s
 same-sent broadcast n k s = s
 
-sent-append : (output : Output) (n k : ℕ) (A B : List (List Value)) → sent output n k (A ++ B) ≡ sent output n k A ++ sent output n k B
+pub sent-append : (output : Output) (n k : ℕ) (A B : List (List Value)) → sent output n k (A ++ B) ≡ sent output n k A ++ sent output n k B
 sent-append single n k A B = refl
 sent-append (hashed columns) n k A B = filter-append (λ row. key_bucket n columns row == k) A B
 sent-append broadcast n k A B = refl
 
-sent-none : (output : Output) (n k : ℕ) (A : List (List Value)) → A ≡ [] → sent output n k A ≡ []
+pub sent-none : (output : Output) (n k : ℕ) (A : List (List Value)) → A ≡ [] → sent output n k A ≡ []
 sent-none single n k A e = e
 sent-none (hashed columns) n k A e = ap (filter (λ row. key_bucket n columns row == k)) e
 sent-none broadcast n k A e = e
@@ -48,6 +50,49 @@ pub record Rest (last : List Stage) (n w : ℕ) (node : RunPlan) (builds : List 
   pub chains : (k d : ℕ) → k < n → d < w
       → (stages : List Stage) × AreFor node builds k stages × StagesMake skipping (stages ++ last) (took k d) (gave k d ++ rest k d)
   pub none : (k d : ℕ) → k < n → d < w → MayCome (done k d) (rest k d)
+
+-- where all that are done give no more, nothing more is there
+rest_nothing : (n w : ℕ) (done : Flags) (rest : Lanes) → ((k d : ℕ) → k < n → d < w → MayCome (done k d) (rest k d)) → AllSet n w done → gather n (of_tasks w rest) ≡ []
+rest_nothing n w done rest none all =
+    gather-none n (of_tasks w rest) (λ k lt. gather-none w (rest k) (λ d less. none k d lt less (all k d lt less)))
+
+pub task_nothing : (w k : ℕ) (done : Flags) (rest : Lanes) → ((d : ℕ) → d < w → MayCome (done k d) (rest k d)) → ((d : ℕ) → d < w → done k d ≡ true) → of_tasks w rest k ≡ []
+task_nothing w k done rest none all = gather-none w (rest k) (λ d less. none d less (all d less))
+
+-- over an edge: what the givers still give reaches drivers that have not ended
+pub passed_on : (output : Output) (m n : ℕ) (g : StoppedPipe) (w : ℕ) (took : Lanes) (ended : Flags) → PassedSoFar output m n g w took ended
+    → (rest : Lanes) → ((k d : ℕ) → k < m → d < g.drivers → MayCome (g.done k d) (rest k d))
+    → Fed n w took ended (λ k. sent output n k (gather m (of_tasks g.drivers g.gave))) (λ k. sent output n k (gather m (of_tasks g.drivers rest)))
+passed_on output m n g w took ended passed rest none =
+    fed n w took ended (λ k. sent output n k (gather m (of_tasks g.drivers g.gave))) (λ k. sent output n k (gather m (of_tasks g.drivers rest)))
+    (λ k. AllSet m g.drivers g.done) passed
+    (λ k lt all. sent-none output n k (gather m (of_tasks g.drivers rest)) (rest_nothing m g.drivers g.done rest none all))
+
+pub all_passed : (output : Output) (m n : ℕ) (g : StoppedPipe) (w : ℕ) (took : Lanes) (ended : Flags) (rest : Lanes)
+    (f : Fed n w took ended (λ k. sent output n k (gather m (of_tasks g.drivers g.gave))) (λ k. sent output n k (gather m (of_tasks g.drivers rest))))
+    → EdgePassed output m n (of_tasks g.drivers (longer g.gave rest)) (of_tasks w (longer took f.more))
+all_passed output m n g w took ended rest f k lt =
+    same-trans (same-sent output n k (same-longer m g.drivers g.gave rest))
+    (same-trans (same-from_equal (sent-append output n k (gather m (of_tasks g.drivers g.gave)) (gather m (of_tasks g.drivers rest)))) (f.same k lt))
+
+-- a build that a note knows is whole
+pub noted_build : (w k : ℕ) (gave rest : Lanes) (done : Flags) (known : Option (List (List Value)))
+    → ((built : List (List Value)) → known ≡ Some built → ((e : ℕ) → e < w → done k e ≡ true) × SameWeights (of_tasks w gave k) built)
+    → ((e : ℕ) → e < w → MayCome (done k e) (rest k e)) → IsNoted known (of_tasks w (longer gave rest) k)
+noted_build w k gave rest done None knows none = tt
+noted_build w k gave rest done (Some built) knows none =
+    let h = knows built refl in
+    same-trans (same-gather_append w (gave k) (rest k))
+    (same-trans (same-from_equal (ap (λ rows. of_tasks w gave k ++ rows) (task_nothing w k done rest none h.0) ∙ append-nil (of_tasks w gave k))) h.1)
+
+-- where there are no notes, no build is known
+pub none_noted : (notes : Notes) → notes ≡ [] → (k d : ℕ) → AreNoted notes [] k d
+none_noted notes e k d = subst (λ ns. AreNoted ns [] k d) (sym e) tt
+
+-- a pipeline that others take from, gone on to its end
+
+abbrev pub pipe_of : StoppedPipe → List TaskRows → Lanes → Lanes → Pipe
+pipe_of g builds more rest = record { drivers = g.drivers; builds = builds; took = longer g.took more; gave = longer g.gave rest }
 
 module _ (tables : List (List (List Value))) where
   pub rest_of : (last : List Stage) (n w : ℕ) (node : RunPlan) (notes : Notes) (took gave : Lanes) (ended done : Flags)
@@ -68,52 +113,11 @@ module _ (tables : List (List (List Value))) where
       let c = r.chains k d lt less in
       (c.0, c.1, subst (λ stages. StagesMake skipping stages (took k d) (gave k d ++ r.rest k d)) (append-nil c.0) c.2)
 
-  rest_into : (stage : Stage) (n w : ℕ) (node : RunPlan) (builds : List TaskRows) (took gave : Lanes) (done : Flags) (r : Rest (stage ∷ []) n w node builds took gave done)
+  pub rest_into : (stage : Stage) (n w : ℕ) (node : RunPlan) (builds : List TaskRows) (took gave : Lanes) (done : Flags) (r : Rest (stage ∷ []) n w node builds took gave done)
       → WentInto stage skipping n w node builds took (longer gave r.rest)
   rest_into stage n w node builds took gave done r =
       into_last skipping tables n w node builds stage took (longer gave r.rest)
       (λ k d lt less. let c = r.chains k d lt less in (c.0 ++ stage ∷ [], (c.0, refl, c.1), c.2))
-
-  -- where all that are done give no more, nothing more is there
-  rest_nothing : (n w : ℕ) (done : Flags) (rest : Lanes) → ((k d : ℕ) → k < n → d < w → MayCome (done k d) (rest k d)) → AllSet n w done → gather n (of_tasks w rest) ≡ []
-  rest_nothing n w done rest none all =
-      gather-none n (of_tasks w rest) (λ k lt. gather-none w (rest k) (λ d less. none k d lt less (all k d lt less)))
-
-  task_nothing : (w k : ℕ) (done : Flags) (rest : Lanes) → ((d : ℕ) → d < w → MayCome (done k d) (rest k d)) → ((d : ℕ) → d < w → done k d ≡ true) → of_tasks w rest k ≡ []
-  task_nothing w k done rest none all = gather-none w (rest k) (λ d less. none d less (all d less))
-
-  -- over an edge: what the givers still give reaches drivers that have not ended
-  passed_on : (output : Output) (m n : ℕ) (g : StoppedPipe) (w : ℕ) (took : Lanes) (ended : Flags) → PassedSoFar output m n g w took ended
-      → (rest : Lanes) → ((k d : ℕ) → k < m → d < g.drivers → MayCome (g.done k d) (rest k d))
-      → Fed n w took ended (λ k. sent output n k (gather m (of_tasks g.drivers g.gave))) (λ k. sent output n k (gather m (of_tasks g.drivers rest)))
-  passed_on output m n g w took ended passed rest none =
-      fed n w took ended (λ k. sent output n k (gather m (of_tasks g.drivers g.gave))) (λ k. sent output n k (gather m (of_tasks g.drivers rest)))
-      (λ k. AllSet m g.drivers g.done) passed
-      (λ k lt all. sent-none output n k (gather m (of_tasks g.drivers rest)) (rest_nothing m g.drivers g.done rest none all))
-
-  all_passed : (output : Output) (m n : ℕ) (g : StoppedPipe) (w : ℕ) (took : Lanes) (ended : Flags) (rest : Lanes)
-      (f : Fed n w took ended (λ k. sent output n k (gather m (of_tasks g.drivers g.gave))) (λ k. sent output n k (gather m (of_tasks g.drivers rest))))
-      → EdgePassed output m n (of_tasks g.drivers (longer g.gave rest)) (of_tasks w (longer took f.more))
-  all_passed output m n g w took ended rest f k lt =
-      same-trans (same-sent output n k (same-longer m g.drivers g.gave rest))
-      (same-trans (same-from_equal (sent-append output n k (gather m (of_tasks g.drivers g.gave)) (gather m (of_tasks g.drivers rest)))) (f.same k lt))
-
-  -- a build that a note knows is whole
-  noted_build : (w k : ℕ) (gave rest : Lanes) (done : Flags) (known : Option (List (List Value)))
-      → ((built : List (List Value)) → known ≡ Some built → ((e : ℕ) → e < w → done k e ≡ true) × SameWeights (of_tasks w gave k) built)
-      → ((e : ℕ) → e < w → MayCome (done k e) (rest k e)) → IsNoted known (of_tasks w (longer gave rest) k)
-  noted_build w k gave rest done None knows none = tt
-  noted_build w k gave rest done (Some built) knows none =
-      let h = knows built refl in
-      same-trans (same-gather_append w (gave k) (rest k))
-      (same-trans (same-from_equal (ap (λ rows. of_tasks w gave k ++ rows) (task_nothing w k done rest none h.0) ∙ append-nil (of_tasks w gave k))) h.1)
-
-  -- where there are no notes, no build is known
-  none_noted : (notes : Notes) → notes ≡ [] → (k d : ℕ) → AreNoted notes [] k d
-  none_noted notes e k d = subst (λ ns. AreNoted ns [] k d) (sym e) tt  -- a pipeline that others take from, gone on to its end
-
-  abbrev pipe_of : StoppedPipe → List TaskRows → Lanes → Lanes → Pipe
-  pipe_of g builds more rest = record { drivers = g.drivers; builds = builds; took = longer g.took more; gave = longer g.gave rest }
 
   -- an edge below a node with no joins, extended
   record Edge (output : Output) (m n w : ℕ) (input : RunPlan) (g : StoppedPipe) (took : Lanes) (ended : Flags) (last : List Stage) : Type 0 where
@@ -160,12 +164,25 @@ module _ (tables : List (List (List Value))) where
         noted = λ k d lt less. none_noted notes no_notes k d;
         none = e.fed.none;
       }
-  extend n w (plan.filter id predicate input) notes took ended stops =
+  extend n w (plan.step id s input) notes took ended (some, stops) =
       let whole = extend n w input notes took ended stops in
-      record { more = whole.more; builds = whole.builds; below = whole.below; noted = whole.noted; none = whole.none }
-  extend n w (plan.project id columns input) notes took ended stops =
-      let whole = extend n w input notes took ended stops in
-      record { more = whole.more; builds = whole.builds; below = whole.below; noted = whole.noted; none = whole.none }
+      record { more = whole.more; builds = whole.builds; below = (some, whole.below); noted = whole.noted; none = whole.none }
+  extend n w (plan.halves id source output m h input) notes took ended (g, no_notes, one, stops, opened, passed) =
+      let half = first_half (types_of (tree_of_run input)) h in
+      let e = edge output m n w input g took ended (half ∷ []) (extend m g.drivers input g.notes g.took g.ended stops) opened passed in
+      record {
+        more = e.fed.more;
+        builds = [];
+        below = (
+          pipe_of g e.whole.builds e.whole.more e.given.rest,
+          one,
+          e.whole.below,
+          rest_into half m g.drivers input e.whole.builds (longer g.took e.whole.more) g.gave g.done e.given,
+          all_passed output m n g w took ended e.given.rest e.fed,
+        );
+        noted = λ k d lt less. none_noted notes no_notes k d;
+        none = e.fed.none;
+      }
   extend n w (plan.join id kind on left right) [] took ended none = absurd none
   extend n w (plan.join id kind on left right) (note ∷ notes) took ended (g, stops, opened, knows, below) =
       let built = extend n g.drivers right g.notes g.took g.ended stops in
@@ -183,63 +200,6 @@ module _ (tables : List (List (List Value))) where
         );
         noted = λ k d lt less. (noted_build g.drivers k g.gave given.rest g.done (note k d) (knows k d lt less) (λ e under. given.none k e lt under), whole.noted k d lt less);
         none = whole.none;
-      }
-  extend n w (plan.aggregate id keys calls input) notes took ended (one, stops) =
-      let whole = extend n w input notes took ended stops in
-      record { more = whole.more; builds = whole.builds; below = (one, whole.below); noted = whole.noted; none = whole.none }
-  extend n w (plan.aggregate_parts id source output m keys calls input) notes took ended (g, no_notes, one, stops, opened, passed) =
-      let e = edge output m n w input g took ended (partial keys calls ∷ []) (extend m g.drivers input g.notes g.took g.ended stops) opened passed in
-      record {
-        more = e.fed.more;
-        builds = [];
-        below = (
-          pipe_of g e.whole.builds e.whole.more e.given.rest,
-          one,
-          e.whole.below,
-          rest_into (partial keys calls) m g.drivers input e.whole.builds (longer g.took e.whole.more) g.gave g.done e.given,
-          all_passed output m n g w took ended e.given.rest e.fed,
-        );
-        noted = λ k d lt less. none_noted notes no_notes k d;
-        none = e.fed.none;
-      }
-  extend n w (plan.sort id keys input) notes took ended (one, stops) =
-      let whole = extend n w input notes took ended stops in
-      record { more = whole.more; builds = whole.builds; below = (one, whole.below); noted = whole.noted; none = whole.none }
-  extend n w (plan.topn id count keys input) notes took ended (one, stops) =
-      let whole = extend n w input notes took ended stops in
-      record { more = whole.more; builds = whole.builds; below = (one, whole.below); noted = whole.noted; none = whole.none }
-  extend n w (plan.topn_parts id source output m count keys input) notes took ended (g, no_notes, one, stops, opened, passed) =
-      let e = edge output m n w input g took ended (topn count keys ∷ []) (extend m g.drivers input g.notes g.took g.ended stops) opened passed in
-      record {
-        more = e.fed.more;
-        builds = [];
-        below = (
-          pipe_of g e.whole.builds e.whole.more e.given.rest,
-          one,
-          e.whole.below,
-          rest_into (topn count keys) m g.drivers input e.whole.builds (longer g.took e.whole.more) g.gave g.done e.given,
-          all_passed output m n g w took ended e.given.rest e.fed,
-        );
-        noted = λ k d lt less. none_noted notes no_notes k d;
-        none = e.fed.none;
-      }
-  extend n w (plan.limit id count input) notes took ended (one, stops) =
-      let whole = extend n w input notes took ended stops in
-      record { more = whole.more; builds = whole.builds; below = (one, whole.below); noted = whole.noted; none = whole.none }
-  extend n w (plan.limit_parts id source output m count input) notes took ended (g, no_notes, one, stops, opened, passed) =
-      let e = edge output m n w input g took ended (limit count ∷ []) (extend m g.drivers input g.notes g.took g.ended stops) opened passed in
-      record {
-        more = e.fed.more;
-        builds = [];
-        below = (
-          pipe_of g e.whole.builds e.whole.more e.given.rest,
-          one,
-          e.whole.below,
-          rest_into (limit count) m g.drivers input e.whole.builds (longer g.took e.whole.more) g.gave g.done e.given,
-          all_passed output m n g w took ended e.given.rest e.fed,
-        );
-        noted = λ k d lt less. none_noted notes no_notes k d;
-        none = e.fed.none;
       }
   extend n w (plan.union id left right) notes took ended (g, h, no_notes, stops, opened, also, opened_too, passed) =
       let first = extend n g.drivers left g.notes g.took g.ended stops in

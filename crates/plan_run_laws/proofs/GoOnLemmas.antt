@@ -1,6 +1,6 @@
 -- How `StagesCanGoOn` comes stage by stage: from what each stage took, what it gave of that, and whether its
 -- giver, and the stage behind it, were told to finish.
-use Rattle.std.proofs.Common.{◌≡◌, ℕ, List, [], ◌∷◌, ◌++◌, Bool, true, false, refl, ap, sym, ◌∙◌, subst, append_assoc, take}
+use Rattle.std.proofs.Common.{◌≡◌, ℕ, List, [], ◌∷◌, ◌++◌, Bool, true, false, refl, ap, sym, ◌∙◌, subst, append_assoc}
 use Rattle.std.specs.Prelude.{flat_map}
 use Rattle.std.proofs.lemmas.Bool.{true≢false}
 use Rattle.std.proofs.lemmas.Grind.{flat_map-append}
@@ -10,18 +10,17 @@ use Rattle.sql_values.specs.declared.types.SqlType.{SqlType}
 use Rattle.sql_values.specs.declared.value.Value.{Value}
 use Rattle.sql_values.specs.declared.relational.JoinKind.{JoinKind}
 use Rattle.sql_exprs.specs.Forms.{Form}
-use Rattle.relation_laws.specs.Groups.{groups_of}
 use Rattle.relation_laws.specs.Joins.{join_of}
 use Rattle.relation_laws.specs.Sorts.{IsBeginning}
 use Rattle.relation_laws.specs.Verdicts.{Verdict, kept, kept_rows}
-use Rattle.relation_laws.proofs.SortLemmas.{is_sort, sorted_rows}
 use Rattle.bag_laws.specs.Pieces.{finals_of, partials_of}
 use Rattle.bag_laws.specs.Weights.{SameWeights}
 use Rattle.bag_laws.proofs.BagLemmas.{same-append, same-from_equal, same-refl, same-trans}
 use Rattle.bag_laws.proofs.JoinLemmas.{join-append_left}
 use Rattle.plan_trees.specs.Allowed.{skipping}
 use Rattle.plan_trees.specs.Judges.{filter_judge, project_judge}
-use Rattle.plan_run_laws.specs.Nets.{StagesMake, Makes, Stage, filter, final, grouping, limit, partial, probe, project, sort, topn}
+use Rattle.plan_trees.proofs.StepLemmas.{some_step}
+use Rattle.plan_run_laws.specs.Stages.{Makes, Stage, StagesMake, does, filter, final, partial, probe, project}
 use Rattle.plan_run_laws.specs.Stops.{StagesCanGoOn, StageGoesOn, MayCome}
 
 nothing_behind : (rows rest : List (List Value)) → rows ++ rest ≡ rows → rest ≡ []
@@ -80,10 +79,6 @@ pub goes_on-project : (types : List SqlType) (columns : List Form) (took gave : 
 goes_on-project types columns =
     goes_on-made (project types columns) (kept_rows (project_judge types columns)) (λ rows. record { calm = tt; are_kept = refl })
 
-pub goes_on-limit : (count : ℕ) (took gave : List (List Value)) (ended done : Bool)
-    → BeginsWith (take count) took gave ended done → StagesCanGoOn (limit count ∷ []) took gave ended done
-goes_on-limit count = goes_on-made (limit count) (take count) (λ rows. refl)
-
 -- one operator that filters and projects
 pub goes_on-filter_project : (types others : List SqlType) (predicate : Form) (columns : List Form) (took gave : List (List Value)) (ended done : Bool)
     → BeginsWith (λ rows. kept_rows (project_judge others columns) (kept_rows (filter_judge types predicate) rows)) took gave ended done
@@ -138,19 +133,12 @@ goes_on-probe kind on l r built took gave left ended done some over =
 
 -- each stage makes something of any rows
 pub makes_some : (stage : Stage) (rows : List (List Value)) → (given : List (List Value)) × Makes skipping stage rows given
-makes_some (filter types predicate) rows = (kept_rows (filter_judge types predicate) rows, record { calm = tt; are_kept = refl })
-makes_some (project types columns) rows = (kept_rows (project_judge types columns) rows, record { calm = tt; are_kept = refl })
+makes_some (does types s) rows = some_step types s rows
 makes_some (probe kind on l r built) rows = (join_of kind on l r rows built, same-refl (join_of kind on l r rows built))
-makes_some (grouping types keys calls) rows =
-    let given = flat_map kept (groups_of types keys calls rows) in
-    (given, record { calm = tt; are_kept = IsPermutation-refl given })
 makes_some (partial keys calls) rows = (partials_of keys calls rows, same-refl (partials_of keys calls rows))
 makes_some (final types width calls) rows =
     let given = flat_map kept (finals_of types width calls rows) in
     (given, record { calm = tt; are_kept = IsPermutation-refl given })
-makes_some (sort keys) rows = (sorted_rows keys rows, is_sort keys rows)
-makes_some (topn count keys) rows = (take count (sorted_rows keys rows), record { order = sorted_rows keys rows; sorted = is_sort keys rows; is = refl })
-makes_some (limit count) rows = (take count rows, refl)
 
 -- a stage that gave nothing so far, as one that waits for all of its rows
 pub goes_on-waits : (stage : Stage) (took : List (List Value)) (ended : Bool) → StagesCanGoOn (stage ∷ []) took [] ended false

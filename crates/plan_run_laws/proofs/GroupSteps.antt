@@ -13,23 +13,24 @@ use Rattle.bag_laws.specs.Gather.{gather}
 use Rattle.bag_laws.specs.Laws.{TaskRows}
 use Rattle.bag_laws.specs.Pieces.{finals_of, partials_of}
 use Rattle.bag_laws.specs.Weights.{SameWeights}
-use Rattle.bag_laws.proofs.BagLemmas.{same-sym, same-trans, same_from_bag}
+use Rattle.bag_laws.proofs.BagLemmas.{same-refl, same-trans, same_from_bag}
 use Rattle.bag_laws.proofs.BucketLemmas.{sits-filter, sits-same, sits-weaker}
 use Rattle.bag_laws.proofs.GatherLemmas.{same-gather}
 use Rattle.bag_laws.proofs.GroupLemmas.{same-groups_of}
 use Rattle.bag_laws.proofs.LawLemmas.{finals-by_columns, groups-by_columns}
-use Rattle.bag_laws.proofs.PieceLemmas.{same-finals_of, same-merged_pieces, wide}
+use Rattle.bag_laws.proofs.PieceLemmas.{same-finals_of, wide}
 use Rattle.bag_laws.proofs.SpreadLemmas.{partials_of-width, reaches, sit-finals_of, sit-groups_of}
 use Rattle.plan_trees.specs.TreeForms.{TreeForm, aggregate, remote}
 use Rattle.plan_trees.specs.TreeTypes.{types_of}
 use Rattle.plan_trees.specs.Allowed.{Mode, Taken}
-use Rattle.plan_run_laws.specs.RunPlans.{hashed, single}
+use Rattle.plan_run_laws.specs.RunPlans.{hashed}
 use Rattle.plan_run_laws.specs.Runs.{AllInPieces, ArePartialsOf, InPieces, EdgePassed}
-use Rattle.plan_run_laws.specs.Spreads.{Says, Together, by, whole}
-use Rattle.plan_run_laws.proofs.CalmLemmas.{calm-taken, same-taken, taken-same}
+use Rattle.plan_run_laws.specs.Spreads.{Says, Together, by}
+use Rattle.plan_run_laws.proofs.CalmLemmas.{calm-taken, same-taken}
 use Rattle.plan_run_laws.proofs.EdgeSteps.{same-passed, sit-passed}
 use Rattle.plan_run_laws.proofs.PieceLemmas.{pieces-gather}
 use Rattle.plan_run_laws.proofs.ReadLemmas.{given_remote, sits-gather}
+use Rattle.plan_run_laws.proofs.StepTables.{merged_groups, pieces-same}
 
 module _ (mode : Mode) (tables : List (List (List Value))) (id : ℕ) (calls : List Call) (t : TreeForm) (ins out : TaskRows) where
   -- the rows that the groups of all tasks give
@@ -50,10 +51,6 @@ module _ (mode : Mode) (tables : List (List (List Value))) (id : ℕ) (calls : L
   sit_taken n columns verdicts taken sits k lt =
       sits-same (λ row. key_bucket n columns row == k) (same_from_bag (flat_map kept (verdicts k)) (out k) ((taken k lt).are_kept)) (sits k lt)
 
-  module _ (n : ℕ) (keys : List ℕ) (taken : (k : ℕ) → k < n → Taken mode (groups_of (types_of t) keys calls (ins k)) (out k)) where
-    pub aggregate_whole_step : 0 < n → Says whole mode t tables n ins → Says whole mode (aggregate id keys calls t) tables n out
-    aggregate_whole_step lt says = (ins 0, says, taken 0 lt)
-
   sit_groups : (n : ℕ) (keys places : List ℕ) → 0 < length keys → AllBelow (length keys) places
       → SitByBucket (key_bucket n (at_places keys places)) n ins
       → SitByBucket (key_bucket n places) n (λ k. flat_map kept (groups_of (types_of t) keys calls (ins k)))
@@ -71,37 +68,11 @@ module _ (mode : Mode) (tables : List (List (List Value))) (id : ℕ) (calls : L
         sit_taken n places verdicts taken (sit_groups n keys places some among below.1),
       )
 
--- over an edge from the tasks that made partial rows
+-- over an edge from the tasks that made partial rows, to tasks by the bucket of keys
 module _ (mode : Mode) (tables : List (List (List Value))) (id source m : ℕ) (keys : List ℕ) (calls : List Call) (t : TreeForm) (ins parts got out : TaskRows)
     (below : Together mode t tables m ins) (each : AllInPieces (ArePartialsOf keys calls) m ins parts) where
-  all_parts : InPieces (ArePartialsOf keys calls) (gather m ins) (gather m parts)
-  all_parts = pieces-gather (ArePartialsOf keys calls) m ins parts each
-
-  -- the partial rows of all pieces
-  same_parts : SameWeights (gather all_parts.drivers (λ d. partials_of keys calls (all_parts.pieces d))) (gather m parts)
-  same_parts =
-      same-trans (same-gather all_parts.drivers (λ d. partials_of keys calls (all_parts.pieces d)) all_parts.gave all_parts.each) all_parts.together
-
-  -- they give the groups of a list that the tree gives
-  same_merged : SameWeights (finals_of (types_of t) (length keys) calls (gather m parts)) (groups_of (types_of t) keys calls below.rows)
-  same_merged = same-merged_pieces (types_of t) calls keys all_parts.drivers all_parts.pieces (same-trans all_parts.cut below.same) same_parts
-
   remote_below : Together mode (remote source t) tables m ins
   remote_below = record { rows = below.rows; given = given_remote mode t tables source below.rows below.given; same = below.same }
-
-  -- what the one task finds are the groups of such a list
-  pub same_final : EdgePassed single m 1 parts got → SameWeights (finals_of (types_of t) (length keys) calls (got 0)) (groups_of (types_of t) keys calls below.rows)
-  same_final passed = same-trans (same-finals_of (types_of t) calls (length keys) (same-sym (passed 0 (omega arith)))) same_merged
-
-  pub final_whole_step : EdgePassed single m 1 parts got → ((k : ℕ) → k < 1 → Taken mode (finals_of (types_of t) (length keys) calls (got k)) (out k))
-      → Says whole mode (aggregate id keys calls (remote source t)) tables 1 out
-  unfolding remote_below
-  final_whole_step passed taken = (
-    below.rows,
-    remote_below.given,
-    taken-same mode (finals_of (types_of t) (length keys) calls (got 0)) (groups_of (types_of t) keys calls below.rows) (out 0)
-        (same_final passed) (taken 0 (omega arith)),
-  )
 
   -- the partial rows reach behind their keys, also when they have passed
   width : ℕ
@@ -110,11 +81,12 @@ module _ (mode : Mode) (tables : List (List (List Value))) (id source m : ℕ) (
   parts_reach : Sits (reaches (length keys)) (gather m parts)
   unfolding width
   parts_reach =
-      sits-same (reaches (length keys)) same_parts
-      (sits-gather (reaches (length keys)) all_parts.drivers (λ d. partials_of keys calls (all_parts.pieces d))
+      let all : InPieces (ArePartialsOf keys calls) (gather m ins) (gather m parts) = pieces-gather (ArePartialsOf keys calls) m ins parts each in
+      sits-same (reaches (length keys)) (same-trans (same-gather all.drivers (λ d. partials_of keys calls (all.pieces d)) all.gave all.each) all.together)
+      (sits-gather (reaches (length keys)) all.drivers (λ d. partials_of keys calls (all.pieces d))
       (λ d lt. sits-weaker (wide width) (reaches (length keys))
       (λ row e. le-leb (length keys) (length row) (omega (arith, eqb-true (length row) width e)))
-      (partials_of keys calls (all_parts.pieces d)) (partials_of-width keys calls (all_parts.pieces d))))
+      (partials_of keys calls (all.pieces d)) (partials_of-width keys calls (all.pieces d))))
 
   module _ (n : ℕ) (columns : List ℕ) (passed : EdgePassed (hashed columns) m n parts got) where
     got_reach : (k : ℕ) → k < n → Sits (reaches (length keys)) (got k)
@@ -133,7 +105,9 @@ module _ (mode : Mode) (tables : List (List (List Value))) (id source m : ℕ) (
       → SameWeights (gather n (λ k. finals_of (types_of t) (length keys) calls (got k))) (groups_of (types_of t) keys calls below.rows)
   same_finals n columns lt some among passed =
       same-trans (finals-by_columns (types_of t) (length keys) calls columns n some lt among got (sit-passed n m columns parts got passed))
-      (same-trans (same-finals_of (types_of t) calls (length keys) (same-passed n m columns parts got lt passed)) same_merged)
+      (same-trans (same-finals_of (types_of t) calls (length keys) (same-passed n m columns parts got lt passed))
+      (merged_groups (types_of t) keys calls below.rows (gather m parts)
+      (pieces-same (ArePartialsOf keys calls) (pieces-gather (ArePartialsOf keys calls) m ins parts each) below.same (same-refl (gather m parts)))))
 
   pub final_by_step : (n : ℕ) (columns : List ℕ) → 0 < n → 0 < length keys → AllBelow (length keys) columns → EdgePassed (hashed columns) m n parts got
       → ((k : ℕ) → k < n → Taken mode (finals_of (types_of t) (length keys) calls (got k)) (out k))

@@ -1,5 +1,5 @@
 -- Lists of stages taken apart behind their last one, and the drivers of a task put together.
-use Rattle.std.proofs.Common.{◌≡◌, ℕ, ◌<◌, List, [], ◌∷◌, ◌++◌, ap, refl, subst, sym, ◌∙◌}
+use Rattle.std.proofs.Common.{◌≡◌, ℕ, ◌<◌, List, [], ◌∷◌, ◌++◌, ap, refl, subst, sym, ◌∙◌, arith}
 use Rattle.sql_values.specs.declared.value.Value.{Value}
 use Rattle.sql_values.specs.declared.relational.JoinKind.{JoinKind}
 use Rattle.relation_laws.specs.Joins.{join_of}
@@ -12,7 +12,8 @@ use Rattle.bag_laws.proofs.GatherLemmas.{chosen, gather-agree, same-gather}
 use Rattle.bag_laws.proofs.JoinLemmas.{join-gather_left, same-join}
 use Rattle.bag_laws.proofs.VerdictLemmas.{kept_rows-gather}
 use Rattle.plan_trees.specs.Allowed.{Judged, Mode}
-use Rattle.plan_run_laws.specs.Nets.{AreFor, StagesMake, EndsWith, Lanes, Makes, Stage}
+use Rattle.plan_run_laws.specs.Nets.{AreFor, EndsWith, Lanes}
+use Rattle.plan_run_laws.specs.Stages.{StagesMake, Makes, Stage}
 use Rattle.plan_run_laws.specs.RunPlans.{RunPlan}
 use Rattle.plan_run_laws.proofs.CalmLemmas.{calm-tasks}
 
@@ -57,6 +58,11 @@ alone R w one f g h =
     let first : gather w f ≡ f 0 = ap (λ (j : ℕ). gather j f) one in
     let last : gather w g ≡ g 0 = ap (λ (j : ℕ). gather j g) one in
     subst (λ rows. R rows (gather w g)) (sym first) (subst (R (f 0)) (sym last) h)
+
+pub of_driver : (P : List (List Value) → Type 0) (w : ℕ) → w ≡ 1 → (f : TaskRows) (d : ℕ) → d < w → P (f d) → P (gather w f)
+of_driver P w one f d lt h =
+    let first : d ≡ 0 = omega (arith, lt, one) in
+    subst P (ap f first ∙ sym (ap (λ (j : ℕ). gather j f) one)) h
 
 pub judged_drivers : (mode : Mode) (judge : List Value → Verdict) (w : ℕ) (f g : TaskRows) → ((d : ℕ) → d < w → Judged mode judge (f d) (g d))
     → Judged mode judge (gather w f) (gather w g)

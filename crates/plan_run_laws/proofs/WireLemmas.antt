@@ -1,29 +1,26 @@
 -- Drivers, each with its list of stages, give at each node what the tasks gave there.
-use Rattle.std.proofs.Common.{◌≡◌, ℕ, ◌<◌, List, [], ◌∷◌, sym, arith, length, take}
+use Rattle.std.proofs.Common.{◌≡◌, ℕ, ◌<◌, List, [], ◌∷◌, sym, arith}
 use Rattle.sql_values.specs.declared.value.Value.{Value}
 use Rattle.sql_values.specs.declared.relational.JoinKind.{JoinKind}
-use Rattle.relation_laws.specs.Groups.{groups_of}
 use Rattle.relation_laws.specs.Joins.{join_of}
-use Rattle.relation_laws.specs.Sorts.{IsSortOf}
-use Rattle.bag_laws.specs.Firsts.{IsFirstOf, IsTopOf}
 use Rattle.bag_laws.specs.Laws.{TaskRows}
-use Rattle.bag_laws.specs.Pieces.{finals_of}
 use Rattle.bag_laws.specs.Weights.{SameWeights}
 use Rattle.bag_laws.proofs.BagLemmas.{same-from_equal, same-refl, same-trans}
 use Rattle.bag_laws.proofs.GatherLemmas.{gather-agree}
 use Rattle.bag_laws.proofs.JoinLemmas.{same-join}
-use Rattle.plan_trees.specs.Allowed.{Mode, Taken, width_of}
-use Rattle.plan_trees.specs.Judges.{filter_judge, project_judge}
+use Rattle.plan_trees.specs.Allowed.{Mode, width_of}
 use Rattle.plan_trees.specs.TreeTypes.{types_of}
-use Rattle.plan_run_laws.specs.Nets.{AreFor, Below, StagesMake, EndsWith, Lanes, Makes, Stage, Went, WentInto, filter, final, grouping, limit, probe, project, sort, of_tasks, topn}
+use Rattle.plan_run_laws.specs.Nets.{AreFor, Below, EndsWith, Lanes, Went, WentInto, of_tasks}
+use Rattle.plan_run_laws.specs.Stages.{Makes, Stage, StagesMake, does, first_half, probe, second_half}
 use Rattle.plan_run_laws.specs.RunPlans.{RunPlan, tree_of_run}
 use Rattle.plan_run_laws.specs.RunPlans as plan
-use Rattle.plan_run_laws.specs.Runs.{AllInPieces, ArePartialsOf, Ran}
-use Rattle.plan_run_laws.proofs.LaneLemmas.{Lane, alone, before_last, chosen_lanes, joined_drivers, judged_drivers, no_stage, only_stage}
+use Rattle.plan_run_laws.specs.Runs.{AllInPieces, Ran}
+use Rattle.plan_run_laws.proofs.StepTables.{step_drivers}
+use Rattle.plan_run_laws.proofs.LaneLemmas.{Lane, alone, before_last, chosen_lanes, joined_drivers, no_stage, only_stage}
 
 module _ (mode : Mode) (tables : List (List (List Value))) where
   -- drivers that have no stage give what they take
-  passed_on : (n w : ℕ) (took gave : Lanes) → ((k d : ℕ) → k < n → d < w → (stages : List Stage) × (stages ≡ []) × StagesMake mode stages (took k d) (gave k d))
+  pub passed_on : (n w : ℕ) (took gave : Lanes) → ((k d : ℕ) → k < n → d < w → (stages : List Stage) × (stages ≡ []) × StagesMake mode stages (took k d) (gave k d))
       → (k : ℕ) → k < n → of_tasks w took k ≡ of_tasks w gave k
   passed_on n w took gave went k lt =
       gather-agree w (took k) (gave k) (λ d less. let h = went k d lt less in no_stage mode h.0 (took k d) (gave k d) h.1 h.2)
@@ -56,19 +53,14 @@ module _ (mode : Mode) (tables : List (List (List Value))) where
     together = same-refl (of_tasks v gave j);
   }
 
-  -- the only driver of a task, with one stage
-  one_driver : (R : List (List Value) → List (List Value) → Type 0) (stage : Stage) (n w : ℕ) → w ≡ 1 → (took gave : Lanes)
-      → ((a b : List (List Value)) → Makes mode stage a b → R a b)
-      → ((k d : ℕ) → k < n → d < w → Makes mode stage (took k d) (gave k d)) → (k : ℕ) → k < n → R (of_tasks w took k) (of_tasks w gave k)
-  one_driver R stage n w one took gave is makes k lt = alone R w one (took k) (gave k) (is (took k 0) (gave k 0) (makes k 0 lt (omega (arith, one))))
-
-  only_stages : (n w : ℕ) (stage : Stage) (took gave : Lanes)
+  -- the only stage of each driver
+  pub only_stages : (n w : ℕ) (stage : Stage) (took gave : Lanes)
       → ((k d : ℕ) → k < n → d < w → (stages : List Stage) × (stages ≡ stage ∷ []) × StagesMake mode stages (took k d) (gave k d))
       → (k d : ℕ) → k < n → d < w → Makes mode stage (took k d) (gave k d)
   only_stages n w stage took gave went k d lt less = let h = went k d lt less in only_stage mode stage h.0 (took k d) (gave k d) h.1 h.2
 
   -- a probe, with the rows that its task built in any order
-  probed : (n w : ℕ) (kind : JoinKind) (on : List (ℕ × ℕ)) (left right : RunPlan) (build : TaskRows) (builds : List TaskRows) (took gave : Lanes)
+  pub probed : (n w : ℕ) (kind : JoinKind) (on : List (ℕ × ℕ)) (left right : RunPlan) (build : TaskRows) (builds : List TaskRows) (took gave : Lanes)
       → Went mode n w (plan.join 0 kind on left right) (build ∷ builds) took gave
       → (between : Lanes) × Went mode n w left builds took between
       × ((k d : ℕ) → k < n → d < w → SameWeights (join_of kind on (width_of (tree_of_run left)) (width_of (tree_of_run right)) (between k d) (build k)) (gave k d))
@@ -89,14 +81,21 @@ module _ (mode : Mode) (tables : List (List (List Value))) where
       λ k lt. same-trans (same-from_equal (sym (passed_on n w took gave went k lt))) (below k lt)
   wired n w (plan.remote id output m input) builds took gave (p, below, under, passed) went =
       (of_tasks p.drivers p.gave, wired m p.drivers input p.builds p.took p.gave below under, λ k lt. same-trans (passed k lt) (same-from_equal (passed_on n w took gave went k lt)))
-  wired n w (plan.filter id predicate input) builds took gave below went =
+  wired n w (plan.step id s input) builds took gave (some, below) went =
       let types = types_of (tree_of_run input) in
-      let b = into_last n w input builds (filter types predicate) took gave went in
-      (of_tasks w b.0, wired n w input builds took b.0 below b.1, λ k lt. judged_drivers mode (filter_judge types predicate) w (b.0 k) (gave k) (λ d less. b.2 k d lt less))
-  wired n w (plan.project id columns input) builds took gave below went =
-      let types = types_of (tree_of_run input) in
-      let b = into_last n w input builds (project types columns) took gave went in
-      (of_tasks w b.0, wired n w input builds took b.0 below b.1, λ k lt. judged_drivers mode (project_judge types columns) w (b.0 k) (gave k) (λ d less. b.2 k d lt less))
+      let b = into_last n w input builds (does types s) took gave went in
+      (of_tasks w b.0, wired n w input builds took b.0 below b.1, λ k lt. step_drivers mode types s w some (b.0 k) (gave k) (λ d less. b.2 k d lt less))
+  wired n w (plan.halves id source output m h input) builds took gave (p, one, below, (between, under, makes), passed) went =
+      let types = types_of (tree_of_run input) in (
+        of_tasks p.drivers between,
+        of_tasks p.drivers p.gave,
+        of_tasks w took,
+        wired m p.drivers input p.builds p.took between below under,
+        in_pieces (Makes mode (first_half types h)) m p.drivers between p.gave makes,
+        passed,
+        λ k lt. alone (Makes mode (second_half types h)) w one (took k) (gave k)
+            (only_stages n w (second_half types h) took gave went k 0 lt (omega (arith, one))),
+      )
   wired n w (plan.join id kind on left right) [] took gave none went = absurd none
   wired n w (plan.join id kind on left right) (build ∷ builds) took gave (p, under, made, fed, below) went =
       let b = probed n w kind on left right build builds took gave went in (
@@ -108,52 +107,6 @@ module _ (mode : Mode) (tables : List (List (List Value))) where
             (of_tasks p.drivers p.gave k) (fed k lt)
             (λ d less. b.2 k d lt less),
       )
-  wired n w (plan.aggregate id keys calls input) builds took gave (one, below) went =
-      let types = types_of (tree_of_run input) in
-      let b = into_last n w input builds (grouping types keys calls) took gave went in (
-        of_tasks w b.0,
-        wired n w input builds took b.0 below b.1,
-        one_driver (λ rows given. Taken mode (groups_of types keys calls rows) given) (grouping types keys calls) n w one b.0 gave (λ x y h. h) b.2,
-      )
-  wired n w (plan.aggregate_parts id source output m keys calls input) builds took gave (p, one, below, (between, under, makes), passed) went =
-      let stage = final (types_of (tree_of_run input)) (length keys) calls in (
-        of_tasks p.drivers between,
-        of_tasks p.drivers p.gave,
-        of_tasks w took,
-        wired m p.drivers input p.builds p.took between below under,
-        in_pieces (ArePartialsOf keys calls) m p.drivers between p.gave makes,
-        passed,
-        one_driver (λ rows given. Taken mode (finals_of (types_of (tree_of_run input)) (length keys) calls rows) given) stage n w one took gave (λ x y h. h)
-            (only_stages n w stage took gave went),
-      )
-  wired n w (plan.sort id keys input) builds took gave (one, below) went =
-      let b = into_last n w input builds (sort keys) took gave went in
-      (of_tasks w b.0, wired n w input builds took b.0 below b.1, one_driver (IsSortOf keys) (sort keys) n w one b.0 gave (λ x y h. h) b.2)
-  wired n w (plan.topn id count keys input) builds took gave (one, below) went =
-      let b = into_last n w input builds (topn count keys) took gave went in
-      (of_tasks w b.0, wired n w input builds took b.0 below b.1, one_driver (IsTopOf keys count) (topn count keys) n w one b.0 gave (λ x y h. h) b.2)
-  wired n w (plan.topn_parts id source output m count keys input) builds took gave (p, one, below, (between, under, makes), passed) went = (
-    of_tasks p.drivers between,
-    of_tasks p.drivers p.gave,
-    of_tasks w took,
-    wired m p.drivers input p.builds p.took between below under,
-    in_pieces (IsTopOf keys count) m p.drivers between p.gave makes,
-    passed,
-    one_driver (IsTopOf keys count) (topn count keys) n w one took gave (λ x y h. h) (only_stages n w (topn count keys) took gave went),
-  )
-  wired n w (plan.limit id count input) builds took gave (one, below) went =
-      let b = into_last n w input builds (limit count) took gave went in
-      (of_tasks w b.0, wired n w input builds took b.0 below b.1, one_driver (λ rows given. given ≡ take count rows) (limit count) n w one b.0 gave (λ x y h. h) b.2)
-  wired n w (plan.limit_parts id source output m count input) builds took gave (p, one, below, (between, under, makes), passed) went = (
-    of_tasks p.drivers between,
-    of_tasks p.drivers p.gave,
-    of_tasks w took,
-    wired m p.drivers input p.builds p.took between below under,
-    in_pieces (IsFirstOf count) m p.drivers between p.gave
-        (λ k d lt less. record { order = between k d; same = same-refl (between k d); is = makes k d lt less }),
-    passed,
-    one_driver (λ rows given. given ≡ take count rows) (limit count) n w one took gave (λ x y h. h) (only_stages n w (limit count) took gave went),
-  )
   wired n w (plan.union id left right) builds took gave (p, q, below, went_left, under, went_right, put) went = (
     of_tasks p.drivers p.gave,
     of_tasks q.drivers q.gave,

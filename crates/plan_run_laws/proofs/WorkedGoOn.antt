@@ -12,7 +12,7 @@ use Rattle.sql_functions.specs.declared.name.CallName.TheVariants.{Divide, Less}
 use Rattle.sql_exprs.specs.Forms.{Form, call, column, literal, more, none}
 use Rattle.relation_laws.specs.Verdicts.{fails, keeps}
 use Rattle.plan_trees.specs.Judges.{filter_judge, project_judge}
-use Rattle.plan_run_laws.specs.Nets.{filter, project}
+use Rattle.plan_run_laws.specs.Stages.{filter, project}
 use Rattle.plan_run_laws.specs.Stops.{StagesCanGoOn}
 use Rattle.plan_run_laws.proofs.GoOnLemmas.{begins_before, goes_on-append, goes_on-filter, goes_on-project}
 

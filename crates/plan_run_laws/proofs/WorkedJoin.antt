@@ -12,7 +12,8 @@ use Rattle.bag_laws.specs.Gather.{gather}
 use Rattle.bag_laws.specs.Weights.{SameWeights}
 use Rattle.bag_laws.proofs.BagLemmas.{same-from_equal, same-refl}
 use Rattle.plan_trees.specs.Allowed.{Allows, scanned, strict}
-use Rattle.plan_run_laws.specs.Nets.{Below, Lanes, Went, probe, of_tasks}
+use Rattle.plan_run_laws.specs.Nets.{Below, Lanes, Went, of_tasks}
+use Rattle.plan_run_laws.specs.Stages.{probe}
 use Rattle.plan_run_laws.specs.Placements.{Placed, join_by, remote_by, remote_whole, scan_any}
 use Rattle.plan_run_laws.specs.RunPlans.{RunPlan, hashed, join, remote, scan, single, tree_of_run}
 use Rattle.plan_run_laws.specs.Spreads.{Tables, any, by, whole}

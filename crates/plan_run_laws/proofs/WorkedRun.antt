@@ -14,8 +14,9 @@ use Rattle.bag_laws.specs.Pieces.{partials_of}
 use Rattle.bag_laws.specs.Weights.{SameWeights}
 use Rattle.bag_laws.proofs.BagLemmas.{same-append_comm, same-refl}
 use Rattle.plan_trees.specs.Allowed.{Allows, scanned, strict}
-use Rattle.plan_run_laws.specs.Nets.{Below, Lanes, Went, final, of_tasks}
-use Rattle.plan_run_laws.specs.Placements.{Placed, final_whole, scan_any}
+use Rattle.plan_run_laws.specs.Nets.{Below, Lanes, Went, of_tasks}
+use Rattle.plan_run_laws.specs.Stages.{final}
+use Rattle.plan_run_laws.specs.Placements.{Placed, halves_whole, scan_any}
 use Rattle.plan_run_laws.specs.RunPlans.{RunPlan, aggregate_parts, scan, single, tree_of_run}
 use Rattle.plan_run_laws.specs.Spreads.{whole, any}
 use Rattle.plan_run_laws.proofs.ComposeLemmas.{composed}
@@ -39,7 +40,7 @@ abbrev plan : RunPlan
 plan = aggregate_parts 0 1 single 2 [] calls (scan 3 0 (0 ∷ []) types)
 
 placed : Placed 1 plan whole
-placed = final_whole {s = any} (omega arith) scan_any
+placed = halves_whole {s = any} (omega arith) scan_any
 
 -- the second task has the first row
 abbrev claimed : Lanes

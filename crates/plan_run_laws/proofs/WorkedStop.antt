@@ -54,6 +54,7 @@ stopped = (
   record { drivers = 1; notes = []; took = taken; gave = nothing; ended = nobody; done = nobody },
   inl (
     refl,
+    tt,
     record {
       stops = (
         refl,

@@ -15,8 +15,9 @@ use Rattle.bag_laws.specs.Pieces.{finals_of, partials_of}
 use Rattle.bag_laws.proofs.BagLemmas.{same-refl}
 use Rattle.plan_trees.specs.Stopped.{MayFail}
 use Rattle.plan_run_laws.specs.Faults.{Failed}
-use Rattle.plan_run_laws.specs.Nets.{Lanes, of_tasks, partial}
-use Rattle.plan_run_laws.specs.Placements.{Placed, final_whole, scan_any}
+use Rattle.plan_run_laws.specs.Nets.{Lanes, of_tasks}
+use Rattle.plan_run_laws.specs.Stages.{partial}
+use Rattle.plan_run_laws.specs.Placements.{Placed, halves_whole, scan_any}
 use Rattle.plan_run_laws.specs.RunPlans.{RunPlan, aggregate_parts, scan, single, tree_of_run}
 use Rattle.plan_run_laws.specs.Spreads.{Tables, any, whole}
 use Rattle.plan_run_laws.specs.Stops.{Flags}
@@ -43,7 +44,7 @@ abbrev plan : RunPlan
 plan = aggregate_parts 0 1 single 2 [] calls (scan 3 0 (0 ∷ []) types)
 
 placed : Placed 1 plan whole
-placed = final_whole {s = any} (omega arith) scan_any
+placed = halves_whole {s = any} (omega arith) scan_any
 
 -- each task claimed one row
 abbrev claimed : Lanes

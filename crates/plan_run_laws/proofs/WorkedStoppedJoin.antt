@@ -14,7 +14,8 @@ use Rattle.relation_laws.specs.Joins.{join_of}
 use Rattle.bag_laws.proofs.BagLemmas.{same-from_equal, same-refl}
 use Rattle.plan_trees.specs.Stopped.{MayFail}
 use Rattle.plan_run_laws.specs.Faults.{Failed}
-use Rattle.plan_run_laws.specs.Nets.{Lanes, probe}
+use Rattle.plan_run_laws.specs.Nets.{Lanes}
+use Rattle.plan_run_laws.specs.Stages.{probe}
 use Rattle.plan_run_laws.specs.Placements.{Placed, join_right_every, project_any, remote_every, remote_whole, scan_any}
 use Rattle.plan_run_laws.specs.RunPlans.{RunPlan, broadcast, join, project, remote, scan, single, tree_of_run}
 use Rattle.plan_run_laws.specs.Spreads.{Tables, any, whole}
@@ -98,6 +99,7 @@ stopped = (
   probing,
   inl (
     refl,
+    tt,
     record {
       stops = (
         building,

@@ -1,22 +1,21 @@
 -- A driver that failed at a node, in a run that it stopped. Only the pipelines below that node
 -- count.
-use Rattle.std.specs.Prelude.{◌≡◌, ◌⊎◌, ℕ, ◌<◌, List, [], ◌∷◌, ◌++◌, length, Contains}
+use Rattle.std.specs.Prelude.{◌≡◌, ◌⊎◌, ℕ, ◌<◌, List, [], ◌∷◌, ◌++◌, Contains}
 use Rattle.sql_values.specs.declared.value.Value.{Value}
 use Rattle.sql_values.specs.declared.fail.Fail.{Fail}
-use Rattle.relation_laws.specs.Groups.{groups_of}
 use Rattle.relation_laws.specs.Verdicts.{Verdict, fails}
-use Rattle.bag_laws.specs.Pieces.{finals_of}
-use Rattle.plan_trees.specs.Judges.{filter_judge, project_judge}
+use Rattle.plan_trees.specs.Steps.{RowFails, StepFails}
 use Rattle.plan_trees.specs.TreeTypes.{types_of}
-use Rattle.plan_run_laws.specs.Nets.{IsAlone, Lanes}
+use Rattle.plan_run_laws.specs.Nets.{Lanes}
 use Rattle.plan_run_laws.specs.RunPlans.{RunPlan, tree_of_run}
 use Rattle.plan_run_laws.specs.RunPlans as plan
 use Rattle.plan_run_laws.specs.Spreads.{Tables}
+use Rattle.plan_run_laws.specs.Stages.{MayHave, StageFails, second_half}
 use Rattle.plan_run_laws.specs.Stops.{AreOpen, Flags, MayCome, Notes, StoppedPipe, Stops}
 
 -- a row among these fails with this kind
 abbrev pub FailsOnOneOf : (List Value → Verdict) → Fail → List (List Value) → Type 0
-FailsOnOneOf judge kind rows = (row : List Value) × Contains rows row × (judge row ≡ fails kind)
+FailsOnOneOf judge kind rows = RowFails judge rows kind
 
 -- a group of these rows fails with this kind
 abbrev pub FailsOnGroupOf : (List (List Value) → List Verdict) → Fail → List (List Value) → Type 0
@@ -55,43 +54,19 @@ Failed tables n w (plan.scan id table columns types) notes took ended node kind 
 Failed tables n w (plan.values id types rows) notes took ended node kind = ⊥
 Failed tables n w (plan.remote id output m input) notes took ended node kind =
     (p : StoppedPipe) × Failed tables m p.drivers input p.notes p.took p.ended node kind
-Failed tables n w (plan.filter id predicate input) notes took ended node kind =
-    ((id ≡ node)
-    × FailedOver (FailsOnOneOf (filter_judge (types_of (tree_of_run input)) predicate) kind)
-    tables n w input notes took ended)
+Failed tables n w (plan.step id s input) notes took ended node kind =
+    ((id ≡ node) × MayHave s w
+    × FailedOver (λ rows. StepFails (types_of (tree_of_run input)) s rows kind) tables n w input notes took ended)
     ⊎ Failed tables n w input notes took ended node kind
-Failed tables n w (plan.project id columns input) notes took ended node kind =
+Failed tables n w (plan.halves id source output m h input) notes took ended node kind =
     ((id ≡ node)
-    × FailedOver (FailsOnOneOf (project_judge (types_of (tree_of_run input)) columns) kind)
-    tables n w input notes took ended)
-    ⊎ Failed tables n w input notes took ended node kind
+    × FailedFinal (λ rows. StageFails (second_half (types_of (tree_of_run input)) h) rows kind)
+    tables n w (plan.halves id source output m h input) notes took ended)
+    ⊎ (p : StoppedPipe) × Failed tables m p.drivers input p.notes p.took p.ended node kind
 Failed tables n w (plan.join id how on left right) [] took ended node kind = ⊥
 Failed tables n w (plan.join id how on left right) (note ∷ notes) took ended node kind =
     Failed tables n w left notes took ended node kind
     ⊎ (p : StoppedPipe) × Failed tables n p.drivers right p.notes p.took p.ended node kind
-Failed tables n w (plan.aggregate id keys calls input) notes took ended node kind =
-    ((id ≡ node) × IsAlone w
-    × FailedOver (FailsOnGroupOf (groups_of (types_of (tree_of_run input)) keys calls) kind)
-    tables n w input notes took ended)
-    ⊎ Failed tables n w input notes took ended node kind
-Failed tables n w (plan.aggregate_parts id source output m keys calls input) notes took ended
-    node kind =
-    ((id ≡ node)
-    × FailedFinal
-    (FailsOnGroupOf (finals_of (types_of (tree_of_run input)) (length keys) calls) kind)
-    tables n w (plan.aggregate_parts id source output m keys calls input) notes took ended)
-    ⊎ (p : StoppedPipe) × Failed tables m p.drivers input p.notes p.took p.ended node kind
-Failed tables n w (plan.sort id keys input) notes took ended node kind =
-    Failed tables n w input notes took ended node kind
-Failed tables n w (plan.topn id count keys input) notes took ended node kind =
-    Failed tables n w input notes took ended node kind
-Failed tables n w (plan.topn_parts id source output m count keys input) notes took ended
-    node kind =
-    (p : StoppedPipe) × Failed tables m p.drivers input p.notes p.took p.ended node kind
-Failed tables n w (plan.limit id count input) notes took ended node kind =
-    Failed tables n w input notes took ended node kind
-Failed tables n w (plan.limit_parts id source output m count input) notes took ended node kind =
-    (p : StoppedPipe) × Failed tables m p.drivers input p.notes p.took p.ended node kind
 Failed tables n w (plan.union id left right) notes took ended node kind =
     (p : StoppedPipe)
     × (Failed tables n p.drivers left p.notes p.took p.ended node kind

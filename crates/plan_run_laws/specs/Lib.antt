@@ -1,7 +1,9 @@
+pub use Rattle.plan_trees.specs.HalvedSteps
 pub mod RunPlans
 pub mod Spreads
 pub mod Placements
 pub mod Runs
+pub mod Stages
 pub mod Nets
 pub mod Stops
 pub mod Wholes

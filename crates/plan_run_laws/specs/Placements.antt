@@ -2,13 +2,14 @@
 use Rattle.std.specs.Prelude.{◌≡◌, ℕ, ◌<◌, List, length, map, get_or, All, Contains}
 use Rattle.sql_values.specs.declared.types.SqlType.{SqlType}
 use Rattle.sql_values.specs.declared.value.Value.{Value}
-use Rattle.sql_values.specs.declared.order.KeySpec.{KeySpec}
 use Rattle.sql_values.specs.declared.relational.Call.{Call}
 use Rattle.sql_values.specs.declared.relational.JoinKind.{JoinKind}
 use Rattle.sql_exprs.specs.Forms.{Form, column}
 use Rattle.bag_laws.specs.Buckets.{AllBelow, at_places, lefts, rights}
 use Rattle.plan_trees.specs.Allowed.{width_of}
-use Rattle.plan_run_laws.specs.RunPlans.{RunPlan, tree_of_run, single, hashed, broadcast, scan, values, remote, filter, project, join, aggregate, aggregate_parts, sort, topn, topn_parts, limit, limit_parts, union}
+use Rattle.plan_trees.specs.Steps.{StepForm}
+use Rattle.plan_trees.specs.HalvedSteps.{HalvedForm}
+use Rattle.plan_run_laws.specs.RunPlans.{RunPlan, tree_of_run, single, hashed, broadcast, scan, values, remote, step, halves, filter, project, join, aggregate, aggregate_parts, union}
 use Rattle.plan_run_laws.specs.Spreads.{Spread, whole, any, by, every}
 
 -- a fragment that another reads: one task has all rows, or some tasks have each row once
@@ -43,11 +44,14 @@ pub data Placed : ℕ → RunPlan → Spread → Type 0 where
       → IsRead m s → Placed m input s → Placed n (remote id (hashed columns) m input) (by columns)
   remote_every : {n id m : ℕ} {input : RunPlan} {s : Spread}
       → IsRead m s → Placed m input s → Placed n (remote id broadcast m input) every
+  -- what one task does with all rows
+  step_whole : {id : ℕ} {does : StepForm} {input : RunPlan}
+      → Placed 1 input whole → Placed 1 (step id does input) whole
+  halves_whole : {id source m : ℕ} {halved : HalvedForm} {input : RunPlan} {s : Spread}
+      → IsRead m s → Placed m input s → Placed 1 (halves id source single m halved input) whole
   -- row by row; columns by which rows sit have to stay plain columns
   filter_stays : {n id : ℕ} {predicate : Form} {input : RunPlan} {s : Spread}
       → Placed n input s → Placed n (filter id predicate input) s
-  project_whole : {id : ℕ} {columns : List Form} {input : RunPlan}
-      → Placed 1 input whole → Placed 1 (project id columns input) whole
   project_any : {n id : ℕ} {columns : List Form} {input : RunPlan}
       → Placed n input any → Placed n (project id columns input) any
   project_by : {n id : ℕ} {columns : List Form} {input : RunPlan} {places taken : List ℕ}
@@ -66,32 +70,14 @@ pub data Placed : ℕ → RunPlan → Spread → Type 0 where
       → Placed n left (by (lefts pairs)) → Placed n right (by (rights pairs))
       → Placed n (join id kind on left right) (by (lefts pairs))
   -- groups that are whole in a task: the buckets are by some of the keys
-  aggregate_whole : {id : ℕ} {keys : List ℕ} {calls : List Call} {input : RunPlan}
-      → Placed 1 input whole → Placed 1 (aggregate id keys calls input) whole
   aggregate_by : {n id : ℕ} {keys places : List ℕ} {calls : List Call} {input : RunPlan}
       → 0 < length keys → AllBelow (length keys) places
       → Placed n input (by (at_places keys places))
       → Placed n (aggregate id keys calls input) (by places)
-  final_whole : {id source m : ℕ} {keys : List ℕ} {calls : List Call} {input : RunPlan}
-      {s : Spread}
-      → IsRead m s → Placed m input s
-      → Placed 1 (aggregate_parts id source single m keys calls input) whole
   final_by : {n id source m : ℕ} {keys columns : List ℕ} {calls : List Call} {input : RunPlan}
       {s : Spread}
       → 0 < length keys → AllBelow (length keys) columns → IsRead m s → Placed m input s
       → Placed n (aggregate_parts id source (hashed columns) m keys calls input) (by columns)
-  -- what needs an order, or a count of all rows, is whole
-  sort_whole : {id : ℕ} {keys : List KeySpec} {input : RunPlan}
-      → Placed 1 input whole → Placed 1 (sort id keys input) whole
-  topn_whole : {id count : ℕ} {keys : List KeySpec} {input : RunPlan}
-      → Placed 1 input whole → Placed 1 (topn id count keys input) whole
-  topn_parts_whole : {id source m count : ℕ} {keys : List KeySpec} {input : RunPlan} {s : Spread}
-      → IsRead m s → Placed m input s
-      → Placed 1 (topn_parts id source single m count keys input) whole
-  limit_whole : {id count : ℕ} {input : RunPlan}
-      → Placed 1 input whole → Placed 1 (limit id count input) whole
-  limit_parts_whole : {id source m count : ℕ} {input : RunPlan} {s : Spread}
-      → IsRead m s → Placed m input s → Placed 1 (limit_parts id source single m count input) whole
   -- rows of both sides, in the tasks in which they are
   union_whole : {id : ℕ} {left right : RunPlan}
       → Placed 1 left whole → Placed 1 right whole → Placed 1 (union id left right) whole

@@ -8,6 +8,10 @@ use Rattle.sql_values.specs.declared.relational.JoinKind.{JoinKind}
 use Rattle.sql_exprs.specs.Forms.{Form}
 use Rattle.plan_trees.specs.TreeForms.{TreeForm}
 use Rattle.plan_trees.specs.TreeForms as tree
+use Rattle.plan_trees.specs.Steps.{StepForm}
+use Rattle.plan_trees.specs.Steps as steps
+use Rattle.plan_trees.specs.HalvedSteps.{HalvedForm, whole_step}
+use Rattle.plan_trees.specs.HalvedSteps as halved
 
 -- where the rows of a fragment go: to the one task that reads them, each to the task that is
 -- the bucket of its columns, or all to each task
@@ -17,41 +21,52 @@ pub data Output : Type 0 where
   broadcast : Output
 
 -- each node begins with its id. A remote source has the output kind, and how many tasks run the
--- fragment below. A FINAL node, its remote source and the PARTIAL node below are one, with the
+-- fragment below. A FINAL node, its remote source and the PARTIAL node below are one (`halves`), with the
 -- first two's ids
 pub data RunPlan : Type 0 where
   scan : ℕ → ℕ → List ℕ → List SqlType → RunPlan
   values : ℕ → List SqlType → List (List Value) → RunPlan
   remote : ℕ → Output → ℕ → RunPlan → RunPlan
-  filter : ℕ → Form → RunPlan → RunPlan
-  project : ℕ → List Form → RunPlan → RunPlan
+  step : ℕ → StepForm → RunPlan → RunPlan
+  halves : ℕ → ℕ → Output → ℕ → HalvedForm → RunPlan → RunPlan
   join : ℕ → JoinKind → List (ℕ × ℕ) → RunPlan → RunPlan → RunPlan
-  aggregate : ℕ → List ℕ → List Call → RunPlan → RunPlan
-  aggregate_parts : ℕ → ℕ → Output → ℕ → List ℕ → List Call → RunPlan → RunPlan
-  sort : ℕ → List KeySpec → RunPlan → RunPlan
-  topn : ℕ → ℕ → List KeySpec → RunPlan → RunPlan
-  topn_parts : ℕ → ℕ → Output → ℕ → ℕ → List KeySpec → RunPlan → RunPlan
-  limit : ℕ → ℕ → RunPlan → RunPlan
-  limit_parts : ℕ → ℕ → Output → ℕ → ℕ → RunPlan → RunPlan
   union : ℕ → RunPlan → RunPlan → RunPlan
+
+pattern abbrev pub filter : ℕ → Form → RunPlan → RunPlan
+filter id predicate input = step id (steps.filter predicate) input
+
+pattern abbrev pub project : ℕ → List Form → RunPlan → RunPlan
+project id columns input = step id (steps.project columns) input
+
+pattern abbrev pub aggregate : ℕ → List ℕ → List Call → RunPlan → RunPlan
+aggregate id keys calls input = step id (steps.aggregate keys calls) input
+
+pattern abbrev pub sort : ℕ → List KeySpec → RunPlan → RunPlan
+sort id keys input = step id (steps.sort keys) input
+
+pattern abbrev pub topn : ℕ → ℕ → List KeySpec → RunPlan → RunPlan
+topn id count keys input = step id (steps.topn count keys) input
+
+pattern abbrev pub limit : ℕ → ℕ → RunPlan → RunPlan
+limit id count input = step id (steps.limit count) input
+
+pattern abbrev pub aggregate_parts : ℕ → ℕ → Output → ℕ → List ℕ → List Call → RunPlan → RunPlan
+aggregate_parts id source output tasks keys calls input = halves id source output tasks (halved.aggregate keys calls) input
+
+pattern abbrev pub topn_parts : ℕ → ℕ → Output → ℕ → ℕ → List KeySpec → RunPlan → RunPlan
+topn_parts id source output tasks count keys input = halves id source output tasks (halved.topn count keys) input
+
+pattern abbrev pub limit_parts : ℕ → ℕ → Output → ℕ → ℕ → RunPlan → RunPlan
+limit_parts id source output tasks count input = halves id source output tasks (halved.limit count) input
 
 -- the tree that it means
 abbrev pub tree_of_run : RunPlan → TreeForm
 tree_of_run (scan id table columns types) = tree.scan id table columns types
 tree_of_run (values id types rows) = tree.values id types rows
 tree_of_run (remote id output tasks input) = tree.remote id (tree_of_run input)
-tree_of_run (filter id predicate input) = tree.filter id predicate (tree_of_run input)
-tree_of_run (project id columns input) = tree.project id columns (tree_of_run input)
+tree_of_run (step id s input) = tree.step id s (tree_of_run input)
+tree_of_run (halves id source output tasks h input) =
+    tree.step id (whole_step h) (tree.remote source (tree_of_run input))
 tree_of_run (join id kind on left right) =
     tree.join id kind on (tree_of_run left) (tree_of_run right)
-tree_of_run (aggregate id keys calls input) = tree.aggregate id keys calls (tree_of_run input)
-tree_of_run (aggregate_parts id source output tasks keys calls input) =
-    tree.aggregate id keys calls (tree.remote source (tree_of_run input))
-tree_of_run (sort id keys input) = tree.sort id keys (tree_of_run input)
-tree_of_run (topn id count keys input) = tree.topn id count keys (tree_of_run input)
-tree_of_run (topn_parts id source output tasks count keys input) =
-    tree.topn id count keys (tree.remote source (tree_of_run input))
-tree_of_run (limit id count input) = tree.limit id count (tree_of_run input)
-tree_of_run (limit_parts id source output tasks count input) =
-    tree.limit id count (tree.remote source (tree_of_run input))
 tree_of_run (union id left right) = tree.union id (tree_of_run left) (tree_of_run right)

@@ -1,21 +1,18 @@
 -- What the tasks gave at each node of a plan, the drivers of a task together.
-use Rattle.std.specs.Prelude.{◌≡◌, ℕ, ◌<◌, List, ◌++◌, length, take}
+use Rattle.std.specs.Prelude.{ℕ, ◌<◌, List, ◌++◌}
 use Rattle.sql_values.specs.declared.value.Value.{Value}
 use Rattle.sql_values.specs.declared.relational.Call.{Call}
 use Rattle.bag_laws.specs.Buckets.{key_bucket, of_bucket}
-use Rattle.bag_laws.specs.Firsts.{IsFirstOf, IsTopOf}
 use Rattle.bag_laws.specs.Gather.{gather}
 use Rattle.bag_laws.specs.Laws.{TaskRows}
-use Rattle.bag_laws.specs.Pieces.{finals_of, partials_of}
+use Rattle.bag_laws.specs.Pieces.{partials_of}
 use Rattle.bag_laws.specs.Weights.{SameWeights}
-use Rattle.relation_laws.specs.Groups.{groups_of}
 use Rattle.relation_laws.specs.Joins.{join_of}
-use Rattle.relation_laws.specs.Sorts.{IsSortOf}
-use Rattle.plan_trees.specs.Allowed.{Judged, Mode, Taken, scanned, width_of}
-use Rattle.plan_trees.specs.Judges.{filter_judge, project_judge}
+use Rattle.plan_trees.specs.Allowed.{Mode, StepGives, scanned, width_of}
 use Rattle.plan_trees.specs.TreeTypes.{types_of}
 use Rattle.plan_run_laws.specs.Spreads.{Tables}
-use Rattle.plan_run_laws.specs.RunPlans.{Output, RunPlan, tree_of_run, single, hashed, broadcast, scan, values, remote, filter, project, join, aggregate, aggregate_parts, sort, topn, topn_parts, limit, limit_parts, union}
+use Rattle.plan_run_laws.specs.RunPlans.{Output, RunPlan, tree_of_run, single, hashed, broadcast, scan, values, remote, step, halves, join, union}
+use Rattle.plan_run_laws.specs.Stages.{Makes, first_half, second_half}
 
 -- what the reading task k of so many gets of all rows of the fragment below
 abbrev pub sent : Output → ℕ → ℕ → List (List Value) → List (List Value)
@@ -53,46 +50,20 @@ Ran mode tables n (scan id table columns types) out =
 Ran mode tables n (values id types rows) out = (k : ℕ) → k < n → SameWeights (out k) rows
 Ran mode tables n (remote id output m input) out =
     (ins : TaskRows) × Ran mode tables m input ins × EdgePassed output m n ins out
-Ran mode tables n (filter id predicate input) out =
+Ran mode tables n (step id s input) out =
     (ins : TaskRows) × Ran mode tables n input ins
-    × ((k : ℕ) → k < n
-    → Judged mode (filter_judge (types_of (tree_of_run input)) predicate) (ins k) (out k))
-Ran mode tables n (project id columns input) out =
-    (ins : TaskRows) × Ran mode tables n input ins
-    × ((k : ℕ) → k < n
-    → Judged mode (project_judge (types_of (tree_of_run input)) columns) (ins k) (out k))
+    × ((k : ℕ) → k < n → StepGives mode (types_of (tree_of_run input)) s (ins k) (out k))
+Ran mode tables n (halves id source output m h input) out =
+    (ins : TaskRows) × (parts : TaskRows) × (got : TaskRows) × Ran mode tables m input ins
+    × AllInPieces (Makes mode (first_half (types_of (tree_of_run input)) h)) m ins parts
+    × EdgePassed output m n parts got
+    × ((k : ℕ) → k < n → Makes mode (second_half (types_of (tree_of_run input)) h) (got k) (out k))
 Ran mode tables n (join id kind on left right) out =
     (ls : TaskRows) × (rs : TaskRows) × Ran mode tables n left ls × Ran mode tables n right rs
     × ((k : ℕ) → k < n
     → SameWeights
     (join_of kind on (width_of (tree_of_run left)) (width_of (tree_of_run right)) (ls k) (rs k))
     (out k))
-Ran mode tables n (aggregate id keys calls input) out =
-    (ins : TaskRows) × Ran mode tables n input ins
-    × ((k : ℕ) → k < n
-    → Taken mode (groups_of (types_of (tree_of_run input)) keys calls (ins k)) (out k))
-Ran mode tables n (aggregate_parts id source output m keys calls input) out =
-    (ins : TaskRows) × (parts : TaskRows) × (got : TaskRows) × Ran mode tables m input ins
-    × AllInPieces (ArePartialsOf keys calls) m ins parts × EdgePassed output m n parts got
-    × ((k : ℕ) → k < n
-    → Taken mode (finals_of (types_of (tree_of_run input)) (length keys) calls (got k)) (out k))
-Ran mode tables n (sort id keys input) out =
-    (ins : TaskRows) × Ran mode tables n input ins
-    × ((k : ℕ) → k < n → IsSortOf keys (ins k) (out k))
-Ran mode tables n (topn id count keys input) out =
-    (ins : TaskRows) × Ran mode tables n input ins
-    × ((k : ℕ) → k < n → IsTopOf keys count (ins k) (out k))
-Ran mode tables n (topn_parts id source output m count keys input) out =
-    (ins : TaskRows) × (parts : TaskRows) × (got : TaskRows) × Ran mode tables m input ins
-    × AllInPieces (IsTopOf keys count) m ins parts × EdgePassed output m n parts got
-    × ((k : ℕ) → k < n → IsTopOf keys count (got k) (out k))
-Ran mode tables n (limit id count input) out =
-    (ins : TaskRows) × Ran mode tables n input ins
-    × ((k : ℕ) → k < n → out k ≡ take count (ins k))
-Ran mode tables n (limit_parts id source output m count input) out =
-    (ins : TaskRows) × (parts : TaskRows) × (got : TaskRows) × Ran mode tables m input ins
-    × AllInPieces (IsFirstOf count) m ins parts × EdgePassed output m n parts got
-    × ((k : ℕ) → k < n → out k ≡ take count (got k))
 Ran mode tables n (union id left right) out =
     (ls : TaskRows) × (rs : TaskRows) × Ran mode tables n left ls × Ran mode tables n right rs
     × ((k : ℕ) → k < n → SameWeights (ls k ++ rs k) (out k))

@@ -6,8 +6,10 @@ use Rattle.bag_laws.specs.Gather.{gather}
 use Rattle.bag_laws.specs.Laws.{TaskRows}
 use Rattle.bag_laws.specs.Weights.{SameWeights}
 use Rattle.plan_trees.specs.Allowed.{scanned, skipping}
-use Rattle.plan_run_laws.specs.Nets.{AreFor, StagesMake, IsAlone, Lanes, Stage, limit, partial, of_tasks, topn}
-use Rattle.plan_run_laws.specs.RunPlans.{Output, RunPlan}
+use Rattle.plan_trees.specs.TreeTypes.{types_of}
+use Rattle.plan_run_laws.specs.Nets.{AreFor, Lanes, of_tasks}
+use Rattle.plan_run_laws.specs.Stages.{IsAlone, MayHave, Stage, StagesMake, first_half}
+use Rattle.plan_run_laws.specs.RunPlans.{Output, RunPlan, tree_of_run}
 use Rattle.plan_run_laws.specs.RunPlans as plan
 use Rattle.plan_run_laws.specs.Runs.{sent}
 use Rattle.plan_run_laws.specs.Spreads.{Tables}
@@ -104,10 +106,13 @@ Stops tables n w (plan.remote id output m input) notes took ended =
     (p : StoppedPipe) × (notes ≡ []) × Stops tables m p.drivers input p.notes p.took p.ended
     × AreOpen [] m p.drivers input p.notes p.took p.gave p.ended p.done
     × PassedSoFar output m n p w took ended
-Stops tables n w (plan.filter id predicate input) notes took ended =
-    Stops tables n w input notes took ended
-Stops tables n w (plan.project id columns input) notes took ended =
-    Stops tables n w input notes took ended
+Stops tables n w (plan.step id s input) notes took ended =
+    MayHave s w × Stops tables n w input notes took ended
+Stops tables n w (plan.halves id source output m h input) notes took ended =
+    (p : StoppedPipe) × (notes ≡ []) × IsAlone w
+    × Stops tables m p.drivers input p.notes p.took p.ended
+    × AreOpen (first_half (types_of (tree_of_run input)) h ∷ []) m p.drivers input p.notes p.took p.gave p.ended p.done
+    × PassedSoFar output m n p w took ended
 Stops tables n w (plan.join id kind on left right) [] took ended = ⊥
 Stops tables n w (plan.join id kind on left right) (note ∷ notes) took ended =
     (p : StoppedPipe) × Stops tables n p.drivers right p.notes p.took p.ended
@@ -116,29 +121,6 @@ Stops tables n w (plan.join id kind on left right) (note ∷ notes) took ended =
     → ((e : ℕ) → e < p.drivers → p.done k e ≡ true)
     × SameWeights (of_tasks p.drivers p.gave k) built)
     × Stops tables n w left notes took ended
-Stops tables n w (plan.aggregate id keys calls input) notes took ended =
-    IsAlone w × Stops tables n w input notes took ended
-Stops tables n w (plan.aggregate_parts id source output m keys calls input) notes took ended =
-    (p : StoppedPipe) × (notes ≡ []) × IsAlone w
-    × Stops tables m p.drivers input p.notes p.took p.ended
-    × AreOpen (partial keys calls ∷ []) m p.drivers input p.notes p.took p.gave p.ended p.done
-    × PassedSoFar output m n p w took ended
-Stops tables n w (plan.sort id keys input) notes took ended =
-    IsAlone w × Stops tables n w input notes took ended
-Stops tables n w (plan.topn id count keys input) notes took ended =
-    IsAlone w × Stops tables n w input notes took ended
-Stops tables n w (plan.topn_parts id source output m count keys input) notes took ended =
-    (p : StoppedPipe) × (notes ≡ []) × IsAlone w
-    × Stops tables m p.drivers input p.notes p.took p.ended
-    × AreOpen (topn count keys ∷ []) m p.drivers input p.notes p.took p.gave p.ended p.done
-    × PassedSoFar output m n p w took ended
-Stops tables n w (plan.limit id count input) notes took ended =
-    IsAlone w × Stops tables n w input notes took ended
-Stops tables n w (plan.limit_parts id source output m count input) notes took ended =
-    (p : StoppedPipe) × (notes ≡ []) × IsAlone w
-    × Stops tables m p.drivers input p.notes p.took p.ended
-    × AreOpen (limit count ∷ []) m p.drivers input p.notes p.took p.gave p.ended p.done
-    × PassedSoFar output m n p w took ended
 Stops tables n w (plan.union id left right) notes took ended =
     (p : StoppedPipe) × (q : StoppedPipe) × (notes ≡ [])
     × Stops tables n p.drivers left p.notes p.took p.ended

@@ -7,7 +7,9 @@
 //!   the tree
 //! - `specs/Placements.antt`: which spread a node has, rule by rule
 //! - `specs/Runs.antt`: what the tasks gave at each node
-//! - `specs/Nets.antt`: the drivers of the tasks, their stages, and what passes between them
+//! - `specs/Stages.antt`: the stages of drivers; what a step is as a stage, and in halves
+//! - `specs/Nets.antt`: the drivers of the tasks, which stages they have, and what passes between
+//!   them
 //! - `specs/Stops.antt`, `specs/Faults.antt`: a run that something stopped, and a driver that
 //!   failed in it
 //! - `specs/Wholes.antt`: the whole run that a stopped one is the beginning of

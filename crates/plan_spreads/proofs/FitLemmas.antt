@@ -36,6 +36,7 @@ Fits r = FitsWidths (tree_of_run r)
 
 over_fits : (id source : ℕ) (o : run.Output) (tasks : ℕ) (root : RunPlan) → Fits root → Fits (one_over id source o tasks root)
 over_fits id source o tasks (run.aggregate half keys calls input) h = h
+over_fits id source o tasks (run.aggregate_parts half below p n keys calls input) h = h
 over_fits id source o tasks root h = h
 
 with_fits : (id : ℕ) (r : RunPlan) → Fits r → Fits (one_with id r)

@@ -3,7 +3,7 @@ use Rattle.std.proofs.Common.{◌≡◌, ℕ, ◌-◌, ◌<◌, List, length, Op
 use Rattle.std.specs.Prelude.{Result, Ok, Err, if◌then◌else◌}
 use Rattle.std.specs.Option.{ok_or, option_or}
 use Rattle.json_paths.specs.declared.key.Key.TheVariants as key
-use Rattle.sql_exprs.specs.Typing.{Path, under}
+use Rattle.sql_exprs.specs.Typing.{Path, typed_then, under}
 use Rattle.sql_exprs.proofs.TypingLemmas.{typed_then_ok}
 use Rattle.bag_laws.specs.Buckets.{AllBelow}
 use Rattle.plan_docs.specs.declared.plan.Output.{Output}
@@ -17,7 +17,7 @@ use Rattle.plan_types.specs.Nodes.{read_from}
 use Rattle.plan_run_laws.specs.RunPlans.{RunPlan}
 use Rattle.plan_run_laws.specs.RunPlans as run
 use Rattle.plan_run_laws.specs.Spreads as runs
-use Rattle.plan_run_laws.specs.Placements.{Placed, scan_whole, values_whole, values_every, remote_whole, filter_stays, project_whole, join_whole, aggregate_whole, final_whole, final_by, sort_whole, topn_whole, topn_parts_whole, limit_whole, limit_parts_whole, union_whole}
+use Rattle.plan_run_laws.specs.Placements.{Placed, scan_whole, values_whole, values_every, remote_whole, filter_stays, step_whole, join_whole, halves_whole, final_by, union_whole}
 use Rattle.plan_spreads.specs.declared.spread.RowSpread.{RowSpread}
 use Rattle.plan_spreads.specs.declared.spread.RowSpread.TheVariants.{Every}
 use Rattle.plan_spreads.specs.Halves.{Halved, aggregates, top_ns, limits, Meets}
@@ -42,6 +42,11 @@ pub record Made (input : Result RowSpread Path) (spread : RowSpread → Option R
 pub made : (path : Path) (input : Result RowSpread Path) (spread : RowSpread → Option RowSpread) (s : RowSpread) → over path input spread ≡ Ok s → Made input spread s
 made path (Ok below) spread s e = record { below = below; was = refl; gives = chosen (spread below) path s e }
 made path (Err p) spread s e = absurd cc
+
+-- what a filter has no say in stays
+stays : (input : Result RowSpread Path) (s : RowSpread) → typed_then input (λ below. Ok below) ≡ Ok s → input ≡ Ok s
+stays (Ok below) s e = e
+stays (Err p) s e = e
 
 none_some : (s : RowSpread) → None ≡ Some s → ⊥
 none_some s e = cc
@@ -82,7 +87,7 @@ module _ (first : ℕ) (later : List FragmentForm) (types : List RowTypes) (part
       subst (λ x. Placed 1 (node_run first parts (aggregate_final id x)) runs.whole) o.is
       (subst (λ r. Placed 1 (one_over id o.source part.output part.tasks r) runs.whole) (sym g.is)
       (subst (λ out. Placed 1 (run.aggregate_parts id o.source out part.tasks g.by_keys g.calls g.below) runs.whole) to
-      (final_whole g.reads.is_read g.reads.placed)))
+      (halves_whole g.reads.is_read g.reads.placed)))
 
   top_whole : (id : ℕ) (path : Path) (input : NodeForm) → Over first later top_ns input → misread placement.Single first later path input ≡ None
       → Placed 1 (node_run first parts (top_n_final id input)) runs.whole
@@ -93,7 +98,7 @@ module _ (first : ℕ) (later : List FragmentForm) (types : List RowTypes) (part
       subst (λ x. Placed 1 (node_run first parts (top_n_final id x)) runs.whole) o.is
       (subst (λ r. Placed 1 (one_over id o.source part.output part.tasks r) runs.whole) (sym g.is)
       (subst (λ out. Placed 1 (run.topn_parts id o.source out part.tasks g.count g.keys g.below) runs.whole) to
-      (topn_parts_whole g.reads.is_read g.reads.placed)))
+      (halves_whole g.reads.is_read g.reads.placed)))
 
   limited_whole : (id : ℕ) (path : Path) (input : NodeForm) → Over first later limits input → misread placement.Single first later path input ≡ None
       → Placed 1 (node_run first parts (limit_final id input)) runs.whole
@@ -104,7 +109,7 @@ module _ (first : ℕ) (later : List FragmentForm) (types : List RowTypes) (part
       subst (λ x. Placed 1 (node_run first parts (limit_final id x)) runs.whole) o.is
       (subst (λ r. Placed 1 (one_over id o.source part.output part.tasks r) runs.whole) (sym g.is)
       (subst (λ out. Placed 1 (run.limit_parts id o.source out part.tasks g.count g.below) runs.whole) to
-      (limit_parts_whole g.reads.is_read g.reads.placed)))
+      (halves_whole g.reads.is_read g.reads.placed)))
 
   -- one task may run any node
   pub single_placed : (path : Path) (node : NodeForm) → Meets first later node → misread placement.Single first later path node ≡ None
@@ -118,17 +123,17 @@ module _ (first : ℕ) (later : List FragmentForm) (types : List RowTypes) (part
       subst (λ out. Placed 1 (run.remote id out part.tasks part.root) runs.whole) (goes_single None path fragment r e)
       (remote_whole reads.is_read reads.placed)
   single_placed path (filter id predicate input) m e = filter_stays (single_placed (under path key.Input) input m e)
-  single_placed path (project id columns input) m e = project_whole (single_placed (under path key.Input) input m e)
+  single_placed path (project id columns input) m e = step_whole (single_placed (under path key.Input) input m e)
   single_placed path (join id kind on filters left right) m e =
       let l = misread placement.Single first later (under path key.Left) left in
       let r = misread placement.Single first later (under path key.Right) right in
       join_whole (single_placed (under path key.Left) left m.0 (left_none l r e)) (single_placed (under path key.Right) right m.1 (right_none l r e))
-  single_placed path (aggregate id step keys calls input) m e = aggregate_whole (single_placed (under path key.Input) input m.1 e)
+  single_placed path (aggregate id step keys calls input) m e = step_whole (single_placed (under path key.Input) input m.1 e)
   single_placed path (aggregate_final id input) m e = group_whole id (under path key.Input) input (over_half first later aggregates input m) e
-  single_placed path (sort id keys input) m e = sort_whole (single_placed (under path key.Input) input m e)
-  single_placed path (top_n id step count keys input) m e = topn_whole (single_placed (under path key.Input) input m.1 e)
+  single_placed path (sort id keys input) m e = step_whole (single_placed (under path key.Input) input m e)
+  single_placed path (top_n id step count keys input) m e = step_whole (single_placed (under path key.Input) input m.1 e)
   single_placed path (top_n_final id input) m e = top_whole id (under path key.Input) input (over_half first later top_ns input m) e
-  single_placed path (limit id step count input) m e = limit_whole (single_placed (under path key.Input) input m.1 e)
+  single_placed path (limit id step count input) m e = step_whole (single_placed (under path key.Input) input m.1 e)
   single_placed path (limit_final id input) m e = limited_whole id (under path key.Input) input (over_half first later limits input m) e
   single_placed path (union id left right) m e =
       let l = misread placement.Single first later (under path key.Left) left in
@@ -176,7 +181,9 @@ module _ (first : ℕ) (later : List FragmentForm) (types : List RowTypes) (part
         let same : Every ≡ s = cc e in subst (λ x. Placed n (run.values id kinds rows) (row_spread_view x)) same values_every
     node_placed path (remote id fragment) s m e =
         source_placed id path fragment s (has_read first later None fragment (fragment_read first later fragment) refl m) e
-    node_placed path (filter id predicate input) s m e = filter_stays (node_placed (under path key.Input) input s m e)
+    node_placed path (filter id predicate input) s m e =
+        let below = stays (spread_of p first later (under path key.Input) input) s e in
+        filter_stays (node_placed (under path key.Input) input s m below)
     node_placed path (project id columns input) s m e =
         let h = made path (spread_of p first later (under path key.Input) input) (project_spread columns) s e in
         project_placed n id columns (node_run first parts input) h.below s h.gives (node_placed (under path key.Input) input h.below m h.was)

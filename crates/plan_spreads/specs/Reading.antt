@@ -10,16 +10,8 @@ abbrev pub EachSource : (ℕ → Type 0) → NodeForm → Type 0
 EachSource P (node.scan id table columns types) = Unit {0}
 EachSource P (node.values id types rows) = Unit {0}
 EachSource P (node.remote id fragment) = P fragment
-EachSource P (node.filter id predicate input) = EachSource P input
-EachSource P (node.project id columns input) = EachSource P input
+EachSource P (node.step id operator input) = EachSource P input
 EachSource P (node.join id kind on filters left right) = EachSource P left × EachSource P right
-EachSource P (node.aggregate id step keys calls input) = EachSource P input
-EachSource P (node.aggregate_final id input) = EachSource P input
-EachSource P (node.sort id keys input) = EachSource P input
-EachSource P (node.top_n id step count keys input) = EachSource P input
-EachSource P (node.top_n_final id input) = EachSource P input
-EachSource P (node.limit id step count input) = EachSource P input
-EachSource P (node.limit_final id input) = EachSource P input
 EachSource P (node.union id left right) = EachSource P left × EachSource P right
 
 -- one of so many fragments from `first` on
@@ -36,16 +28,8 @@ abbrev pub reads_of : ℕ → NodeForm → ℕ
 reads_of number (node.scan id table columns types) = 0
 reads_of number (node.values id types rows) = 0
 reads_of number (node.remote id fragment) = if fragment == number then 1 else 0
-reads_of number (node.filter id predicate input) = reads_of number input
-reads_of number (node.project id columns input) = reads_of number input
+reads_of number (node.step id operator input) = reads_of number input
 reads_of number (node.join id kind on filters left right) = reads_of number left + reads_of number right
-reads_of number (node.aggregate id step keys calls input) = reads_of number input
-reads_of number (node.aggregate_final id input) = reads_of number input
-reads_of number (node.sort id keys input) = reads_of number input
-reads_of number (node.top_n id step count keys input) = reads_of number input
-reads_of number (node.top_n_final id input) = reads_of number input
-reads_of number (node.limit id step count input) = reads_of number input
-reads_of number (node.limit_final id input) = reads_of number input
 reads_of number (node.union id left right) = reads_of number left + reads_of number right
 
 abbrev pub reads_in : ℕ → List FragmentForm → ℕ

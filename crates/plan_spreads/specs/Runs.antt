@@ -44,12 +44,7 @@ abbrev pub one_over : ℕ → ℕ → run.Output → ℕ → RunPlan → RunPlan
 one_over id source o tasks (run.aggregate half keys calls input) = run.aggregate_parts id source o tasks keys calls input
 one_over id source o tasks (run.topn half count keys input) = run.topn_parts id source o tasks count keys input
 one_over id source o tasks (run.limit half count input) = run.limit_parts id source o tasks count input
-one_over id source o tasks (run.aggregate_parts half below p n keys calls input) =
-    run.aggregate_parts id source o tasks keys calls (run.remote below p n input)
-one_over id source o tasks (run.topn_parts half below p n count keys input) =
-    run.topn_parts id source o tasks count keys (run.remote below p n input)
-one_over id source o tasks (run.limit_parts half below p n count input) =
-    run.limit_parts id source o tasks count (run.remote below p n input)
+one_over id source o tasks (run.halves half below p n h input) = run.halves id source o tasks h (run.remote below p n input)
 one_over id source o tasks root = run.remote source o tasks root
 
 abbrev pub one_with : ℕ → RunPlan → RunPlan

@@ -4,12 +4,14 @@ use Rattle.std.specs.Option.{option_or}
 use Rattle.json_paths.specs.declared.key.Key.TheVariants as key
 use Rattle.sql_exprs.specs.Typing.{Path, under}
 use Rattle.plan_docs.specs.declared.node.NodeStep.{NodeStep}
-use Rattle.plan_docs.specs.declared.node.NodeStep.TheVariants as step
+use Rattle.plan_docs.specs.declared.node.NodeStep.TheVariants as half
 use Rattle.plan_docs.specs.declared.plan.Output.{Output}
 use Rattle.plan_docs.specs.declared.plan.Output.TheVariants as output
 use Rattle.plan_docs.specs.declared.plan.Placement.{Placement}
 use Rattle.plan_docs.specs.declared.plan.Placement.TheVariants as placement
-use Rattle.plan_docs.specs.Nodes.{NodeForm, scan, values, remote, filter, project, join, aggregate, aggregate_final, sort, top_n, top_n_final, limit, limit_final, union}
+use Rattle.plan_docs.specs.Nodes.{NodeForm, scan, values, remote, step, join, union}
+use Rattle.plan_docs.specs.Operators.{OperatorForm, part}
+use Rattle.plan_trees.specs.HalvedSteps as halved
 use Rattle.plan_docs.specs.Plans.{FragmentForm}
 
 -- a source reads a fragment after its own: `later` has those from `first` on
@@ -37,27 +39,23 @@ abbrev pub misread : Placement → ℕ → List FragmentForm → Path → NodeFo
 misread p first later path (scan id table columns types) = None
 misread p first later path (values id types rows) = None
 misread p first later path (remote id fragment) = source_fault p first later path fragment
-misread p first later path (filter id predicate input) = misread p first later (under path key.Input) input
-misread p first later path (project id columns input) = misread p first later (under path key.Input) input
+misread p first later path (step id operator input) = misread p first later (under path key.Input) input
 misread p first later path (join id kind on filters left right) =
     option_or (misread p first later (under path key.Left) left) (misread p first later (under path key.Right) right)
-misread p first later path (aggregate id step keys calls input) = misread p first later (under path key.Input) input
-misread p first later path (aggregate_final id input) = misread p first later (under path key.Input) input
-misread p first later path (sort id keys input) = misread p first later (under path key.Input) input
-misread p first later path (top_n id step count keys input) = misread p first later (under path key.Input) input
-misread p first later path (top_n_final id input) = misread p first later (under path key.Input) input
-misread p first later path (limit id step count input) = misread p first later (under path key.Input) input
-misread p first later path (limit_final id input) = misread p first later (under path key.Input) input
 misread p first later path (union id left right) =
     option_or (misread p first later (under path key.Left) left) (misread p first later (under path key.Right) right)
 
 -- the number of keys of a PARTIAL aggregate
 abbrev pub step_keys : NodeStep → List ℕ → ℕ
-step_keys step.Partial keys = length keys
-step_keys step.Single keys = 0
+step_keys half.Partial keys = length keys
+step_keys half.Single keys = 0
+
+abbrev pub operator_keys : OperatorForm → ℕ
+operator_keys (part w (halved.aggregate keys calls)) = step_keys w keys
+operator_keys operator = 0
 
 abbrev pub half_keys : NodeForm → ℕ
-half_keys (aggregate id step keys calls input) = step_keys step keys
+half_keys (step id operator input) = operator_keys operator
 half_keys node = 0
 
 abbrev pub root_keys : Option FragmentForm → ℕ

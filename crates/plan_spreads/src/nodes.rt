@@ -2,8 +2,9 @@ ghost use Rattle.std.specs.Prelude.{◌≡◌, map, Ok, IfOk, MatchResult};
 ghost use Rattle.std.specs.Option.{ok_or};
 ghost use Rattle.sql_exprs.specs.Typing.{MisfitAt};
 ghost use Rattle.plan_docs.specs.Nodes.{node_view};
+ghost use Rattle.plan_docs.specs.Operators.{operator_view};
 ghost use Rattle.plan_docs.specs.Plans.{fragment_view};
-ghost use Rattle.plan_spreads.specs.Nodes.{operator_spread, sides_spread, spread_of};
+ghost use Rattle.plan_spreads.specs.Nodes.{operator_spread, over_input, sides_spread, spread_of};
 ghost use Rattle.plan_spreads.specs.Operators.{remote_spread};
 ghost use Rattle.plan_spreads.specs.Sources.{fragment_read, output_of};
 
@@ -14,7 +15,7 @@ use crate::operators::{
 use crate::sources::{Reader, fragment_read, keys_read};
 use crate::spread::RowSpread;
 use json_paths::{Key, Step, then};
-use plan_docs::Node;
+use plan_docs::{Node, NodeOperator};
 use plan_types::refused_at;
 use sql_exprs::Misfit;
 use sql_values::Memory;
@@ -62,35 +63,64 @@ fn source_spread(
     placed(alloc, path, spread)
 }
 
-/// The spread of an operator over that of its one input.
+/// The spread of an operator, other than a filter, over that of its one input.
 fn operator_spread(
     alloc: Global,
     reader: &Reader<'_>,
-    node: &Node,
+    operator: &NodeOperator,
+    input: &Node,
     below: RowSpread,
 ) -> Result<Option<RowSpread>, Memory>
     ensures { IfOk result (λ s. s ≡ operator_spread reader.now.placement reader.now.first
-        (map fragment_view reader.now.later.now) (node_view node.now) below) }
+        (map fragment_view reader.now.later.now) (operator_view operator.now) (node_view input.now) below) }
 {
-    match node {
-        Node::Project { columns, .. } => project_spread(alloc, columns.as_slice(), below),
-        Node::Aggregate { step, keys, .. } => {
-            aggregate_spread(alloc, *step, keys.as_slice(), below)
+    match operator {
+        NodeOperator::Project { columns } => project_spread(alloc, columns.as_slice(), below),
+        NodeOperator::Aggregate { half, keys, .. } => {
+            aggregate_spread(alloc, *half, keys.as_slice(), below)
         }
-        Node::AggregateFinal { input, .. } => {
+        NodeOperator::AggregateFinal => {
             let keys = keys_read(reader, input);
             Ok(final_spread(reader.placement, keys, below))
         }
-        Node::TopN { step, .. } | Node::Limit { step, .. } => Ok(first_rows_spread(*step, below)),
-        Node::Scan { .. }
-        | Node::Values { .. }
-        | Node::Remote { .. }
-        | Node::Filter { .. }
-        | Node::Join { .. }
-        | Node::Sort { .. }
-        | Node::TopNFinal { .. }
-        | Node::LimitFinal { .. }
-        | Node::Union { .. } => Ok(None),
+        NodeOperator::TopN { half, .. } | NodeOperator::Limit { half, .. } => {
+            Ok(first_rows_spread(*half, below))
+        }
+        NodeOperator::Filter { .. }
+        | NodeOperator::Sort { .. }
+        | NodeOperator::TopNFinal
+        | NodeOperator::LimitFinal => Ok(None),
+    }
+}
+
+/// The spread of the rows of a node over one input at a path, where that of the input is known.
+fn step_spread(
+    alloc: Global,
+    reader: &Reader<'_>,
+    path: &[Step],
+    operator: &NodeOperator,
+    input: &Node,
+    below: RowSpread,
+) -> Result<RowSpread, Misfit>
+    ensures { MatchResult result
+        (λ s. over_input reader.now.placement reader.now.first (map fragment_view reader.now.later.now)
+        path.now (operator_view operator.now) (node_view input.now) below ≡ Ok s)
+        (MisfitAt (over_input reader.now.placement reader.now.first (map fragment_view reader.now.later.now)
+        path.now (operator_view operator.now) (node_view input.now) below)) }
+{
+    match operator {
+        NodeOperator::Filter { .. } => Ok(below),
+        NodeOperator::Project { .. }
+        | NodeOperator::Sort { .. }
+        | NodeOperator::Aggregate { .. }
+        | NodeOperator::AggregateFinal
+        | NodeOperator::TopN { .. }
+        | NodeOperator::TopNFinal
+        | NodeOperator::Limit { .. }
+        | NodeOperator::LimitFinal => {
+            let spread = operator_spread(alloc, reader, operator, input, below)?;
+            placed(alloc, path, spread)
+        }
     }
 }
 
@@ -101,18 +131,7 @@ fn sides_spread(node: &Node, left: RowSpread, right: RowSpread) -> Option<RowSpr
     match node {
         Node::Join { on, .. } => join_spread(on.as_slice(), left, right),
         Node::Union { .. } => union_spread(left, right),
-        Node::Scan { .. }
-        | Node::Values { .. }
-        | Node::Remote { .. }
-        | Node::Filter { .. }
-        | Node::Project { .. }
-        | Node::Aggregate { .. }
-        | Node::AggregateFinal { .. }
-        | Node::Sort { .. }
-        | Node::TopN { .. }
-        | Node::TopNFinal { .. }
-        | Node::Limit { .. }
-        | Node::LimitFinal { .. } => None,
+        Node::Scan { .. } | Node::Values { .. } | Node::Remote { .. } | Node::Step { .. } => None,
     }
 }
 
@@ -133,22 +152,14 @@ pub fn spread_of(
         Node::Scan { .. } => placed(alloc, path, scan_spread(reader.placement)),
         Node::Values { .. } => Ok(RowSpread::Every),
         Node::Remote { fragment, .. } => source_spread(alloc, reader, path, *fragment),
-        Node::Filter { input, .. } => {
-            let inner = then(alloc, path, Step::Key(Key::Input))?;
-            spread_of(alloc, reader, inner.as_slice(), input)
-        }
-        Node::Project { input, .. }
-        | Node::Aggregate { input, .. }
-        | Node::AggregateFinal { input, .. }
-        | Node::Sort { input, .. }
-        | Node::TopN { input, .. }
-        | Node::TopNFinal { input, .. }
-        | Node::Limit { input, .. }
-        | Node::LimitFinal { input, .. } => {
+        Node::Step {
+            operator,
+            input,
+            ..
+        } => {
             let inner = then(alloc, path, Step::Key(Key::Input))?;
             let below = spread_of(alloc, reader, inner.as_slice(), input)?;
-            let spread = operator_spread(alloc, reader, node, below)?;
-            placed(alloc, path, spread)
+            step_spread(alloc, reader, path, operator, input, below)
         }
         Node::Join { left, right, .. } | Node::Union { left, right, .. } => {
             let inner = then(alloc, path, Step::Key(Key::Left))?;

@@ -1,12 +1,13 @@
 ghost use Rattle.std.specs.Prelude.{◌≡◌, ◌-◌, map, None, MatchResult, option_map, unwrap_or};
 ghost use Rattle.plan_docs.specs.declared.plan.Output.TheVariants as output;
 ghost use Rattle.plan_docs.specs.Nodes.{node_view};
+ghost use Rattle.plan_docs.specs.Operators.{operator_view};
 ghost use Rattle.plan_docs.specs.Plans.{fragment_view};
 ghost use Rattle.plan_types.specs.Faults.{StandsIn};
-ghost use Rattle.plan_spreads.specs.Sources.{fits_reader, fragment_read, half_keys, keys_read, misread, output_of, root_keys, source_fault, step_keys};
+ghost use Rattle.plan_spreads.specs.Sources.{fits_reader, fragment_read, half_keys, keys_read, misread, operator_keys, output_of, root_keys, source_fault, step_keys};
 
 use json_paths::{Key, Step, then};
-use plan_docs::{Fragment, Node, NodeStep, Output, Placement};
+use plan_docs::{Fragment, Node, NodeOperator, NodeStep, Output, Placement};
 use plan_types::refused_at;
 use sql_exprs::Misfit;
 use std::alloc::Global;
@@ -93,15 +94,7 @@ pub fn pass_sources(
             let inner = then(alloc, path, Step::Key(Key::Right))?;
             pass_sources(alloc, reader, inner.as_slice(), right)
         }
-        Node::Filter { input, .. }
-        | Node::Project { input, .. }
-        | Node::Aggregate { input, .. }
-        | Node::AggregateFinal { input, .. }
-        | Node::Sort { input, .. }
-        | Node::TopN { input, .. }
-        | Node::TopNFinal { input, .. }
-        | Node::Limit { input, .. }
-        | Node::LimitFinal { input, .. } => {
+        Node::Step { input, .. } => {
             let inner = then(alloc, path, Step::Key(Key::Input))?;
             pass_sources(alloc, reader, inner.as_slice(), input)
         }
@@ -117,23 +110,24 @@ fn step_keys(step: NodeStep, keys: &[u32]) -> usize
     }
 }
 
+fn operator_keys(operator: &NodeOperator) -> usize
+    ensures { result ≡ operator_keys (operator_view operator.now) }
+{
+    match operator {
+        NodeOperator::Aggregate { half, keys, .. } => step_keys(*half, keys.as_slice()),
+        _ => 0,
+    }
+}
+
 fn half_keys(node: &Node) -> usize
     ensures { result ≡ half_keys (node_view node.now) }
 {
     match node {
-        Node::Aggregate { step, keys, .. } => step_keys(*step, keys.as_slice()),
+        Node::Step { operator, .. } => operator_keys(operator),
         Node::Scan { .. }
         | Node::Values { .. }
         | Node::Remote { .. }
-        | Node::Filter { .. }
-        | Node::Project { .. }
         | Node::Join { .. }
-        | Node::AggregateFinal { .. }
-        | Node::Sort { .. }
-        | Node::TopN { .. }
-        | Node::TopNFinal { .. }
-        | Node::Limit { .. }
-        | Node::LimitFinal { .. }
         | Node::Union { .. } => 0,
     }
 }
@@ -157,16 +151,8 @@ pub fn keys_read(reader: &Reader<'_>, input: &Node) -> usize
         Node::Remote { fragment, .. } => root_keys(reader, *fragment),
         Node::Scan { .. }
         | Node::Values { .. }
-        | Node::Filter { .. }
-        | Node::Project { .. }
+        | Node::Step { .. }
         | Node::Join { .. }
-        | Node::AggregateFinal { .. }
-        | Node::Sort { .. }
-        | Node::TopN { .. }
-        | Node::TopNFinal { .. }
-        | Node::Limit { .. }
-        | Node::LimitFinal { .. }
-        | Node::Union { .. }
-        | Node::Aggregate { .. } => 0,
+        | Node::Union { .. } => 0,
     }
 }

@@ -1,4 +1,4 @@
-use plan_docs::{Fragment, Node, NodeStep, Output, Placement, Plan, read_plan_doc};
+use plan_docs::{Fragment, Node, NodeOperator, NodeStep, Output, Placement, Plan, read_plan_doc};
 use serde_json::Value;
 use std::alloc::Global;
 use std::test::Fail;
@@ -19,13 +19,24 @@ fn read(alloc: Global, text: &str) -> Result<Plan, Fail> {
 fn is_first(fragment: &Fragment) -> bool {
     matches!(fragment.placement, Placement::Single)
         && matches!(fragment.output, Output::Result)
-        && matches!(fragment.root, Node::LimitFinal { id: 1, .. })
+        && is_final_limit(&fragment.root)
 }
 
 fn is_second(fragment: &Fragment) -> bool {
     matches!(fragment.placement, Placement::Source)
         && is_hash_of_one(&fragment.output)
         && is_partial_limit(&fragment.root)
+}
+
+fn is_final_limit(root: &Node) -> bool {
+    matches!(
+        root,
+        Node::Step {
+            id: 1,
+            operator: NodeOperator::LimitFinal,
+            ..
+        }
+    )
 }
 
 fn is_hash_of_one(output: &Output) -> bool {
@@ -35,10 +46,12 @@ fn is_hash_of_one(output: &Output) -> bool {
 fn is_partial_limit(root: &Node) -> bool {
     matches!(
         root,
-        Node::Limit {
+        Node::Step {
             id: 3,
-            step: NodeStep::Partial,
-            count: 9,
+            operator: NodeOperator::Limit {
+                half: NodeStep::Partial,
+                count: 9,
+            },
             ..
         }
     )

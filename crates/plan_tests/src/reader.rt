@@ -6,6 +6,7 @@ use cases::{CASES, GROUPED, P1, P2, P3, ROOTS, SCAN, SEVERAL, SMALL, WHOLE};
 use filters::{ACROSS, ALONE, SOURCES, STEPS};
 use plan_docs::{Plan, read_plan_doc};
 use plan_reader::{Tree, read_plan, tree};
+use plan_trees::TreeStep;
 use serde_json::Value;
 use std::alloc::Global;
 use std::test::Fail;
@@ -162,7 +163,11 @@ fn document_of(alloc: Global, quoted: &str) -> Result<Value, Fail> {
 /// Whether the tree is a whole aggregate over what a fragment gives of a scan.
 fn is_global_sum(tree: &Tree) -> bool {
     match tree {
-        Tree::Aggregate { id: 1, input, .. } => is_remote_scan(input),
+        Tree::Step {
+            id: 1,
+            step: TreeStep::Aggregate { .. },
+            input,
+        } => is_remote_scan(input),
         _ => false,
     }
 }
@@ -194,7 +199,14 @@ fn is_remote_grouping(tree: &Tree) -> bool {
 }
 
 fn is_grouping(tree: &Tree) -> bool {
-    matches!(tree, Tree::Aggregate { id: 2, .. })
+    matches!(
+        tree,
+        Tree::Step {
+            id: 2,
+            step: TreeStep::Aggregate { .. },
+            ..
+        }
+    )
 }
 
 #[test]

@@ -1,5 +1,5 @@
 //! The types of trees, from the sums and joins of a small report.
-use plan_trees::{CallList, Pair, Pairs, Tree, types_of_tree};
+use plan_trees::{CallList, Pair, Pairs, Tree, TreeStep, types_of_tree};
 use sql_exprs::Expr;
 use sql_values::{Call, JoinKind, Memory, Places, SqlType, Types};
 use std::alloc::Global;
@@ -78,13 +78,9 @@ fn is_report(
     want: &[SqlType],
 ) -> Result<bool, Memory> {
     let keys = places(alloc, &[1])?;
-    let tree = Tree::Aggregate {
-        id: 0,
-        keys,
-        calls: CallList::of(Vec::from_slice(alloc, calls)?),
-        input,
-    };
-    has_types(alloc, &tree, want)
+    let calls = CallList::of(Vec::from_slice(alloc, calls)?);
+    let step = TreeStep::Aggregate { keys, calls };
+    has_types(alloc, &Tree::Step { id: 0, step, input }, want)
 }
 
 #[test]
@@ -113,12 +109,8 @@ fn is_project(alloc: Global, input: Box<Tree>, want: &[SqlType]) -> Result<bool,
     let mut columns = Vec::new(alloc);
     columns.push(Expr::Column(4))?;
     columns.push(Expr::Null(SqlType::Boolean))?;
-    let tree = Tree::Project {
-        id: 0,
-        columns,
-        input,
-    };
-    has_types(alloc, &tree, want)
+    let step = TreeStep::Project { columns };
+    has_types(alloc, &Tree::Step { id: 0, step, input }, want)
 }
 
 #[test]

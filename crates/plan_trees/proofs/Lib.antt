@@ -1,7 +1,12 @@
 pub mod WorkedRows
 pub mod SubBagLemmas
+pub mod FrontLemmas
+pub mod CalmLemmas
+pub mod JudgeLemmas
+pub mod StepLemmas
 pub mod GivenLemmas
 pub mod ModeLemmas
 pub mod BeginningLemmas
 pub mod TableLemmas
 pub mod WidthLemmas
+pub mod StepMeanings

@@ -3,7 +3,7 @@ use Rattle.std.proofs.Common.{List}
 use Rattle.std.proofs.lemmas.List.Sorted.{IsPermutation-map, IsPermutation-sym, IsPermutation-trans}
 use Rattle.sql_values.specs.declared.value.Value.{Value}
 use Rattle.sql_values.specs.Cells.{cut}
-use Rattle.plan_trees.specs.TreeForms.{TreeForm, scan, values, remote, filter, project, join, aggregate, sort, topn, limit, union}
+use Rattle.plan_trees.specs.TreeForms.{TreeForm, scan, values, remote, step, join, union}
 use Rattle.plan_trees.specs.Allowed.{Gives, Mode, scanned, table_rows}
 use Rattle.plan_trees.specs.Laws.{SameTables}
 
@@ -16,11 +16,6 @@ module _ (mode : Mode) (tables others : List (List (List Value))) (same : SameTa
       h
   other_tables (values id types constants) rows h = h
   other_tables (remote id input) rows (a, h, is) = (a, other_tables input a h, is)
-  other_tables (filter id predicate input) rows (a, h, judged) = (a, other_tables input a h, judged)
-  other_tables (project id columns input) rows (a, h, judged) = (a, other_tables input a h, judged)
+  other_tables (step id s input) rows (a, h, gives) = (a, other_tables input a h, gives)
   other_tables (join id kind on left right) rows (a, b, h, k, is) = (a, b, other_tables left a h, other_tables right b k, is)
-  other_tables (aggregate id keys calls input) rows (a, h, taken) = (a, other_tables input a h, taken)
-  other_tables (sort id keys input) rows (a, h, sorted) = (a, other_tables input a h, sorted)
-  other_tables (topn id count keys input) rows (a, s, h, sorted, is) = (a, s, other_tables input a h, sorted, is)
-  other_tables (limit id count input) rows (a, h, is) = (a, other_tables input a h, is)
   other_tables (union id left right) rows (a, b, h, k, is) = (a, b, other_tables left a h, other_tables right b k, is)

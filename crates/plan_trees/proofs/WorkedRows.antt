@@ -1,5 +1,5 @@
 -- What trees allow, on rows that were worked out by hand.
-use Rattle.std.proofs.Common.{◌≡◌, ℕ, List, [], ◌∷◌, refl, ap, arith, inl, inr, length, length-take, map, take}
+use Rattle.std.proofs.Common.{◌≡◌, ℕ, List, [], ◌∷◌, refl, ap, ◌∙◌, arith, inl, inr, length, length-take, map, take}
 use Rattle.std.specs.Prelude.{pos, negsuc}
 use Rattle.std.proofs.lemmas.List.Sorted.{IsPermutation-cons, IsPermutation-middle, IsPermutation-refl, IsPermutation-trans}
 use Rattle.sql_values.specs.declared.types.SqlType.TheVariants as type
@@ -52,7 +52,7 @@ nothing_is_allowed rows (a, same, judged) =
 -- the filter may fail with this kind on that row, and in no other way on no row
 the_filter_may_fail : MayFail (filter 1 divides ones) (one_zero ∷ []) 1 DivisionByZero
 the_filter_may_fail =
-    inl (refl, record { given = one_zero; row = Bigint (pos 0) ∷ []; may = ([], IsPermutation-refl one_zero); among = (0, omega arith, refl); so = refl })
+    inl (refl, record { given = one_zero; may = ([], IsPermutation-refl one_zero); so = (Bigint (pos 0) ∷ [], (0, omega arith, refl), refl) })
 
 nothing_may_fail_elsewhere : (kind : Fail) → ¬ MayFail (filter 1 divides ones) (one_zero ∷ []) 2 kind
 nothing_may_fail_elsewhere kind (inl (is, on)) = absurd (omega (arith, is))
@@ -131,28 +131,32 @@ one_with_y : Allows first_two (in_table ∷ []) (marked 1 120 ∷ marked 2 121 �
 unfolding test_ordered test_before
 one_with_y = (
   in_table,
-  marked 1 120 ∷ marked 2 121 ∷ marked 2 122 ∷ [],
   IsPermutation-refl in_table,
   record {
-    same = IsPermutation-middle (marked 2 121 ∷ []) (marked 1 120) (marked 2 122 ∷ []);
-    ordered = sorted_by_test up (marked 1 120 ∷ marked 2 121 ∷ marked 2 122 ∷ []) refl;
+    order = marked 1 120 ∷ marked 2 121 ∷ marked 2 122 ∷ [];
+    sorted = record {
+      same = IsPermutation-middle (marked 2 121 ∷ []) (marked 1 120) (marked 2 122 ∷ []);
+      ordered = sorted_by_test up (marked 1 120 ∷ marked 2 121 ∷ marked 2 122 ∷ []) refl;
+    };
+    is = refl;
   },
-  refl,
 )
 
 one_with_z : Allows first_two (in_table ∷ []) (marked 1 120 ∷ marked 2 122 ∷ [])
 unfolding test_ordered test_before
 one_with_z = (
   in_table,
-  marked 1 120 ∷ marked 2 122 ∷ marked 2 121 ∷ [],
   IsPermutation-refl in_table,
   record {
-    same = IsPermutation-trans in_table (marked 1 120 ∷ marked 2 121 ∷ marked 2 122 ∷ []) (marked 1 120 ∷ marked 2 122 ∷ marked 2 121 ∷ [])
-        (IsPermutation-middle (marked 2 121 ∷ []) (marked 1 120) (marked 2 122 ∷ []))
-        (IsPermutation-cons (marked 1 120) (marked 2 121 ∷ marked 2 122 ∷ []) (marked 2 122 ∷ marked 2 121 ∷ []) (IsPermutation-middle (marked 2 121 ∷ []) (marked 2 122) []));
-    ordered = sorted_by_test up (marked 1 120 ∷ marked 2 122 ∷ marked 2 121 ∷ []) refl;
+    order = marked 1 120 ∷ marked 2 122 ∷ marked 2 121 ∷ [];
+    sorted = record {
+      same = IsPermutation-trans in_table (marked 1 120 ∷ marked 2 121 ∷ marked 2 122 ∷ []) (marked 1 120 ∷ marked 2 122 ∷ marked 2 121 ∷ [])
+          (IsPermutation-middle (marked 2 121 ∷ []) (marked 1 120) (marked 2 122 ∷ []))
+          (IsPermutation-cons (marked 1 120) (marked 2 121 ∷ marked 2 122 ∷ []) (marked 2 122 ∷ marked 2 121 ∷ []) (IsPermutation-middle (marked 2 121 ∷ []) (marked 2 122) []));
+      ordered = sorted_by_test up (marked 1 120 ∷ marked 2 122 ∷ marked 2 121 ∷ []) refl;
+    };
+    is = refl;
   },
-  refl,
 )
 
 -- a limit that was stopped gave no more rows than its count
@@ -160,5 +164,5 @@ abbrev one_and_two : List (List Value)
 one_and_two = (Bigint (pos 1) ∷ []) ∷ (Bigint (pos 2) ∷ []) ∷ []
 
 a_stopped_limit_gives_no_more : ¬ MayHaveGiven (limit 1 1 ones) (one_and_two ∷ []) one_and_two
-a_stopped_limit_gives_no_more (a, may, same) =
-    let two : 2 ≡ length (take 1 a) = ap length same in absurd (omega (arith, two, length-take 1 a))
+a_stopped_limit_gives_no_more (a, b, may, first, same) =
+    let two : 2 ≡ length (take 1 a) = ap length (same ∙ first) in absurd (omega (arith, two, length-take 1 a))

@@ -1,6 +1,10 @@
+pub mod CallKinds
+pub mod Judges
+pub mod Modes
+pub mod Steps
+pub mod HalvedSteps
 pub mod TreeForms
 pub mod TreeTypes
-pub mod Judges
 pub mod Allowed
 pub mod Stopped
 pub mod Laws

@@ -23,6 +23,8 @@ pub use laws::{
     tables_have_no_order, whole_lists_may_have_been_given,
 };
 pub use layouts::{layout_of, partial_types};
-pub use tree::{CallList, KeyList, Pair, Pairs, Tree};
-pub use tree_types::{append_call_types, append_key_types, grouped_types, types_of_tree};
+pub use tree::{CallList, KeyList, Pair, Pairs, Tree, TreeStep};
+pub use tree_types::{
+    append_call_types, append_key_types, grouped_types, types_after, types_of_tree,
+};
 pub use type_lists::{append_types, are_same, copy_types, type_at};

@@ -16,6 +16,17 @@ pub type KeyList = Items<KeySpec>;
 /// Calls of aggregates.
 pub type CallList = Items<Call>;
 
+/// What a node of one input makes of its rows.
+#[derive(Drop)]
+pub enum TreeStep {
+    Filter { predicate: Expr },
+    Project { columns: ExprList },
+    Aggregate { keys: Places, calls: CallList },
+    Sort { keys: KeyList },
+    TopN { count: u32, keys: KeyList },
+    Limit { count: u32 },
+}
+
 /// An operator over the rows of its inputs. Each has the id of its node in the plan.
 #[derive(Drop)]
 pub enum Tree {
@@ -36,14 +47,9 @@ pub enum Tree {
         id: u32,
         input: Box<Tree>,
     },
-    Filter {
+    Step {
         id: u32,
-        predicate: Expr,
-        input: Box<Tree>,
-    },
-    Project {
-        id: u32,
-        columns: ExprList,
+        step: TreeStep,
         input: Box<Tree>,
     },
     Join {
@@ -52,28 +58,6 @@ pub enum Tree {
         on: Pairs,
         left: Box<Tree>,
         right: Box<Tree>,
-    },
-    Aggregate {
-        id: u32,
-        keys: Places,
-        calls: CallList,
-        input: Box<Tree>,
-    },
-    Sort {
-        id: u32,
-        keys: KeyList,
-        input: Box<Tree>,
-    },
-    TopN {
-        id: u32,
-        count: u32,
-        keys: KeyList,
-        input: Box<Tree>,
-    },
-    Limit {
-        id: u32,
-        count: u32,
-        input: Box<Tree>,
     },
     Union {
         id: u32,

@@ -2,10 +2,10 @@ ghost use Rattle.std.specs.Prelude.{◌≡◌, ◌++◌, map, IfOk, OnOk};
 ghost use Rattle.sql_functions.specs.CallTypes.{type_at};
 ghost use Rattle.sql_exprs.specs.Forms.{form_view};
 ghost use Rattle.sql_exprs.specs.Meaning.{kind_of};
-ghost use Rattle.plan_trees.specs.TreeTypes.{call_kind, sum_kind, types_of};
-ghost use Rattle.plan_trees.specs.TreeForms.{tree_view};
+ghost use Rattle.plan_trees.specs.TreeTypes.{call_kind, sum_kind, types_after, types_of};
+ghost use Rattle.plan_trees.specs.TreeForms.{step_view, tree_view};
 
-use crate::tree::Tree;
+use crate::tree::{Tree, TreeStep};
 use crate::type_lists::{append_types, copy_types, type_at};
 use sql_exprs::{Expr, kind_of};
 use sql_values::{Call, Memory, SqlType, Types};
@@ -19,10 +19,9 @@ pub fn types_of_tree(alloc: Global, tree: &Tree) -> Result<Types, Memory>
         Tree::Scan { types, .. } => copy_types(alloc, types.as_slice()),
         Tree::Values { types, .. } => copy_types(alloc, types.as_slice()),
         Tree::Remote { input, .. } => types_of_tree(alloc, input),
-        Tree::Filter { input, .. } => types_of_tree(alloc, input),
-        Tree::Project { columns, input, .. } => {
+        Tree::Step { step, input, .. } => {
             let types = types_of_tree(alloc, input)?;
-            column_types(alloc, types.as_slice(), columns.as_slice())
+            types_after(alloc, step, types.as_slice())
         }
         Tree::Join { left, right, .. } => {
             let mut types = types_of_tree(alloc, left)?;
@@ -30,19 +29,20 @@ pub fn types_of_tree(alloc: Global, tree: &Tree) -> Result<Types, Memory>
             append_types(&mut types, right.as_slice())?;
             Ok(types)
         }
-        Tree::Aggregate {
-            keys,
-            calls,
-            input,
-            ..
-        } => {
-            let input = types_of_tree(alloc, input)?;
-            grouped_types(alloc, input.as_slice(), keys.as_slice(), calls.as_slice())
-        }
-        Tree::Sort { input, .. } => types_of_tree(alloc, input),
-        Tree::TopN { input, .. } => types_of_tree(alloc, input),
-        Tree::Limit { input, .. } => types_of_tree(alloc, input),
         Tree::Union { left, .. } => types_of_tree(alloc, left),
+    }
+}
+
+/// The types of what a step makes of rows of these types.
+pub fn types_after(alloc: Global, step: &TreeStep, types: &[SqlType]) -> Result<Types, Memory>
+    ensures { IfOk result (λ ts. ts ≡ types_after (step_view step.now) types.now) }
+{
+    match step {
+        TreeStep::Project { columns } => column_types(alloc, types, columns.as_slice()),
+        TreeStep::Aggregate { keys, calls } => {
+            grouped_types(alloc, types, keys.as_slice(), calls.as_slice())
+        }
+        _ => copy_types(alloc, types),
     }
 }
 

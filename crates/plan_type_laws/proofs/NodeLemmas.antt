@@ -121,15 +121,15 @@ module _ (docs : List TableDoc) (tables : List Table) (own : HaveColumns docs ta
   node_kept reads known (values id types rows) made names = λ fit. names fit.1
   node_kept reads known (remote id fragment) made names = known fragment
   node_kept reads known (filter id predicate input) made names = λ fit. (names.0, node_kept reads known input made names.1 fit.1)
-  node_kept reads known (project id columns input) made names = λ fit. (names.0, node_kept reads known input made.1 names.1 fit.2)
+  node_kept reads known (project id columns input) made names = λ fit. (names.0, node_kept reads known input made.1 names.1 fit.1)
   node_kept reads known (join id kind on filters left right) made names =
       λ fit. (node_kept reads known left made.0 names.0 fit.0, node_kept reads known right made.1 names.1 fit.1)
-  node_kept reads known (aggregate id half keys calls input) made names = λ fit. node_kept reads known input made.1 names fit.2
+  node_kept reads known (aggregate id half keys calls input) made names = λ fit. (tt, node_kept reads known input made.1 names fit.1)
   node_kept reads known (aggregate_final id input) made names = whole_kept views id (node_tree reads input) (node_kept reads known input made names)
-  node_kept reads known (sort id keys input) made names = node_kept reads known input made names
-  node_kept reads known (top_n id half count keys input) made names = node_kept reads known input made names
+  node_kept reads known (sort id keys input) made names = λ fit. (tt, node_kept reads known input made names fit.1)
+  node_kept reads known (top_n id half count keys input) made names = λ fit. (tt, node_kept reads known input made names fit.1)
   node_kept reads known (top_n_final id input) made names = whole_kept views id (node_tree reads input) (node_kept reads known input made names)
-  node_kept reads known (limit id half count input) made names = node_kept reads known input made names
+  node_kept reads known (limit id half count input) made names = λ fit. (tt, node_kept reads known input made names fit.1)
   node_kept reads known (limit_final id input) made names = whole_kept views id (node_tree reads input) (node_kept reads known input made names)
   node_kept reads known (union id left right) made names =
       λ fit. (node_kept reads known left made.0 names.0 fit.1, node_kept reads known right made.1 names.1 fit.2)

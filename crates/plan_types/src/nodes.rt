@@ -1,14 +1,15 @@
 ghost use Rattle.std.specs.Prelude.{◌≡◌, Ok, IfOk, MatchResult};
 ghost use Rattle.sql_exprs.specs.Typing.{MisfitAt};
 ghost use Rattle.plan_docs.specs.Nodes.{node_view};
-ghost use Rattle.plan_types.specs.Nodes.{node_types, read_from};
+ghost use Rattle.plan_docs.specs.Operators.{operator_view};
+ghost use Rattle.plan_types.specs.Nodes.{node_types, operator_types, read_from};
 
 use crate::operators::{
     aggregate_types, filter_types, join_types, project_types, sort_types, union_types, values_types,
 };
 use crate::row_types::{RowTypes, plain, whole_of};
 use json_paths::{Key, Step, then};
-use plan_docs::Node;
+use plan_docs::{Node, NodeOperator};
 use plan_trees::copy_types;
 use sql_exprs::Misfit;
 use sql_values::{Memory, Types};
@@ -32,6 +33,38 @@ fn read_from(alloc: Global, later: &Later<'_>, fragment: u32) -> Result<RowTypes
     }
 }
 
+/// The types of what an operator makes of rows of these types. The path is that of its node.
+fn operator_types(
+    alloc: Global,
+    path: &[Step],
+    operator: &NodeOperator,
+    input: RowTypes,
+) -> Result<RowTypes, Misfit>
+    ensures { MatchResult result
+        (λ t. operator_types path.now (operator_view operator.now) input ≡ Ok t)
+        (MisfitAt (operator_types path.now (operator_view operator.now) input)) }
+{
+    match operator {
+        NodeOperator::Filter { predicate } => filter_types(alloc, path, predicate, input),
+        NodeOperator::Project { columns } => project_types(alloc, path, columns.as_slice(), input),
+        NodeOperator::Aggregate { half, keys, calls } => aggregate_types(
+            alloc,
+            path,
+            *half,
+            keys.as_slice(),
+            calls.as_slice(),
+            &input,
+        ),
+        NodeOperator::AggregateFinal => Ok(plain(whole_of(input))),
+        NodeOperator::Sort { keys } | NodeOperator::TopN { keys, .. } => {
+            sort_types(alloc, path, keys.as_slice(), input)
+        }
+        NodeOperator::TopNFinal | NodeOperator::Limit { .. } | NodeOperator::LimitFinal => {
+            Ok(plain(input.columns))
+        }
+    }
+}
+
 /// The types of the rows of the node at a path.
 pub fn node_types(
     alloc: Global,
@@ -43,22 +76,18 @@ pub fn node_types(
         (λ t. node_types later.now.first later.now.types.now path.now (node_view node.now) ≡ Ok t)
         (MisfitAt (node_types later.now.first later.now.types.now path.now (node_view node.now))) }
 {
-    let under = then(alloc, path, Step::Key(Key::Input))?;
     match node {
         Node::Scan { types, .. } => Ok(plain(copy_types(alloc, types.as_slice())?)),
         Node::Values { types, rows, .. } => values_types(alloc, path, types.as_slice(), rows),
         Node::Remote { fragment, .. } => Ok(read_from(alloc, later, *fragment)?),
-        Node::Filter {
-            predicate,
+        Node::Step {
+            operator,
             input,
             ..
         } => {
-            let input = node_types(alloc, later, under.as_slice(), input)?;
-            filter_types(alloc, path, predicate, input)
-        }
-        Node::Project { columns, input, .. } => {
-            let input = node_types(alloc, later, under.as_slice(), input)?;
-            project_types(alloc, path, columns.as_slice(), input)
+            let inner = then(alloc, path, Step::Key(Key::Input))?;
+            let input = node_types(alloc, later, inner.as_slice(), input)?;
+            operator_types(alloc, path, operator, input)
         }
         Node::Join {
             on,
@@ -71,47 +100,6 @@ pub fn node_types(
             let inner = then(alloc, path, Step::Key(Key::Right))?;
             let right = node_types(alloc, later, inner.as_slice(), right)?;
             join_types(alloc, path, on.as_slice(), left, right)
-        }
-        Node::Aggregate {
-            step,
-            keys,
-            calls,
-            input,
-            ..
-        } => {
-            let input = node_types(alloc, later, under.as_slice(), input)?;
-            aggregate_types(
-                alloc,
-                path,
-                *step,
-                keys.as_slice(),
-                calls.as_slice(),
-                &input,
-            )
-        }
-        Node::AggregateFinal { input, .. } => {
-            let input = node_types(alloc, later, under.as_slice(), input)?;
-            Ok(plain(whole_of(input)))
-        }
-        Node::Sort { keys, input, .. } => {
-            let input = node_types(alloc, later, under.as_slice(), input)?;
-            sort_types(alloc, path, keys.as_slice(), input)
-        }
-        Node::TopN { keys, input, .. } => {
-            let input = node_types(alloc, later, under.as_slice(), input)?;
-            sort_types(alloc, path, keys.as_slice(), input)
-        }
-        Node::TopNFinal { input, .. } => {
-            let input = node_types(alloc, later, under.as_slice(), input)?;
-            Ok(plain(input.columns))
-        }
-        Node::Limit { input, .. } => {
-            let input = node_types(alloc, later, under.as_slice(), input)?;
-            Ok(plain(input.columns))
-        }
-        Node::LimitFinal { input, .. } => {
-            let input = node_types(alloc, later, under.as_slice(), input)?;
-            Ok(plain(input.columns))
         }
         Node::Union { left, right, .. } => {
             let inner = then(alloc, path, Step::Key(Key::Left))?;

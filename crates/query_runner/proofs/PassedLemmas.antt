@@ -10,7 +10,7 @@ use Rattle.plan_reader.specs.Trees.{tree_of}
 use Rattle.plan_trees.specs.Allowed.{Allows}
 use Rattle.net_closing.specs.declared.counts.FilterPassed.{FilterPassed}
 use Rattle.task_executor.specs.Nets.{FailsFor, IsNetOf, NetState}
-use Rattle.filter_net_laws.specs.PlanCounts.{AreCountable}
+use Rattle.task_executor.specs.PlanCounts.{AreCountable}
 use Rattle.task_executor.specs.Passed.{AreCountsIn, HavePassed}
 use Rattle.task_executor.specs.Shapes.{AreFew}
 use Rattle.task_executor.specs.declared.answer.RunDone.{RunDone}

@@ -11,7 +11,7 @@ use Rattle.sql_values.specs.declared.table.Table.{Table}
 use Rattle.std.proofs.lemmas.List.{map-append}
 use Rattle.std.proofs.lemmas.List.Elements.{All-push}
 use Rattle.col_pages.specs.Fits.{AllFit}
-use Rattle.plan_fit_laws.specs.Tables.{HaveColumns}
+use Rattle.task_executor.specs.Tables.{HaveColumns}
 use Rattle.sql_values.specs.Columns.{kinds}
 use Rattle.tree_evaluator.specs.Fits.{TablesFit}
 use Rattle.task_executor.specs.Shapes.{AreFew}

@@ -14,11 +14,11 @@ use Rattle.csv_tables.proofs.FitLemmas.{table_has_types}
 use Rattle.command_line.specs.Words.{Job}
 use Rattle.sql_values.specs.Columns.{kinds}
 use Rattle.tree_evaluator.specs.Fits.{TablesFit}
-use Rattle.plan_fit_laws.specs.Tables.{HaveColumns, WasRead}
+use Rattle.task_executor.specs.Tables.{HaveColumns, WasRead}
 use Rattle.plan_link_laws.proofs.DocumentLemmas.{read_consistent}
-use Rattle.plan_fit_laws.proofs.ConsistentLemmas.{consistent_fits}
-use Rattle.tree_type_laws.specs.TypedTrees.{HaveTypes}
-use Rattle.tree_type_laws.proofs.TreeLemmas.{rows_keep}
+use Rattle.task_executor.proofs.ConsistentLemmas.{consistent_fits}
+use Rattle.plan_type_laws.specs.TypedTrees.{HaveTypes}
+use Rattle.plan_type_laws.proofs.TreeLemmas.{rows_keep}
 use Rattle.plan_type_laws.specs.Tables.{TablesTyped}
 use Rattle.plan_type_laws.proofs.PlanLemmas.{declared_types, plan_typed}
 use Rattle.query_runner.specs.Jobs.{AreTablesAsked, Contents, row_limit}

@@ -6,7 +6,7 @@ ghost use Rattle.col_pages.specs.Fits.{AllFit};
 ghost use Rattle.task_executor.specs.Shapes.{AreFew};
 ghost use Rattle.sql_values.specs.Columns.{kinds};
 ghost use Rattle.tree_evaluator.specs.Fits.{TablesFit};
-ghost use Rattle.plan_fit_laws.specs.Tables.{HaveColumns, WasRead};
+ghost use Rattle.task_executor.specs.Tables.{HaveColumns, WasRead};
 ghost use Rattle.query_runner.specs.Jobs.{AreTablesAsked, first_without_file, IsPlanAsked, IsTableAsked};
 ghost use Rattle.tree_evaluator.specs.Stops.{rows_of_table};
 ghost use Rattle.query_runner.specs.Loading.{FilesFail, PlanFails, name_path, ReadFails, TableFails, TablesFail};

@@ -1,7 +1,7 @@
 //! The text of what a plan gives over its tables: on the workers of a shape, or on one thread under picks.
 ghost use Rattle.std.specs.Prelude.{map, MatchResult};
 ghost use Rattle.plan_docs.specs.Plans.{plan_view};
-ghost use Rattle.plan_fit_laws.specs.Tables.{HaveColumns, WasRead};
+ghost use Rattle.task_executor.specs.Tables.{HaveColumns, WasRead};
 ghost use Rattle.plan_reader.specs.Trees.{tree_of};
 ghost use Rattle.plan_trees.specs.Allowed.{Allows};
 ghost use Rattle.task_executor.specs.Nets.{FailsFor};

@@ -1,7 +1,7 @@
 ghost use Rattle.std.specs.Prelude.{◌≡◌, ◌⊎◌, ◌≤◌, ℕ, [], map, None, Some, Ok, Err, IfOk, IfErr, MatchResult};
 ghost use Rattle.plan_docs.specs.Plans.{plan_view};
 ghost use Rattle.command_line.specs.Words.{HasBounds, Job as Asked, asked, job_of, no_job};
-ghost use Rattle.plan_fit_laws.specs.Tables.{HaveColumns, WasRead};
+ghost use Rattle.task_executor.specs.Tables.{HaveColumns, WasRead};
 ghost use Rattle.task_executor.specs.Shapes.{IsShape};
 ghost use Rattle.tree_evaluator.specs.Fits.{TablesFit};
 ghost use Rattle.query_runner.specs.Answers.{Answered, AreCountsAsked, IsComplete, IsResult, IsTextOf, JobAnswered, PlanAnswered, Told, ToldAsked, demo_of, heard_on, seen_for, seen_of, status_of, status_of_words};

@@ -5,19 +5,18 @@ use Rattle.std.proofs.lemmas.Bool.{lt-ltb}
 use Rattle.std.proofs.lemmas.List.Elements.{Contains-append_cases, Contains-append_left, Contains-append_right, Contains-push}
 use Rattle.sql_values.specs.declared.relational.JoinKind.{JoinKind}
 use Rattle.sql_values.specs.declared.relational.JoinKind.TheVariants.{Inner}
-use Rattle.sql_exprs.specs.Calm.{is_calm}
 use Rattle.plan_trees.specs.Allowed.{width_of}
 use Rattle.plan_trees.specs.TreeTypes.{types_of}
 use Rattle.column_origins.specs.declared.origin.Origin.{Origin}
-use Rattle.column_origins.specs.Origins.{left_column, origin_of, passed_column}
+use Rattle.column_origins.specs.Origins.{left_column, origin_of}
 use Rattle.plan_run_laws.specs.RunPlans.{RunPlan, tree_of_run}
 use Rattle.plan_run_laws.specs.RunPlans as plan
 use Rattle.lost_row_laws.specs.Arrivals.{arriving}
-use Rattle.lost_row_laws.specs.Sieves.{Sieve, if_calm, over_input}
+use Rattle.lost_row_laws.specs.Sieves.{Sieve, over_input, under}
 use Rattle.lost_row_laws.proofs.ArrivalLemmas.{comes_down, moved_down, nothing}
 use Rattle.lost_row_laws.specs.Runs.{AreTyped}
 use Rattle.sieve_laws.specs.ComingDown.{ComeDown, HasJoin, HaveApart, ScansApart, scans_of}
-use Rattle.sieve_laws.proofs.WithinLemmas.{StandBelow, calm_below, left_below, none_below, over_below, passed_below}
+use Rattle.sieve_laws.proofs.WithinLemmas.{StandBelow, left_below, none_below, over_below, under_below}
 
 same_number : (n : ℕ) → n == n ≡ true
 same_number n = grind arith
@@ -46,18 +45,11 @@ module _ (own : ℕ → List Sieve) (s : Sieve) (place : ℕ) where
   arrives (plan.scan id table columns types) sieves there = at_scan id sieves (id == place) refl there
   arrives (plan.values id types rows) sieves there = absurd (nothing s there)
   arrives (plan.remote id output m input) sieves there = arrives input sieves there
-  arrives (plan.filter id predicate input) sieves there = arrives input (if_calm (is_calm (types_of (tree_of_run input)) predicate) sieves) there
-  arrives (plan.project id columns input) sieves there = arrives input (over_input (passed_column (types_of (tree_of_run input)) columns) sieves) there
   arrives (plan.join id kind on left right) sieves there =
       let down = over_input (left_column kind (width_of (tree_of_run left))) (own id ++ sieves) in
       on_either left right (arriving own down left place) (arriving own [] right place) (λ there. arrives left down there) (λ there. arrives right [] there) there
-  arrives (plan.aggregate id keys calls input) sieves there = arrives input [] there
-  arrives (plan.aggregate_parts id source output m keys calls input) sieves there = arrives input [] there
-  arrives (plan.sort id keys input) sieves there = arrives input [] there
-  arrives (plan.topn id count keys input) sieves there = arrives input [] there
-  arrives (plan.topn_parts id source output m count keys input) sieves there = arrives input [] there
-  arrives (plan.limit id count input) sieves there = arrives input [] there
-  arrives (plan.limit_parts id source output m count input) sieves there = arrives input [] there
+  arrives (plan.step id does input) sieves there = arrives input (under (types_of (tree_of_run input)) does sieves) there
+  arrives (plan.halves id source output m h input) sieves there = arrives input [] there
   arrives (plan.union id left right) sieves there =
       on_either left right (arriving own [] left place) (arriving own [] right place) (λ there. arrives left [] there) (λ there. arrives right [] there) there
 
@@ -92,25 +84,15 @@ module _ (own due : ℕ → List Sieve) where
       let there = subst (λ (b : Bool). Contains (if b then sieves else []) s) (same_number id) (all id (only id) s h) in (there, below s there)
   come_due (plan.values id types rows) sieves typed apart below all = tt
   come_due (plan.remote id output m input) sieves typed apart below all = come_due input sieves typed apart below all
-  come_due (plan.filter id predicate input) sieves typed apart below all =
-      let calm = is_calm (types_of (tree_of_run input)) predicate in
-      come_due input (if_calm calm sieves) typed.1 apart (calm_below (width_of (tree_of_run input)) calm sieves below) all
-  come_due (plan.project id columns input) sieves typed apart below all =
-      let comes = passed_column (types_of (tree_of_run input)) columns in
-      come_due input (over_input comes sieves) typed.1 apart (over_below comes (width_of (tree_of_run input)) (passed_below (types_of (tree_of_run input)) columns typed.0) sieves) all
   come_due (plan.join id kind on left right) sieves typed apart below all =
       let width = width_of (tree_of_run left) in
       let down = over_input (left_column kind width) (own id ++ sieves) in (
-        come_due left down typed.0 apart.0 (over_below (left_column kind width) width (left_below kind width) (own id ++ sieves)) (at_left left right down [] apart.2 all),
+        come_due left down typed.0 apart.0 (over_below (left_column kind width) width (own id ++ sieves) (λ s h c is. left_below kind width s.column c is)) (at_left left right down [] apart.2 all),
         come_due right [] typed.1 apart.1 (none_below (width_of (tree_of_run right))) (at_right left right down [] apart.2 all),
       )
-  come_due (plan.aggregate id keys calls input) sieves typed apart below all = come_due input [] typed apart (none_below (width_of (tree_of_run input))) all
-  come_due (plan.aggregate_parts id source output m keys calls input) sieves typed apart below all = come_due input [] typed apart (none_below (width_of (tree_of_run input))) all
-  come_due (plan.sort id keys input) sieves typed apart below all = come_due input [] typed apart (none_below (width_of (tree_of_run input))) all
-  come_due (plan.topn id count keys input) sieves typed apart below all = come_due input [] typed apart (none_below (width_of (tree_of_run input))) all
-  come_due (plan.topn_parts id source output m count keys input) sieves typed apart below all = come_due input [] typed apart (none_below (width_of (tree_of_run input))) all
-  come_due (plan.limit id count input) sieves typed apart below all = come_due input [] typed apart (none_below (width_of (tree_of_run input))) all
-  come_due (plan.limit_parts id source output m count input) sieves typed apart below all = come_due input [] typed apart (none_below (width_of (tree_of_run input))) all
+  come_due (plan.step id does input) sieves typed apart below all =
+      let types = types_of (tree_of_run input) in come_due input (under types does sieves) typed.1 apart (under_below types does typed.0 sieves below) all
+  come_due (plan.halves id source output m h input) sieves typed apart below all = come_due input [] typed apart (none_below (width_of (tree_of_run input))) all
   come_due (plan.union id left right) sieves typed apart below all = (
     come_due left [] typed.0 apart.0 (none_below (width_of (tree_of_run left))) (at_left left right [] [] apart.2 all),
     come_due right [] typed.1 apart.1 (none_below (width_of (tree_of_run right))) (at_right left right [] [] apart.2 all),
@@ -147,8 +129,6 @@ module _ (own : ℕ → List Sieve) (at : ℕ) (side : RunPlan) (s : Sieve) (h :
   own_arrives (plan.scan id table columns types) sieves has = absurd has
   own_arrives (plan.values id types rows) sieves has = absurd has
   own_arrives (plan.remote id output m input) sieves has = own_arrives input sieves has
-  own_arrives (plan.filter id predicate input) sieves has = own_arrives input (if_calm (is_calm (types_of (tree_of_run input)) predicate) sieves) has
-  own_arrives (plan.project id columns input) sieves has = own_arrives input (over_input (passed_column (types_of (tree_of_run input)) columns) sieves) has
   own_arrives (plan.join id kind on left right) sieves (inl (same, inner, the)) = at_join id kind on left right sieves same inner the
   own_arrives (plan.join id kind on left right) sieves (inr (inl has)) =
       let down = over_input (left_column kind (width_of (tree_of_run left))) (own id ++ sieves) in
@@ -156,13 +136,8 @@ module _ (own : ℕ → List Sieve) (at : ℕ) (side : RunPlan) (s : Sieve) (h :
   own_arrives (plan.join id kind on left right) sieves (inr (inr has)) =
       let down = over_input (left_column kind (width_of (tree_of_run left))) (own id ++ sieves) in
       Contains-append_right (arriving own down left o.scan) (arriving own [] right o.scan) arrived (own_arrives right [] has)
-  own_arrives (plan.aggregate id keys calls input) sieves has = own_arrives input [] has
-  own_arrives (plan.aggregate_parts id source output m keys calls input) sieves has = own_arrives input [] has
-  own_arrives (plan.sort id keys input) sieves has = own_arrives input [] has
-  own_arrives (plan.topn id count keys input) sieves has = own_arrives input [] has
-  own_arrives (plan.topn_parts id source output m count keys input) sieves has = own_arrives input [] has
-  own_arrives (plan.limit id count input) sieves has = own_arrives input [] has
-  own_arrives (plan.limit_parts id source output m count input) sieves has = own_arrives input [] has
+  own_arrives (plan.step id does input) sieves has = own_arrives input (under (types_of (tree_of_run input)) does sieves) has
+  own_arrives (plan.halves id source output m h input) sieves has = own_arrives input [] has
   own_arrives (plan.union id left right) sieves (inl has) =
       Contains-append_left (arriving own [] left o.scan) (arriving own [] right o.scan) arrived (own_arrives left [] has)
   own_arrives (plan.union id left right) sieves (inr has) =

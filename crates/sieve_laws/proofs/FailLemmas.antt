@@ -1,21 +1,20 @@
 -- Of pipes of which one failed, the plan's tree may fail with this kind, whatever rows without a partner the scans lost.
 use Rattle.std.proofs.Common.{◌≡◌, ◌⊎◌, inl, inr, ℕ, ◌<◌, List, [], ◌++◌, subst}
 use Rattle.sql_values.specs.declared.fail.Fail.{Fail}
-use Rattle.sql_exprs.specs.Calm.{is_calm}
 use Rattle.operator_core.specs.declared.operator.Operator.{Ghosts}
 use Rattle.operator_core.specs.Calls.{IsLawful}
 use Rattle.plan_trees.specs.Allowed.{width_of}
 use Rattle.plan_trees.specs.TreeTypes.{types_of}
-use Rattle.column_origins.specs.Origins.{left_column, passed_column}
-use Rattle.plan_run_laws.specs.Nets.{Lanes}
-use Rattle.plan_run_laws.specs.Nets as stage
-use Rattle.plan_run_laws.specs.RunPlans.{RunPlan, tree_of_run, scan, values, remote, filter, project, join, aggregate, aggregate_parts, sort, topn, topn_parts, limit, limit_parts, union}
+use Rattle.column_origins.specs.Origins.{left_column}
+use Rattle.plan_run_laws.specs.Stages.{first_half}
+use Rattle.pipe_laws.proofs.FailLemmas.{half_calm}
+use Rattle.plan_run_laws.specs.RunPlans.{RunPlan, tree_of_run, scan, values, remote, step, halves, join, union}
 use Rattle.plan_run_laws.specs.Spreads.{Tables}
-use Rattle.stage_meanings.specs.Pipelines.{NodeStage, at_node}
+use Rattle.pipe_laws.specs.Pipelines.{NodeStage, at_node}
 use Rattle.pipe_laws.specs.Lanes.{NeverFails, Noted, notes_of_lanes, other_notes}
 use Rattle.pipe_laws.specs.Pipes.{HasFailing, IsHalfPipeOf, IsPipeOf, PipeState, stopped}
 use Rattle.lost_row_laws.specs.Faults.{FailedLosing}
-use Rattle.lost_row_laws.specs.Sieves.{Sieve, if_calm, over_input}
+use Rattle.lost_row_laws.specs.Sieves.{Sieve, over_input, under}
 use Rattle.sieve_laws.specs.LosingPipes.{IsBelowLosing, StandsLosing}
 use Rattle.sieve_laws.proofs.LaneFailLemmas.{losing_halves_failed, losing_lanes_failed}
 use Rattle.sieve_laws.proofs.StandLemmas.{stops_losing}
@@ -46,27 +45,14 @@ module _ {S : Type 0} (g : Ghosts S) (laws : IsLawful g) (pipes : ℕ → PipeSt
     below_failed sieves at n (values id types rows) notes stands is = absurd is
     below_failed sieves at n (remote id output m input) notes (j, pipe, below, passed) (inl same) = (stopped input (pipes j), pipe_failed sieves j m input pipe below (here j same))
     below_failed sieves at n (remote id output m input) notes (j, pipe, below, passed) (inr is) = (stopped input (pipes j), below_failed sieves j m input (pipes j).notes below is)
-    below_failed sieves at n (filter id predicate input) notes stands is = inr (below_failed (if_calm (is_calm (types_of (tree_of_run input)) predicate) sieves) at n input notes stands is)
-    below_failed sieves at n (project id columns input) notes stands is = inr (below_failed (over_input (passed_column (types_of (tree_of_run input)) columns) sieves) at n input notes stands is)
+    below_failed sieves at n (step id s input) notes stands is = inr (below_failed (under (types_of (tree_of_run input)) s sieves) at n input notes stands.1 is)
     below_failed sieves at n (join id how on left right) notes (j, pipe, below, known, sure, fit, rest) (inl (inl same)) = inr (stopped right (pipes j), pipe_failed [] j n right pipe below (here j same))
     below_failed sieves at n (join id how on left right) notes (j, pipe, below, known, sure, fit, rest) (inl (inr is)) = inr (stopped right (pipes j), below_failed [] j n right (pipes j).notes below is)
     below_failed sieves at n (join id how on left right) notes (j, pipe, below, known, sure, fit, rest) (inr is) = inl (below_failed (over_input (left_column how (width_of (tree_of_run left))) (own id ++ sieves)) at n left (λ k d. other_notes (notes k d)) rest is)
-    below_failed sieves at n (aggregate id keys calls input) notes stands is = inr (below_failed [] at n input notes stands.1 is)
-    below_failed sieves at n (aggregate_parts id source output m keys calls input) notes (j, half, alone, pipe, below, passed) (inl same) =
-        inr (stopped input (pipes j), half_pipe_failed [] j m input (at_node half (stage.partial keys calls)) (λ kind rows never. never) pipe below (here j same))
-    below_failed sieves at n (aggregate_parts id source output m keys calls input) notes (j, half, alone, pipe, below, passed) (inr is) =
+    below_failed sieves at n (halves id source output m h input) notes (j, half, alone, pipe, below, passed) (inl same) =
+        inr (stopped input (pipes j), half_pipe_failed [] j m input (at_node half (first_half (types_of (tree_of_run input)) h)) (half_calm (types_of (tree_of_run input)) h) pipe below (here j same))
+    below_failed sieves at n (halves id source output m h input) notes (j, half, alone, pipe, below, passed) (inr is) =
         inr (stopped input (pipes j), below_failed [] j m input (pipes j).notes below is)
-    below_failed sieves at n (sort id keys input) notes stands is = below_failed [] at n input notes stands.1 is
-    below_failed sieves at n (topn id count keys input) notes stands is = below_failed [] at n input notes stands.1 is
-    below_failed sieves at n (topn_parts id source output m count keys input) notes (j, half, alone, pipe, below, passed) (inl same) =
-        (stopped input (pipes j), half_pipe_failed [] j m input (at_node half (stage.topn count keys)) (λ kind rows never. never) pipe below (here j same))
-    below_failed sieves at n (topn_parts id source output m count keys input) notes (j, half, alone, pipe, below, passed) (inr is) =
-        (stopped input (pipes j), below_failed [] j m input (pipes j).notes below is)
-    below_failed sieves at n (limit id count input) notes stands is = below_failed [] at n input notes stands.1 is
-    below_failed sieves at n (limit_parts id source output m count input) notes (j, half, alone, pipe, below, passed) (inl same) =
-        (stopped input (pipes j), half_pipe_failed [] j m input (at_node half (stage.limit count)) (λ kind rows never. never) pipe below (here j same))
-    below_failed sieves at n (limit_parts id source output m count input) notes (j, half, alone, pipe, below, passed) (inr is) =
-        (stopped input (pipes j), below_failed [] j m input (pipes j).notes below is)
     below_failed sieves at n (union id left right) notes (i, j, first, left_below, second, right_below, passed) (inl (inl same)) =
         (stopped left (pipes i), inl (pipe_failed [] i n left first left_below (here i same)))
     below_failed sieves at n (union id left right) notes (i, j, first, left_below, second, right_below, passed) (inl (inr is)) =

@@ -1,29 +1,27 @@
 -- An operator of one driver that failed, in the run that it stopped, whose scans lost rows.
-use Rattle.std.proofs.Common.{◌≡◌, ◌⊎◌, inl, inr, ℕ, ◌<◌, List, [], ◌∷◌, ◌++◌, Bool, true, length, get_or, take, refl, ap, sym, subst, append-nil}
+use Rattle.std.proofs.Common.{None, ◌≡◌, ◌⊎◌, inl, inr, ℕ, ◌<◌, List, [], ◌∷◌, ◌++◌, Bool, true, length, get_or, take, refl, ap, sym, subst, append-nil}
 use Rattle.std.proofs.lemmas.Bool.{cases_eq}
 use Rattle.sql_values.specs.declared.fail.Fail.{Fail}
 use Rattle.sql_values.specs.declared.types.SqlType.{SqlType}
 use Rattle.sql_values.specs.declared.relational.JoinKind.{JoinKind}
-use Rattle.sql_exprs.specs.Calm.{is_calm}
 use Rattle.col_pages.specs.Fits.{AllFit}
 use Rattle.operator_core.specs.declared.operator.Operator.{Ghosts}
 use Rattle.operator_core.specs.Rows.{Row}
 use Rattle.operator_core.specs.Calls.{IsLawful}
 use Rattle.operator_core.specs.Stages.{FailsAfter, Linked, ToldInTurn, last_finished}
 use Rattle.bag_laws.proofs.GatherLemmas.{chosen}
-use Rattle.relation_laws.specs.Groups.{groups_of}
-use Rattle.plan_trees.specs.Judges.{filter_judge, project_judge}
 use Rattle.plan_trees.specs.Allowed.{width_of}
+use Rattle.plan_trees.specs.Steps.{StepForm, filter, project}
 use Rattle.plan_trees.specs.TreeTypes.{types_of}
-use Rattle.column_origins.specs.Origins.{left_column, passed_column}
-use Rattle.plan_run_laws.specs.Faults.{FailsOnGroupOf, FailsOnOneOf}
-use Rattle.plan_run_laws.specs.Nets.{Lanes, Stage}
-use Rattle.plan_run_laws.specs.RunPlans.{RunPlan, tree_of_run, scan, values, remote, filter, project, join, aggregate, aggregate_parts, sort, topn, topn_parts, limit, limit_parts, union}
+use Rattle.column_origins.specs.Origins.{left_column}
+use Rattle.plan_run_laws.specs.Nets.{Lanes}
+use Rattle.plan_run_laws.specs.Stages.{Stage, does}
+use Rattle.plan_run_laws.specs.RunPlans.{RunPlan, tree_of_run, scan, values, remote, step, halves, join, union}
 use Rattle.plan_run_laws.specs.Spreads.{Tables}
 use Rattle.plan_run_laws.specs.Stops.{AreOpen, StagesCanGoOn, Flags, MayCome}
-use Rattle.stage_meanings.specs.Meanings.{Means}
-use Rattle.stage_meanings.specs.Pipelines.{FailsOn, NodeStage, at_node, stages_of}
-use Rattle.stage_meanings.proofs.MeaningLemmas.{comes}
+use Rattle.pipe_laws.specs.Meanings.{Means}
+use Rattle.pipe_laws.specs.Pipelines.{FailsOn, NodeStage, at_node, stages_of}
+use Rattle.pipe_laws.proofs.MeaningLemmas.{comes}
 use Rattle.pipe_laws.specs.Operators.{EndsIn, Operate, types_of_source}
 use Rattle.pipe_laws.specs.Stopped.{FailsAt, FailsOver, IsOpen}
 use Rattle.pipe_laws.specs.Trees.{stages_over}
@@ -34,8 +32,18 @@ use Rattle.pipe_laws.specs.Lanes.{AreHalved, AreLanes, HasNotes, IsHalved, IsLan
 use Rattle.pipe_laws.proofs.NoteLemmas.{agreed, builds_for}
 use Rattle.pipe_laws.proofs.LaneLemmas.{lane_open}
 use Rattle.lost_row_laws.specs.Faults.{FailedLosing, FailedOverLosing}
-use Rattle.lost_row_laws.specs.Sieves.{Sieve, if_calm, over_input}
+use Rattle.lost_row_laws.specs.Sieves.{MayLose, Sieve, over_input, under}
 use Rattle.lost_row_laws.specs.Stops.{StopsLosing}
+
+-- none goes below what has to see all its rows
+over_none : (sieves : List Sieve) → over_input (λ place. None) sieves ≡ []
+over_none [] = refl
+over_none (s ∷ sieves) = over_none sieves
+
+may_lose : (types : List SqlType) (s : StepForm) (sieves : List Sieve) → MayLose s (under types s sieves)
+may_lose types (filter predicate) sieves = tt
+may_lose types (project columns) sieves = tt
+may_lose types s sieves = over_none sieves
 
 -- the operators up to the input of a node, what came out of them, and whether the last is finished
 record InputLane (S : Type 0) : Type 0 where
@@ -145,41 +153,25 @@ module _ {S : Type 0} (g : Ghosts S) (laws : IsLawful g) where
     lanes_failed_at sieves (scan id table columns types) notes all gave done lanes stops f = absurd f
     lanes_failed_at sieves (values id types rows) notes all gave done lanes stops f = absurd f
     lanes_failed_at sieves (remote id output tasks input) notes all gave done lanes stops f = absurd f
-    lanes_failed_at sieves (filter id predicate input) notes all gave done lanes stops (inl (same, over)) =
+    lanes_failed_at sieves (step id s input) notes all gave done lanes (may, stops) (inl (same, over)) =
         let i = input_lanes n w input notes took ended (λ k d lt less. let l = lanes k d lt less in input_of input (notes k d) (all k d) _ l.noted l.operate (ended k d) (took k d) (gave k d) l.turns l.linked l.fit) in
-        inl (same, (if_calm (is_calm (types_of (tree_of_run input)) predicate) sieves), failed_over (if_calm (is_calm (types_of (tree_of_run input)) predicate) sieves) (FailsOnOneOf (filter_judge (types_of (tree_of_run input)) predicate) kind) tables n w input notes took ended task driver i stops in_tasks in_drivers over)
-    lanes_failed_at sieves (filter id predicate input) notes all gave done lanes stops (inr f) =
+        let types = types_of (tree_of_run input) in
+        inl (
+          same,
+          may,
+          under types s sieves,
+          may_lose types s sieves,
+          failed_over (under types s sieves) (FailsOn (does types s) kind) tables n w input notes took ended task driver i stops in_tasks in_drivers over,
+        )
+    lanes_failed_at sieves (step id s input) notes all gave done lanes (may, stops) (inr f) =
         let i = input_lanes n w input notes took ended (λ k d lt less. let l = lanes k d lt less in input_of input (notes k d) (all k d) _ l.noted l.operate (ended k d) (took k d) (gave k d) l.turns l.linked l.fit) in
-        inr (lanes_failed_at (if_calm (is_calm (types_of (tree_of_run input)) predicate) sieves) input notes i.all i.came i.told i.lanes stops f)
-    lanes_failed_at sieves (project id columns input) notes all gave done lanes stops (inl (same, over)) =
-        let i = input_lanes n w input notes took ended (λ k d lt less. let l = lanes k d lt less in input_of input (notes k d) (all k d) _ l.noted l.operate (ended k d) (took k d) (gave k d) l.turns l.linked l.fit) in
-        inl (same, (over_input (passed_column (types_of (tree_of_run input)) columns) sieves), failed_over (over_input (passed_column (types_of (tree_of_run input)) columns) sieves) (FailsOnOneOf (project_judge (types_of (tree_of_run input)) columns) kind) tables n w input notes took ended task driver i stops in_tasks in_drivers over)
-    lanes_failed_at sieves (project id columns input) notes all gave done lanes stops (inr f) =
-        let i = input_lanes n w input notes took ended (λ k d lt less. let l = lanes k d lt less in input_of input (notes k d) (all k d) _ l.noted l.operate (ended k d) (took k d) (gave k d) l.turns l.linked l.fit) in
-        inr (lanes_failed_at (over_input (passed_column (types_of (tree_of_run input)) columns) sieves) input notes i.all i.came i.told i.lanes stops f)
+        inr (lanes_failed_at (under (types_of (tree_of_run input)) s sieves) input notes i.all i.came i.told i.lanes stops f)
     lanes_failed_at sieves (join id how on left right) notes all gave done lanes (own, p, below, opens, known, sure, rest) f =
         let i = input_lanes n w left (λ (k d : ℕ). other_notes (notes k d)) took ended (λ k d lt less. left_lane id how on left right (notes k d) (all k d) (took k d) (gave k d) (ended k d) (done k d) (lanes k d lt less)) in
         inl (lanes_failed_at (over_input (left_column how (width_of (tree_of_run left))) (own ++ sieves)) left (λ (k d : ℕ). other_notes (notes k d)) i.all i.came i.told i.lanes rest
         (fails_left id how on left right (notes task driver) (lanes task driver in_tasks in_drivers).noted f))
-    lanes_failed_at sieves (aggregate id keys calls input) notes all gave done lanes stops (inl (same, over)) =
-        let i = input_lanes n w input notes took ended (λ k d lt less. let l = lanes k d lt less in input_of input (notes k d) (all k d) _ l.noted l.operate (ended k d) (took k d) (gave k d) l.turns l.linked l.fit) in
-        inl (same, stops.0, failed_over [] (FailsOnGroupOf (groups_of (types_of (tree_of_run input)) keys calls) kind) tables n w input notes took ended task driver i stops.1 in_tasks in_drivers over)
-    lanes_failed_at sieves (aggregate id keys calls input) notes all gave done lanes stops (inr f) =
-        let i = input_lanes n w input notes took ended (λ k d lt less. let l = lanes k d lt less in input_of input (notes k d) (all k d) _ l.noted l.operate (ended k d) (took k d) (gave k d) l.turns l.linked l.fit) in
-        inr (lanes_failed_at [] input notes i.all i.came i.told i.lanes stops.1 f)
-    lanes_failed_at sieves (aggregate_parts id source output tasks keys calls input) notes all gave done lanes stops f =
+    lanes_failed_at sieves (halves id source output tasks h input) notes all gave done lanes stops f =
         inl (f.0, record { stops = stops; task = task; driver = driver; in_tasks = in_tasks; in_drivers = in_drivers; failed = f.1 })
-    lanes_failed_at sieves (sort id keys input) notes all gave done lanes stops f =
-        let i = input_lanes n w input notes took ended (λ k d lt less. let l = lanes k d lt less in input_of input (notes k d) (all k d) _ l.noted l.operate (ended k d) (took k d) (gave k d) l.turns l.linked l.fit) in
-        lanes_failed_at [] input notes i.all i.came i.told i.lanes stops.1 f
-    lanes_failed_at sieves (topn id count keys input) notes all gave done lanes stops f =
-        let i = input_lanes n w input notes took ended (λ k d lt less. let l = lanes k d lt less in input_of input (notes k d) (all k d) _ l.noted l.operate (ended k d) (took k d) (gave k d) l.turns l.linked l.fit) in
-        lanes_failed_at [] input notes i.all i.came i.told i.lanes stops.1 f
-    lanes_failed_at sieves (topn_parts id source output tasks count keys input) notes all gave done lanes stops f = absurd f
-    lanes_failed_at sieves (limit id count input) notes all gave done lanes stops f =
-        let i = input_lanes n w input notes took ended (λ k d lt less. let l = lanes k d lt less in input_of input (notes k d) (all k d) _ l.noted l.operate (ended k d) (took k d) (gave k d) l.turns l.linked l.fit) in
-        lanes_failed_at [] input notes i.all i.came i.told i.lanes stops.1 f
-    lanes_failed_at sieves (limit_parts id source output tasks count input) notes all gave done lanes stops f = absurd f
     lanes_failed_at sieves (union id left right) notes all gave done lanes stops f = absurd f
 
     -- an operator of one driver failed
@@ -203,10 +195,10 @@ module _ {S : Type 0} (g : Ghosts S) (laws : IsLawful g) where
       pub losing_halves_failed : (sieves : List Sieve) (run : RunPlan) (notes : ℕ → ℕ → Noted) (half : NodeStage) (all : ℕ → ℕ → List S) (gave : Lanes) (done : Flags) → NeverFails half.stage
           → AreHalved g n w run notes half all took gave ended done → StopsLosing tables sieves n w run (notes_of_lanes run notes) took ended → i < length (all task driver) → s ≡ get_or (all task driver) i s
           → FailsAfter g (take i (all task driver)) (g.as_made s) (ended task driver) (took task driver) node kind → FailedLosing tables n w run (notes_of_lanes run notes) took ended node kind
-      losing_halves_failed sieves run notes half all gave done never halves stops within is f =
-          let h = halves task driver in_tasks in_drivers in
+      losing_halves_failed sieves run notes half all gave done never halved stops within is f =
+          let h = halved task driver in_tasks in_drivers in
           let inputs = gathered n w (λ k d front. IsInput run (notes k d) (took k d) (ended k d) front)
-          (λ k d lt less. let x = halves k d lt less in (record { all = x.before; came = x.came; told = x.told }, x.lane)) in
+          (λ k d lt less. let x = halved k d lt less in (record { all = x.before; came = x.came; told = x.told }, x.lane)) in
           lanes_failed_at sieves run notes (λ k d. (inputs.0 k d).all) (λ k d. (inputs.0 k d).came) (λ k d. (inputs.0 k d).told) inputs.1 stops
           (in_front h (at_last_or_before g laws (all task driver) h.before h.last i s h.are within is))
         where

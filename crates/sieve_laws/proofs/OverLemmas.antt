@@ -2,7 +2,6 @@
 use Rattle.std.proofs.Common.{◌≡◌, ℕ, ◌<◌, zero, suc, List, [], ◌∷◌, ◌++◌, Bool, Option, Some, None, refl, sym, subst, append-nil, arith}
 use Rattle.sql_values.specs.declared.types.SqlType.{SqlType}
 use Rattle.sql_values.specs.ColumnRows.{fits_row}
-use Rattle.sql_exprs.specs.Calm.{is_calm}
 use Rattle.col_pages.specs.Fits.{AllFit}
 use Rattle.page_processor.proofs.FilterLemmas.{first_fits, rest_fits}
 use Rattle.operator_core.specs.declared.operator.Operator.{Ghosts}
@@ -16,22 +15,22 @@ use Rattle.bag_laws.proofs.BagLemmas.{same-from_equal, same-refl, same-sym, same
 use Rattle.bag_laws.proofs.BucketLemmas.{sits-append, sits-cons, sits-nil}
 use Rattle.plan_trees.specs.Allowed.{strict, width_of}
 use Rattle.plan_trees.specs.TreeTypes.{types_of}
-use Rattle.column_origins.specs.Origins.{left_column, passed_column}
+use Rattle.column_origins.specs.Origins.{left_column}
 use Rattle.plan_run_laws.specs.Nets.{Lanes, Pipe, Went, WentInto, of_tasks}
-use Rattle.plan_run_laws.specs.Nets as stage
-use Rattle.plan_run_laws.specs.RunPlans.{Output, RunPlan, tree_of_run, scan, values, remote, filter, project, join, aggregate, aggregate_parts, sort, topn, topn_parts, limit, limit_parts, union}
+use Rattle.plan_run_laws.specs.Stages.{first_half}
+use Rattle.plan_run_laws.specs.RunPlans.{Output, RunPlan, tree_of_run, scan, values, remote, step, halves, join, union}
 use Rattle.plan_run_laws.specs.Runs.{EdgePassed}
 use Rattle.plan_run_laws.specs.Spreads.{Tables}
 use Rattle.plan_run_laws.specs.Stops.{AllSet, Flags, Hop, IsNoted, PassedSoFar, StoppedPipe}
 use Rattle.pipe_laws.specs.Stopped.{AgreeWith}
 use Rattle.pipe_laws.proofs.TreeLemmas.{in_task}
-use Rattle.stage_meanings.specs.Pipelines.{NodeStage, at_node}
+use Rattle.pipe_laws.specs.Pipelines.{NodeStage, at_node}
 use Rattle.pipe_laws.specs.Lanes.{HasNotes, Noted, first_note, other_notes}
 use Rattle.pipe_laws.proofs.LaneLemmas.{halves_made, lanes_made}
 use Rattle.pipe_laws.proofs.NoteLemmas.{has_others, join_agrees, none_agree}
 use Rattle.pipe_laws.specs.Pipes.{AreOver, IsHalfPipeOf, IsPipeOf, PipeState, stopped}
 use Rattle.lost_row_laws.specs.Nets.{BelowLosing}
-use Rattle.lost_row_laws.specs.Sieves.{Sieve, if_calm, over_input}
+use Rattle.lost_row_laws.specs.Sieves.{Sieve, over_input, under}
 use Rattle.sieve_laws.specs.LosingPipes.{StandsLosing}
 
 -- where a hop is over, all that was put was taken
@@ -99,10 +98,8 @@ module _ {S : Type 0} (g : Ghosts S) (laws : IsLawful g) (pipes : ℕ → PipeSt
       let w = whole sieves j m pipe.tasks input (pipes j).notes below in
       leaf sieves at n (remote id output m input) notes (λ ns none. none)
       (piped j w.builds, w.below, pipe_went sieves j m input pipe w, passed_all output m n (stopped input (pipes j)) (pipes at).drivers (pipes at).took (pipes at).ended (all_ended at n is) passed)
-  whole sieves at n is (filter id predicate input) notes stands =
-      let w = whole (if_calm (is_calm (types_of (tree_of_run input)) predicate) sieves) at n is input notes stands in record { builds = w.builds; below = w.below; agree = w.agree }
-  whole sieves at n is (project id columns input) notes stands =
-      let w = whole (over_input (passed_column (types_of (tree_of_run input)) columns) sieves) at n is input notes stands in record { builds = w.builds; below = w.below; agree = w.agree }
+  whole sieves at n is (step id s input) notes stands =
+      let w = whole (under (types_of (tree_of_run input)) s sieves) at n is input notes stands.1 in record { builds = w.builds; below = (stands.0, w.below); agree = w.agree }
   whole sieves at n is (join id kind on left right) notes (j, pipe, below, known, sure, fit, rest) =
       let r = whole [] j n pipe.tasks right (pipes j).notes below in
       let l = whole (over_input (left_column kind (width_of (tree_of_run left))) (own id ++ sieves)) at n is left (λ k d. other_notes (notes k d)) rest in
@@ -124,39 +121,13 @@ module _ {S : Type 0} (g : Ghosts S) (laws : IsLawful g) (pipes : ℕ → PipeSt
             (noted_is (first_note (notes k d)) (build k) (λ built told. (known k d lt less built told).1))
             (l.agree k d lt less (has_others id kind on left right (notes k d) has));
       }
-  whole sieves at n is (aggregate id keys calls input) notes stands =
-      let w = whole [] at n is input notes stands.1 in record { builds = w.builds; below = (stands.0, w.below); agree = w.agree }
-  whole sieves at n is (aggregate_parts id source output m keys calls input) notes (j, half, alone, pipe, below, passed) =
+  whole sieves at n is (halves id source output m h input) notes (j, half, alone, pipe, below, passed) =
       let w = whole [] j m pipe.tasks input (pipes j).notes below in
-      leaf sieves at n (aggregate_parts id source output m keys calls input) notes (λ ns none. none) (
+      leaf sieves at n (halves id source output m h input) notes (λ ns none. none) (
         piped j w.builds,
         alone,
         w.below,
-        half_pipe_went j m input (at_node half (stage.partial keys calls)) pipe w,
-        passed_all output m n (stopped input (pipes j)) (pipes at).drivers (pipes at).took (pipes at).ended (all_ended at n is) passed,
-      )
-  whole sieves at n is (sort id keys input) notes stands =
-      let w = whole [] at n is input notes stands.1 in record { builds = w.builds; below = (stands.0, w.below); agree = w.agree }
-  whole sieves at n is (topn id count keys input) notes stands =
-      let w = whole [] at n is input notes stands.1 in record { builds = w.builds; below = (stands.0, w.below); agree = w.agree }
-  whole sieves at n is (topn_parts id source output m count keys input) notes (j, half, alone, pipe, below, passed) =
-      let w = whole [] j m pipe.tasks input (pipes j).notes below in
-      leaf sieves at n (topn_parts id source output m count keys input) notes (λ ns none. none) (
-        piped j w.builds,
-        alone,
-        w.below,
-        half_pipe_went j m input (at_node half (stage.topn count keys)) pipe w,
-        passed_all output m n (stopped input (pipes j)) (pipes at).drivers (pipes at).took (pipes at).ended (all_ended at n is) passed,
-      )
-  whole sieves at n is (limit id count input) notes stands =
-      let w = whole [] at n is input notes stands.1 in record { builds = w.builds; below = (stands.0, w.below); agree = w.agree }
-  whole sieves at n is (limit_parts id source output m count input) notes (j, half, alone, pipe, below, passed) =
-      let w = whole [] j m pipe.tasks input (pipes j).notes below in
-      leaf sieves at n (limit_parts id source output m count input) notes (λ ns none. none) (
-        piped j w.builds,
-        alone,
-        w.below,
-        half_pipe_went j m input (at_node half (stage.limit count)) pipe w,
+        half_pipe_went j m input (at_node half (first_half (types_of (tree_of_run input)) h)) pipe w,
         passed_all output m n (stopped input (pipes j)) (pipes at).drivers (pipes at).took (pipes at).ended (all_ended at n is) passed,
       )
   whole sieves at n is (union id left right) notes (i, j, first, left_below, second, right_below, passed) =

@@ -1,6 +1,5 @@
 -- Pipes that lost nothing stand as those do that may have lost rows.
 use Rattle.std.proofs.Common.{◌≡◌, ℕ, List, [], sym, subst, append-nil}
-use Rattle.sql_exprs.specs.Calm.{is_calm}
 use Rattle.operator_core.specs.declared.operator.Operator.{Ghosts}
 use Rattle.operator_core.specs.Rows.{Row}
 use Rattle.bag_laws.specs.Gather.{gather}
@@ -8,15 +7,15 @@ use Rattle.bag_laws.proofs.BucketLemmas.{sits-nil}
 use Rattle.bag_laws.proofs.GatherLemmas.{gather-agree}
 use Rattle.plan_trees.specs.Allowed.{scanned, strict, width_of}
 use Rattle.plan_trees.specs.TreeTypes.{types_of}
-use Rattle.column_origins.specs.Origins.{left_column, passed_column}
+use Rattle.column_origins.specs.Origins.{left_column}
 use Rattle.plan_run_laws.specs.Nets.{Lanes, of_tasks}
-use Rattle.plan_run_laws.specs.RunPlans.{RunPlan, tree_of_run, scan, values, remote, filter, project, join, aggregate, aggregate_parts, sort, topn, topn_parts, limit, limit_parts, union}
+use Rattle.plan_run_laws.specs.RunPlans.{RunPlan, tree_of_run, scan, values, remote, step, halves, join, union}
 use Rattle.plan_run_laws.specs.Spreads.{Tables}
 use Rattle.plan_run_laws.specs.Stops.{AllSet, Hop}
 use Rattle.plan_run_laws.specs.Wholes.{longer}
 use Rattle.pipe_laws.specs.Lanes.{Noted, other_notes}
 use Rattle.pipe_laws.specs.Pipes.{PipeState, Stands}
-use Rattle.lost_row_laws.specs.Sieves.{Sieve, if_calm, is_lost, over_input}
+use Rattle.lost_row_laws.specs.Sieves.{Sieve, is_lost, over_input, under}
 use Rattle.sieve_laws.specs.LosingPipes.{RightsTyped, StandsLosing}
 
 with_none : (n w : ℕ) (took : Lanes) → gather n (of_tasks w took) ≡ gather n (of_tasks w (longer took (λ k d. [])))
@@ -34,10 +33,6 @@ module _ {S : Type 0} (g : Ghosts S) (pipes : ℕ → PipeState S) (tables : Tab
   )
   lost_nothing sieves at n (values id types rows) notes stands typed = stands
   lost_nothing sieves at n (remote id output m input) notes (j, is, below, passed) typed = (j, is, lost_nothing sieves j m input (pipes j).notes below typed, passed)
-  lost_nothing sieves at n (filter id predicate input) notes stands typed =
-      lost_nothing (if_calm (is_calm (types_of (tree_of_run input)) predicate) sieves) at n input notes stands typed
-  lost_nothing sieves at n (project id columns input) notes stands typed =
-      lost_nothing (over_input (passed_column (types_of (tree_of_run input)) columns) sieves) at n input notes stands typed
   lost_nothing sieves at n (join id kind on left right) notes (j, is, below, known, rest) typed = (
     j,
     is,
@@ -47,15 +42,8 @@ module _ {S : Type 0} (g : Ghosts S) (pipes : ℕ → PipeState S) (tables : Tab
     typed.0,
     lost_nothing (over_input (left_column kind (width_of (tree_of_run left))) sieves) at n left (λ k d. other_notes (notes k d)) rest typed.2,
   )
-  lost_nothing sieves at n (aggregate id keys calls input) notes stands typed = (stands.0, lost_nothing [] at n input notes stands.1 typed)
-  lost_nothing sieves at n (aggregate_parts id source output m keys calls input) notes (j, half, alone, is, below, passed) typed =
-      (j, half, alone, is, lost_nothing [] j m input (pipes j).notes below typed, passed)
-  lost_nothing sieves at n (sort id keys input) notes stands typed = (stands.0, lost_nothing [] at n input notes stands.1 typed)
-  lost_nothing sieves at n (topn id count keys input) notes stands typed = (stands.0, lost_nothing [] at n input notes stands.1 typed)
-  lost_nothing sieves at n (topn_parts id source output m count keys input) notes (j, half, alone, is, below, passed) typed =
-      (j, half, alone, is, lost_nothing [] j m input (pipes j).notes below typed, passed)
-  lost_nothing sieves at n (limit id count input) notes stands typed = (stands.0, lost_nothing [] at n input notes stands.1 typed)
-  lost_nothing sieves at n (limit_parts id source output m count input) notes (j, half, alone, is, below, passed) typed =
+  lost_nothing sieves at n (step id s input) notes stands typed = (stands.0, lost_nothing (under (types_of (tree_of_run input)) s sieves) at n input notes stands.1 typed)
+  lost_nothing sieves at n (halves id source output m h input) notes (j, half, alone, is, below, passed) typed =
       (j, half, alone, is, lost_nothing [] j m input (pipes j).notes below typed, passed)
   lost_nothing sieves at n (union id left right) notes (i, j, first, left_below, second, right_below, passed) typed =
       (i, j, first, lost_nothing [] i n left (pipes i).notes left_below typed.0, second, lost_nothing [] j n right (pipes j).notes right_below typed.1, passed)

@@ -1,7 +1,6 @@
 -- Pipes that stand so are a run that something stopped, whose scans lost rows.
 use Rattle.std.proofs.Common.{ℕ, List, [], ◌++◌, refl}
 use Rattle.sql_values.specs.declared.types.SqlType.{SqlType}
-use Rattle.sql_exprs.specs.Calm.{is_calm}
 use Rattle.operator_core.specs.declared.operator.Operator.{Ghosts}
 use Rattle.operator_core.specs.Rows.{Row}
 use Rattle.operator_core.specs.Calls.{IsLawful}
@@ -9,16 +8,15 @@ use Rattle.bag_laws.specs.Buckets.{Sits}
 use Rattle.bag_laws.proofs.BucketLemmas.{sits-weaker}
 use Rattle.plan_trees.specs.Allowed.{skipping, strict, width_of}
 use Rattle.plan_trees.specs.TreeTypes.{types_of}
-use Rattle.column_origins.specs.Origins.{left_column, passed_column}
-use Rattle.plan_run_laws.specs.Nets.{Lanes}
-use Rattle.plan_run_laws.specs.Nets as stage
-use Rattle.plan_run_laws.specs.RunPlans.{RunPlan, tree_of_run, scan, values, remote, filter, project, join, aggregate, aggregate_parts, sort, topn, topn_parts, limit, limit_parts, union}
+use Rattle.column_origins.specs.Origins.{left_column}
+use Rattle.plan_run_laws.specs.Stages.{first_half}
+use Rattle.plan_run_laws.specs.RunPlans.{RunPlan, tree_of_run, scan, values, remote, step, halves, join, union}
 use Rattle.plan_run_laws.specs.Spreads.{Tables}
-use Rattle.stage_meanings.specs.Pipelines.{at_node}
+use Rattle.pipe_laws.specs.Pipelines.{at_node}
 use Rattle.pipe_laws.specs.Lanes.{Noted, notes_of_lanes, other_notes}
 use Rattle.pipe_laws.specs.Pipes.{PipeState, stopped}
 use Rattle.pipe_laws.proofs.StandLemmas.{half_pipe_open, pipe_open}
-use Rattle.lost_row_laws.specs.Sieves.{Sieve, fits_in, if_calm, is_held, is_lost, over_input}
+use Rattle.lost_row_laws.specs.Sieves.{Sieve, fits_in, is_held, is_lost, over_input, under}
 use Rattle.lost_row_laws.specs.Stops.{StopsLosing}
 use Rattle.lost_row_laws.proofs.SieveLemmas.{and_second}
 use Rattle.sieve_laws.specs.LosingPipes.{StandsLosing}
@@ -37,8 +35,7 @@ module _ {S : Type 0} (g : Ghosts S) (laws : IsLawful g) where
     stops_losing sieves at n (values id types rows) notes stands = (refl, stands)
     stops_losing sieves at n (remote id output m input) notes (j, is, below, passed) =
         (stopped input (pipes j), refl, stops_losing sieves j m input (pipes j).notes below, pipe_open g laws m input (pipes j) is, passed)
-    stops_losing sieves at n (filter id predicate input) notes stands = stops_losing (if_calm (is_calm (types_of (tree_of_run input)) predicate) sieves) at n input notes stands
-    stops_losing sieves at n (project id columns input) notes stands = stops_losing (over_input (passed_column (types_of (tree_of_run input)) columns) sieves) at n input notes stands
+    stops_losing sieves at n (step id s input) notes stands = (stands.0, stops_losing (under (types_of (tree_of_run input)) s sieves) at n input notes stands.1)
     stops_losing sieves at n (join id kind on left right) notes (j, is, below, known, sure, fit, rest) = (
       own id,
       stopped right (pipes j),
@@ -48,16 +45,8 @@ module _ {S : Type 0} (g : Ghosts S) (laws : IsLawful g) where
       sure,
       stops_losing (over_input (left_column kind (width_of (tree_of_run left))) (own id ++ sieves)) at n left (λ k d. other_notes (notes k d)) rest,
     )
-    stops_losing sieves at n (aggregate id keys calls input) notes stands = (stands.0, stops_losing [] at n input notes stands.1)
-    stops_losing sieves at n (aggregate_parts id source output m keys calls input) notes (j, half, alone, is, below, passed) =
-        (stopped input (pipes j), refl, alone, stops_losing [] j m input (pipes j).notes below, half_pipe_open g laws m input (at_node half (stage.partial keys calls)) (pipes j) is, passed)
-    stops_losing sieves at n (sort id keys input) notes stands = (stands.0, stops_losing [] at n input notes stands.1)
-    stops_losing sieves at n (topn id count keys input) notes stands = (stands.0, stops_losing [] at n input notes stands.1)
-    stops_losing sieves at n (topn_parts id source output m count keys input) notes (j, half, alone, is, below, passed) =
-        (stopped input (pipes j), refl, alone, stops_losing [] j m input (pipes j).notes below, half_pipe_open g laws m input (at_node half (stage.topn count keys)) (pipes j) is, passed)
-    stops_losing sieves at n (limit id count input) notes stands = (stands.0, stops_losing [] at n input notes stands.1)
-    stops_losing sieves at n (limit_parts id source output m count input) notes (j, half, alone, is, below, passed) =
-        (stopped input (pipes j), refl, alone, stops_losing [] j m input (pipes j).notes below, half_pipe_open g laws m input (at_node half (stage.limit count)) (pipes j) is, passed)
+    stops_losing sieves at n (halves id source output m h input) notes (j, half, alone, is, below, passed) =
+        (stopped input (pipes j), refl, alone, stops_losing [] j m input (pipes j).notes below, half_pipe_open g laws m input (at_node half (first_half (types_of (tree_of_run input)) h)) (pipes j) is, passed)
     stops_losing sieves at n (union id left right) notes (i, j, first, left_below, second, right_below, passed) = (
       stopped left (pipes i),
       stopped right (pipes j),

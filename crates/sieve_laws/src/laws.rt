@@ -7,7 +7,7 @@ ghost use Rattle.plan_trees.specs.Widths.{FitsWidths};
 ghost use Rattle.plan_run_laws.specs.Placements.{Placed};
 ghost use Rattle.plan_run_laws.specs.RunPlans.{RunPlan, tree_of_run};
 ghost use Rattle.plan_run_laws.specs.Spreads.{whole};
-ghost use Rattle.tree_evaluator.specs.Fits.{FitsTables};
+ghost use Rattle.pipe_laws.specs.Fits.{FitsTables};
 ghost use Rattle.pipe_laws.specs.Lanes.{Noted};
 ghost use Rattle.pipe_laws.specs.Pipes.{AreOver, HasFailing, IsPipeOf, PipeState, Stands};
 ghost use Rattle.lost_row_laws.specs.Runs.{AreTyped};

@@ -1,22 +1,21 @@
 -- What an operator means that makes groups of its rows.
 use Rattle.std.proofs.Common.{◌≡◌, ℕ, zero, suc, List, [], ◌∷◌, ◌++◌, map, refl, ap, sym, arith, length}
-use Rattle.std.specs.Prelude.{◌↔◌, Contains, Err, IfOk, IsTrue, Ok, Result, flat_map}
+use Rattle.std.specs.Prelude.{Contains, Err, IfOk, IsTrue, Ok, Result, flat_map}
 use Rattle.std.proofs.lemmas.List.Sorted.{All-permutation}
 use Rattle.sql_values.specs.ColumnRows.{fits_row}
 use Rattle.sql_values.specs.declared.types.SqlType.{SqlType}
 use Rattle.sql_values.specs.declared.fail.Fail.{Fail}
 use Rattle.sql_values.specs.declared.relational.Call.{Call}
 use Rattle.sql_functions.specs.CallTypes.{type_at}
-use Rattle.col_pages.specs.Pages.{TypedPage}
 use Rattle.relation_laws.specs.Groups.{groups_of}
 use Rattle.relation_laws.specs.Verdicts.{Verdict, drops, failures, fails, keeps, kept}
-use Rattle.col_pages.specs.Fits.{AllFit, IsOfTypes}
+use Rattle.col_pages.specs.Fits.{AllFit}
 use Rattle.operator_core.specs.declared.operator.Operator.{Ghosts}
 use Rattle.operator_core.specs.Rows.{Row}
 use Rattle.plan_trees.specs.Allowed.{Mode, Taken, skipping, strict}
 use Rattle.plan_trees.specs.TreeTypes.{call_kind}
 use Rattle.plan_run_laws.specs.Faults.{FailsOnGroupOf}
-use Rattle.plan_run_laws.specs.Nets.{Makes, Stage, final, grouping, partial}
+use Rattle.plan_run_laws.specs.Stages.{Makes, Stage, final, grouping, partial}
 use Rattle.plan_run_laws.proofs.GoOnLemmas.{goes_on-one}
 use Rattle.accumulators.specs.Limits.{are_allowed}
 use Rattle.plan_trees.specs.Layouts.{layout_types}

@@ -10,8 +10,8 @@ use Rattle.operator_core.specs.Calls.{IsLawful}
 use Rattle.operator_core.specs.Stages.{AreMadeOf, Chain, FailsAfter, Linked, MadeOf, NothingFails, Steps, ToldInTurn, last_finished}
 use Rattle.operator_core.proofs.StageLemmas.{Coming-weaker, Steps-finished, Steps-goes_on, finished-told}
 use Rattle.plan_trees.specs.Allowed.{Mode, strict}
-use Rattle.plan_run_laws.specs.Nets.{Stage, Makes}
-use Rattle.plan_run_laws.specs.Nets as net
+use Rattle.plan_run_laws.specs.Stages.{Stage, Makes}
+use Rattle.plan_run_laws.specs.Stages as net
 use Rattle.plan_run_laws.specs.Stops.{StagesCanGoOn, MayCome}
 use Rattle.plan_run_laws.proofs.GoOnLemmas.{goes_on-append, goes_on-nil}
 use Rattle.stage_meanings.specs.Pipelines.{FailsIn, NodeStage, at_node, stages_of}

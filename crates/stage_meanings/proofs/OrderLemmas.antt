@@ -4,17 +4,17 @@ use Rattle.std.specs.Prelude.{IsTrue}
 use Rattle.std.proofs.lemmas.List.Elements.{All-take}
 use Rattle.std.proofs.lemmas.List.Sorted.{All-permutation}
 use Rattle.sql_values.specs.ColumnRows.{fits_row}
-use Rattle.sql_values.specs.declared.order.KeySpec.{KeySpec}
 use Rattle.sql_values.specs.declared.types.SqlType.{SqlType}
 use Rattle.col_pages.specs.Fits.{AllFit}
 use Rattle.operator_core.specs.declared.operator.Operator.{Ghosts}
 use Rattle.operator_core.specs.Rows.{Row}
 use Rattle.plan_trees.specs.Allowed.{skipping, strict}
-use Rattle.plan_run_laws.specs.Nets.{Makes, Stage, limit, sort, topn}
+use Rattle.plan_trees.specs.Steps.{StepForm, aggregate, filter, limit, project, sort, topn}
+use Rattle.plan_run_laws.specs.Stages.{Makes, Stage, does}
 use Rattle.plan_run_laws.proofs.GoOnLemmas.{goes_on-one}
 use Rattle.stage_meanings.specs.Pipelines.{at_node}
 use Rattle.stage_meanings.specs.Meanings.{Means}
-use Rattle.stage_meanings.specs.RowMeanings.{MakesRows}
+use Rattle.stage_meanings.specs.RowMeanings.{MakesRows, Orders}
 
 -- the stage makes rows of the types `given` of rows of the types `taken`
 abbrev pub GivesTypes : Stage → List SqlType → List SqlType → Type 0
@@ -30,21 +30,17 @@ made_rows-mean g m node taken given stage fit own = record {
   fails = λ X ended at kind fits fails. absurd (own.calm (X ++ []) at kind (fails [] (λ e. refl)));
 }
 
--- the stage keeps the types of its rows
-abbrev pub KeepsTypes : Stage → List SqlType → Type 0
-KeepsTypes stage types = GivesTypes stage types types
-
-pub rows_mean : {S : Type 0} (g : Ghosts S) (m : S) (node : ℕ) (types : List SqlType) (stage : Stage) → KeepsTypes stage types → MakesRows g m stage
-    → Means g m types (at_node node stage ∷ []) types
-rows_mean g m node types stage keeps own = made_rows-mean g m node types types stage keeps own
-
-pub sort_keeps : (types : List SqlType) (keys : List KeySpec) → KeepsTypes (sort keys) types
-sort_keeps types keys X Y fit sorted = All-permutation (λ row. IsTrue (fits_row types row)) X Y sorted.same fit
-
-pub topn_keeps : (types : List SqlType) (count : ℕ) (keys : List KeySpec) → KeepsTypes (topn count keys) types
-topn_keeps types count keys X Y fit top =
+-- rows that are chosen and ordered keep their types
+pub orders_keep : (types : List SqlType) (s : StepForm) → Orders s → GivesTypes (does types s) types types
+orders_keep types (filter predicate) none X Y fit gives = absurd none
+orders_keep types (project columns) none X Y fit gives = absurd none
+orders_keep types (aggregate keys calls) none X Y fit gives = absurd none
+orders_keep types (sort keys) some X Y fit sorted = All-permutation (λ row. IsTrue (fits_row types row)) X Y sorted.same fit
+orders_keep types (topn count keys) some X Y fit top =
     let all = All-permutation (λ row. IsTrue (fits_row types row)) X top.order top.sorted.same fit in
     subst (AllFit types) (sym top.is) (All-take (λ row. IsTrue (fits_row types row)) count top.order all)
+orders_keep types (limit count) some X Y fit is = subst (AllFit types) (sym is) (All-take (λ row. IsTrue (fits_row types row)) count X fit)
 
-pub limit_keeps : (types : List SqlType) (count : ℕ) → KeepsTypes (limit count) types
-limit_keeps types count X Y fit is = subst (AllFit types) (sym is) (All-take (λ row. IsTrue (fits_row types row)) count X fit)
+pub orders-mean : {S : Type 0} (g : Ghosts S) (m : S) (node : ℕ) (types : List SqlType) (s : StepForm) → Orders s → MakesRows g m (does types s)
+    → Means g m types (at_node node (does types s) ∷ []) types
+orders-mean g m node types s some own = made_rows-mean g m node types types (does types s) (orders_keep types s some) own

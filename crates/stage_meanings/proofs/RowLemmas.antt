@@ -27,7 +27,7 @@ use Rattle.operator_core.specs.declared.operator.Operator.{Ghosts}
 use Rattle.operator_core.specs.Rows.{Row}
 use Rattle.operator_core.specs.Stages.{NothingFails}
 use Rattle.plan_run_laws.specs.Faults.{FailsOnOneOf}
-use Rattle.plan_run_laws.specs.Nets.{Stage, filter, project}
+use Rattle.plan_run_laws.specs.Stages.{Stage, filter, project}
 use Rattle.plan_run_laws.specs.Stops.{MayCome}
 use Rattle.plan_run_laws.proofs.GoOnLemmas.{BeginsWith, begins_before, goes_on-filter, goes_on-project}
 use Rattle.stage_meanings.specs.Pipelines.{FailsIn, FailsOn, at_node}

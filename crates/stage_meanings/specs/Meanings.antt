@@ -8,7 +8,7 @@ use Rattle.operator_core.specs.declared.operator.Operator.{Ghosts}
 use Rattle.operator_core.specs.Rows.{Row}
 use Rattle.operator_core.specs.Stages.{NothingFails}
 use Rattle.plan_trees.specs.Allowed.{strict}
-use Rattle.plan_run_laws.specs.Nets.{StagesMake}
+use Rattle.plan_run_laws.specs.Stages.{StagesMake}
 use Rattle.plan_run_laws.specs.Stops.{StagesCanGoOn, MayCome}
 use Rattle.stage_meanings.specs.Pipelines.{FailsIn, NodeStage, stages_of}
 

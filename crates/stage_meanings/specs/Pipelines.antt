@@ -2,11 +2,7 @@
 use Rattle.std.specs.Prelude.{◌≡◌, ℕ, List, ◌∷◌, ◌++◌, Bool, map}
 use Rattle.sql_values.specs.declared.value.Value.{Value}
 use Rattle.sql_values.specs.declared.fail.Fail.{Fail}
-use Rattle.relation_laws.specs.Groups.{groups_of}
-use Rattle.bag_laws.specs.Pieces.{finals_of}
-use Rattle.plan_trees.specs.Judges.{filter_judge, project_judge}
-use Rattle.plan_run_laws.specs.Faults.{FailsOnGroupOf, FailsOnOneOf}
-use Rattle.plan_run_laws.specs.Nets.{Stage, filter, project, probe, grouping, partial, final, sort, topn, limit}
+use Rattle.plan_run_laws.specs.Stages.{Stage, StageFails}
 use Rattle.plan_run_laws.specs.Stops.{StagesCanGoOn, MayCome}
 
 -- a stage, and the id of its node
@@ -20,17 +16,9 @@ at_node node stage = record { node = node; stage = stage }
 abbrev pub stages_of : List NodeStage → List Stage
 stages_of pipeline = map (λ s. s.stage) pipeline
 
--- a row, or a group, of those that the stage takes fails with this kind. The others never fail
+-- what the stage takes fails with this kind
 abbrev pub FailsOn : Stage → Fail → List (List Value) → Type 0
-FailsOn (filter types predicate) kind rows = FailsOnOneOf (filter_judge types predicate) kind rows
-FailsOn (project types columns) kind rows = FailsOnOneOf (project_judge types columns) kind rows
-FailsOn (grouping types keys calls) kind rows = FailsOnGroupOf (groups_of types keys calls) kind rows
-FailsOn (final types width calls) kind rows = FailsOnGroupOf (finals_of types width calls) kind rows
-FailsOn (probe how on left right built) kind rows = ⊥
-FailsOn (partial keys calls) kind rows = ⊥
-FailsOn (sort keys) kind rows = ⊥
-FailsOn (topn count keys) kind rows = ⊥
-FailsOn (limit count) kind rows = ⊥
+FailsOn stage kind rows = StageFails stage rows kind
 
 -- the driver took these rows, and the stage of the node fails with this kind on what came to it of them, whatever
 -- rows still come: none where the driver's source has ended

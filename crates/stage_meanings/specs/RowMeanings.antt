@@ -6,7 +6,8 @@ use Rattle.page_processor.specs.Judged.{first_failure, rows_before}
 use Rattle.operator_core.specs.declared.operator.Operator.{Ghosts}
 use Rattle.operator_core.specs.Rows.{Row}
 use Rattle.plan_trees.specs.Allowed.{Mode}
-use Rattle.plan_run_laws.specs.Nets.{Makes, Stage}
+use Rattle.plan_trees.specs.Steps.{StepForm, aggregate, filter, project}
+use Rattle.plan_run_laws.specs.Stages.{Makes, Stage}
 
 -- the operator gives what the judge keeps of the rows before the first that fails, and fails as that one
 -- does, for the node. It has no note
@@ -19,3 +20,10 @@ pub record JudgesRows {S : Type 0} (g : Ghosts S) (m : S) (own : ℕ) (judge : R
 pub record MakesRows {S : Type 0} (g : Ghosts S) (m : S) (stage : Stage) : Type 0 where
   pub makes : (mode : Mode) (X Y : List Row) → g.may_give m X Y → Makes mode stage X Y
   pub calm : (X : List Row) (node : ℕ) (kind : Fail) → g.may_still_fail m X node kind → ⊥
+
+-- a step that chooses or orders its rows, and changes none
+abbrev pub Orders : StepForm → Type 0
+Orders (filter predicate) = ⊥
+Orders (project columns) = ⊥
+Orders (aggregate keys calls) = ⊥
+Orders s = Unit {0}

@@ -5,13 +5,13 @@ ghost use Rattle.col_pages.specs.Pages.{TypedPage, most_rows};
 ghost use Rattle.operator_core.specs.Calls.{IsFresh};
 ghost use Rattle.col_pages.specs.Fits.{IsOfTypes};
 ghost use Rattle.plan_trees.specs.TreeTypes.{call_kind};
-ghost use Rattle.plan_run_laws.specs.Nets.{final, grouping, partial};
+ghost use Rattle.plan_run_laws.specs.Stages.{final, grouping, partial};
 ghost use Rattle.accumulators.specs.Limits.{are_allowed};
 ghost use Rattle.plan_trees.specs.Layouts.{layout_types};
 ghost use Rattle.stage_meanings.specs.Meanings.{Means};
 ghost use Rattle.stage_meanings.specs.Pipelines.{at_node};
 
-use aggregation::{FinalAgg, PartialAgg, SingleAgg};
+use aggregation::{FinalAgg, PartialAgg, SingleAgg, final_op, partial_op, single_op};
 use operator_core::Operator;
 use sql_values::{Call, Memory, SqlType};
 use std::alloc::Global;
@@ -35,7 +35,7 @@ pub fn single_of(
         (at_node node (grouping types.items keys.items calls.items) ∷ [])
         (map (type_at types.items) keys.items ++ map (call_kind types.items) calls.items)) }
 {
-    SingleAgg::new(alloc, node, keys, calls, types, page)
+    single_op(alloc, node, keys, calls, types, page)
 }
 
 /// The operator of the first half of an aggregate, over input of these types.
@@ -55,7 +55,7 @@ pub fn partial_of(
         (at_node node (partial keys.items calls.items) ∷ [])
         (layout_types (map (type_at types.items) keys.items) types.items calls.items)) }
 {
-    PartialAgg::new(alloc, keys, calls, types, page)
+    partial_op(alloc, keys, calls, types, page)
 }
 
 /// The operator of the second half of an aggregate, by keys of the types `kinds`, of calls that were made over
@@ -80,5 +80,5 @@ pub fn final_of(
         (at_node node (final types.items (length kinds.items) calls.items) ∷ [])
         (kinds.items ++ map (call_kind types.items) calls.items)) }
 {
-    FinalAgg::new(alloc, node, kinds, calls, types, page)
+    final_op(alloc, node, kinds, calls, types, page)
 }

@@ -2,7 +2,6 @@
 ghost use Rattle.std.specs.Prelude.{◌≡◌, ℕ, ◌<◌, List, [], ◌∷◌, ◌++◌, Bool, true, IsTrue, Some, None, length, get_or, map, take};
 ghost use Rattle.sql_values.specs.declared.types.SqlType.{SqlType};
 ghost use Rattle.sql_values.specs.declared.fail.Fail.{Fail};
-ghost use Rattle.sql_values.specs.declared.order.KeySpec.{KeySpec};
 ghost use Rattle.sql_values.specs.declared.relational.Call.{Call};
 ghost use Rattle.sql_functions.specs.CallTypes.{type_at};
 ghost use Rattle.relation_laws.specs.Groups.{groups_of};
@@ -14,15 +13,16 @@ ghost use Rattle.col_pages.specs.Fits.{AllFit};
 ghost use Rattle.page_processor.specs.Typed.{AllTyped};
 ghost use Rattle.row_ops.specs.RowJudges.{columns_in, row_judge};
 ghost use Rattle.plan_trees.specs.Allowed.{strict};
+ghost use Rattle.plan_trees.specs.Steps.{StepForm};
 ghost use Rattle.plan_trees.specs.TreeTypes.{call_kind};
 ghost use Rattle.bag_laws.specs.Pieces.{finals_of};
 ghost use Rattle.accumulators.specs.Limits.{are_allowed};
 ghost use Rattle.plan_trees.specs.Layouts.{layout_types};
-ghost use Rattle.plan_run_laws.specs.Nets.{StagesMake as StageChain, filter, final, grouping, limit, partial, project, sort, topn};
+ghost use Rattle.plan_run_laws.specs.Stages.{StagesMake as StageChain, does, filter, final, grouping, partial, project};
 ghost use Rattle.plan_run_laws.specs.Stops.{StagesCanGoOn};
 ghost use Rattle.stage_meanings.specs.Meanings.{ActsAs, AllMean, Means};
 ghost use Rattle.stage_meanings.specs.Pipelines.{FailsIn, NodeStage, at_node, stages_of};
-ghost use Rattle.stage_meanings.specs.RowMeanings.{JudgesRows, MakesRows};
+ghost use Rattle.stage_meanings.specs.RowMeanings.{JudgesRows, MakesRows, Orders};
 ghost use Rattle.stage_meanings.specs.GroupMeanings.{GivesGroups};
 
 use operator_core::Operator;
@@ -44,24 +44,11 @@ pub fn projects_mean<O: Operator>(_of: PhantomData<O>)
         (map (kind_of types) columns) }
 {}
 
-/// The law that an operator which gives its rows in an order of keys is a sort.
-pub fn sorts_mean<O: Operator>(_of: PhantomData<O>)
-    ensures { (m : O) (node : ℕ) (types : List SqlType) (keys : List KeySpec)
-        → MakesRows O.Operator m (sort keys)
-        → Means O.Operator m types (at_node node (sort keys) ∷ []) types }
-{}
-
-/// The law that an operator which gives the first of its rows in an order of keys is a top n.
-pub fn tops_mean<O: Operator>(_of: PhantomData<O>)
-    ensures { (m : O) (node count : ℕ) (types : List SqlType) (keys : List KeySpec)
-        → MakesRows O.Operator m (topn count keys)
-        → Means O.Operator m types (at_node node (topn count keys) ∷ []) types }
-{}
-
-/// The law that an operator which gives the first of its rows is a limit.
-pub fn limits_mean<O: Operator>(_of: PhantomData<O>)
-    ensures { (m : O) (node count : ℕ) (types : List SqlType) → MakesRows O.Operator m (limit count)
-        → Means O.Operator m types (at_node node (limit count) ∷ []) types }
+/// The law that an operator which chooses and orders rows as a step does, and never fails, is that step.
+pub fn orders_mean<O: Operator>(_of: PhantomData<O>)
+    ensures { (m : O) (node : ℕ) (types : List SqlType) (step : StepForm) → Orders step
+        → MakesRows O.Operator m (does types step)
+        → Means O.Operator m types (at_node node (does types step) ∷ []) types }
 {}
 
 /// The law that an operator which gives the rows of groups, and fails as one of them does, is a grouping.

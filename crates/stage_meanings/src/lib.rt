@@ -12,8 +12,8 @@
 //! - `laws::failed_drivers_fail`: the failure of one is a failure in the pipeline
 //! - `laws::filters_mean`, `laws::projects_mean`: one that judges row by row, and stops at its first
 //!   failing row, is a filter where it gives all columns, and a project where it has no predicate
-//! - `laws::sorts_mean`, `laws::tops_mean`, `laws::limits_mean`: one that gives what such a stage makes of all
-//!   its rows, and never fails, is that stage
+//! - `laws::orders_mean`: one that gives what a step makes of all its rows that chooses and orders them, and never
+//!   fails, is that step
 //! - `laws::groupings_mean`: one that gives the rows of groups, and fails as one of them does, is a grouping
 //! - `laws::partials_mean`, `laws::finals_mean`: likewise the halves of a grouping
 //! - `laws::acting_operators_mean`: one that does what another does means the same
@@ -32,7 +32,6 @@ mod row_stages;
 pub use aggregate_stages::{final_of, partial_of, single_of};
 pub use laws::{
     acting_operators_mean, drivers_can_go_on, failed_drivers_fail, filters_mean, finals_mean,
-    finished_drivers_make, groupings_mean, limits_mean, partials_mean, projects_mean, sorts_mean,
-    tops_mean,
+    finished_drivers_make, groupings_mean, orders_mean, partials_mean, projects_mean,
 };
 pub use row_stages::{filter_of, project_of};

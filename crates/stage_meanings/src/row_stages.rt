@@ -7,7 +7,7 @@ ghost use Rattle.sql_exprs.specs.Meaning.{kind_of};
 ghost use Rattle.page_processor.specs.Typed.{AllTyped, IsTyped};
 ghost use Rattle.operator_core.specs.Calls.{IsFresh};
 ghost use Rattle.col_pages.specs.Fits.{IsOfTypes};
-ghost use Rattle.plan_run_laws.specs.Nets.{filter, project};
+ghost use Rattle.plan_run_laws.specs.Stages.{filter, project};
 ghost use Rattle.stage_meanings.specs.Meanings.{Means};
 ghost use Rattle.stage_meanings.specs.Pipelines.{at_node};
 

@@ -12,19 +12,19 @@ use Rattle.plan_reader.specs.Trees.{tree_of}
 use Rattle.plan_trees.specs.Allowed.{Allows, Gives, strict}
 use Rattle.plan_trees.specs.Stopped.{MayFail}
 use Rattle.plan_run_laws.specs.Spreads.{Tables}
-use Rattle.plan_link_laws.specs.Consistent.{IsConsistent}
+use Rattle.plan_fit_laws.specs.Consistent.{IsConsistent}
 use Rattle.plan_layout.specs.declared.pipe.Parallelism.{Parallelism}
 use Rattle.plan_layout.specs.Layouts.{layout_of}
 use Rattle.plan_layout.specs.Pipes.{PipeForm, driver_number}
 use Rattle.tree_evaluator.specs.Fits.{FitsTables}
-use Rattle.net_laws.specs.Nets.{AreDriversOf, NetForm}
-use Rattle.net_laws.specs.Settled.{AreSettled}
-use Rattle.net_laws.specs.Roots.{IsLoneRoot}
+use Rattle.filter_net_laws.specs.Nets.{AreDriversOf, NetForm}
+use Rattle.filter_net_laws.specs.Settled.{AreSettled}
+use Rattle.filter_net_laws.specs.Roots.{IsLoneRoot}
 use Rattle.net_closing.specs.Back.{HasNet}
 use Rattle.net_closing.specs.Left.{handed_in}
 use Rattle.net_closing.specs.Results.{IsResultOf}
-use Rattle.net_laws.specs.Later.{AreLater}
-use Rattle.net_laws.proofs.LaterLemmas.{drivers_on}
+use Rattle.filter_net_laws.specs.Later.{AreLater}
+use Rattle.filter_net_laws.proofs.LaterLemmas.{drivers_on}
 use Rattle.net_making.specs.Slots.{IsNew}
 use Rattle.task_executor.specs.Nets.{FailsFor, IsNetOf, IsOverTables, NetState, layout_in, plan_in}
 use Rattle.task_executor.specs.declared.answer.RunDone.{RunDone}

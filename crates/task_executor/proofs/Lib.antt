@@ -3,3 +3,4 @@ mod TurnLemmas
 mod EndLemmas
 mod WaitLemmas
 mod PassedLemmas
+pub use Rattle.plan_fit_laws.proofs.ConsistentLemmas

@@ -9,7 +9,7 @@ use Rattle.plan_docs.specs.Plans.{FragmentForm, PlanForm}
 use Rattle.plan_reader.specs.Trees.{tree_of}
 use Rattle.plan_trees.specs.declared.tree.Pair.{Pair}
 use Rattle.plan_run_laws.specs.Spreads.{Tables}
-use Rattle.plan_link_laws.specs.Consistent.{IsConsistent}
+use Rattle.plan_fit_laws.specs.Consistent.{IsConsistent}
 use Rattle.driver_loop.specs.Drivers.{DriverState}
 use Rattle.plan_layout.specs.declared.filters.PlacedFilter.{PlacedFilter}
 use Rattle.plan_layout.specs.declared.pipe.Parallelism.{Parallelism}
@@ -17,9 +17,9 @@ use Rattle.plan_layout.specs.Filters.{scan_filters}
 use Rattle.plan_layout.specs.Layouts.{layout_of}
 use Rattle.plan_layout.specs.Pipes.{PipeForm}
 use Rattle.tree_evaluator.specs.Fits.{FitsTables}
-use Rattle.net_laws.specs.Nets.{AreDriversOf, NetForm}
-use Rattle.net_laws.specs.Settled.{AreSettled}
-use Rattle.net_laws.proofs.LaterLemmas.{drivers_on}
+use Rattle.filter_net_laws.specs.Nets.{AreDriversOf, NetForm}
+use Rattle.filter_net_laws.specs.Settled.{AreSettled}
+use Rattle.filter_net_laws.proofs.LaterLemmas.{drivers_on}
 use Rattle.filter_net_laws.specs.PlanCounts.{AreCountable}
 use Rattle.filter_net_laws.specs.PlanFilters.{HasPlace, IsCountOfFilter, IsFilterOfPlan}
 use Rattle.net_closing.specs.Counts.{AreCounts, counts_from, counts_of, rows_passed}

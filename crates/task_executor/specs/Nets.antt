@@ -9,7 +9,7 @@ use Rattle.plan_docs.specs.declared.plan.Plan.{Plan}
 use Rattle.plan_reader.specs.Trees.{tree_of}
 use Rattle.plan_trees.specs.TreeForms.{TreeForm}
 use Rattle.plan_trees.specs.Stopped.{MayFail}
-use Rattle.plan_link_laws.specs.Consistent.{IsConsistent}
+use Rattle.plan_fit_laws.specs.Consistent.{IsConsistent}
 use Rattle.plan_layout.specs.declared.pipe.Parallelism.{Parallelism}
 use Rattle.plan_layout.specs.Layouts.{layout_of}
 use Rattle.plan_layout.specs.Pipes.{PipeForm, pipe_view}

@@ -4,7 +4,7 @@ ghost use Rattle.plan_docs.specs.Plans.{plan_view};
 ghost use Rattle.plan_fit_laws.specs.Tables.{HaveColumns};
 ghost use Rattle.plan_layout.specs.Layouts.{layout_of};
 ghost use Rattle.plan_layout.specs.Pipes.{pipe_view};
-ghost use Rattle.plan_link_laws.specs.Consistent.{IsConsistent};
+ghost use Rattle.plan_fit_laws.specs.Consistent.{IsConsistent};
 ghost use Rattle.plan_wiring.specs.Handed.{AreUnused};
 ghost use Rattle.plan_wiring.specs.Wirings.{IsWiringOf, share_view};
 ghost use Rattle.tree_evaluator.specs.Fits.{TablesFit};
@@ -71,7 +71,7 @@ impl<'w, 'p, C: Courier> Net<'w, 'p, C> {
         requires unused { AreUnused (map share_view wiring.old.shared.pipes.items) }
         ensures { IfOk result (IsNetOf (plan_view plan.now) (map rows_of_table tables.now)) }
     {
-        net_laws::layouts_fit(plan);
+        filter_net_laws::layouts_fit(plan);
         plan_fit_laws::consistent_plans_fit(plan);
         let Wiring { layout, shared } = wiring;
         let bells = shared.bells;

@@ -2,7 +2,7 @@ ghost use Rattle.std.specs.Prelude.{◌≡◌, ◌<◌, ◌≤◌, ◌++◌, [],
 ghost use Rattle.col_pages.specs.Pages.{most_rows};
 ghost use Rattle.operator_core.specs.Samples.{has_row};
 ghost use Rattle.col_pages.specs.Fits.{AllFit, IsOfTypes};
-ghost use Rattle.topn_sort.specs.Sorting.{AreTop, BeganRows, IsCutTo, IsNextPage, last_row, rows_ahead_of};
+ghost use Rattle.topn_sort.specs.Sorting.{AreTop, BeganRows, IsCutTo, IsGiven, IsNextPage, last_row, rows_ahead_of};
 
 use crate::places::{places_before, sorted_places};
 use col_pages::Page;
@@ -65,7 +65,7 @@ impl SortBuffer {
         })
     }
 
-    pub fn types(&self) -> &[SqlType]
+    pub fn types_of_rows(&self) -> &[SqlType]
         ensures { result.now ≡ self.now.types }
     {
         self.rows.types()
@@ -194,7 +194,7 @@ impl SortBuffer {
     }
 
     /// Puts the rows in the order of the keys, unless that was done before.
-    pub fn begin(&mut self) -> Result<(), Memory>
+    fn begin(&mut self) -> Result<(), Memory>
         ensures ok { OnOk result (self.new ≡ record self.old { rows = self.new.rows; begun = true }) }
         ensures order { OnOk result
             (BeganRows self.old.begun self.old.keys self.old.rows self.new.rows) }
@@ -209,8 +209,23 @@ impl SortBuffer {
         Ok(())
     }
 
+    /// Gives the next page of the rows in their order, where there is one.
+    pub fn give(&mut self) -> Result<Option<Page>, Memory>
+        ensures same { self.new ≡ record self.old { rows = self.new.rows; begun = self.new.begun } }
+        ensures fewer { length self.new.rows ≤ length self.old.rows }
+        ensures idle { self.new.begun ≡ false → self.new ≡ self.old }
+        ensures page { IfOk result (λ o. IsGiven self.old o self.new) }
+        ensures done { self.old.rows ≡ [] → self.new.rows ≡ [] }
+    {
+        if !self.holds_row() {
+            return Ok(None);
+        }
+        self.begin()?;
+        Ok(Some(self.next_page()?))
+    }
+
     /// Gives the next page.
-    pub fn next_page(&mut self) -> Result<Page, Memory>
+    fn next_page(&mut self) -> Result<Page, Memory>
         requires begun { self.old.begun ≡ true }
         requires some { 0 < length self.old.rows }
         ensures same { self.new ≡ record self.old { rows = self.new.rows } }

@@ -19,5 +19,6 @@ mod places;
 mod sort;
 mod topn;
 
-pub use sort::SortOp;
-pub use topn::TopNOp;
+pub use buffer::SortBuffer;
+pub use sort::{SortOp, sort_op};
+pub use topn::{TopNOp, TopRows, topn_op};

@@ -1,81 +1,56 @@
-ghost use Rattle.std.specs.Prelude.{◌≡◌, ◌<◌, ◌≤◌, ◌↔◌, ℕ, List, [], true, false, length, IfOk};
-ghost use Rattle.sql_values.specs.declared.fail.Fail.{Fail as Kind};
-ghost use Rattle.col_pages.specs.Pages.{TypedPage, most_rows};
+ghost use Rattle.std.specs.Prelude.{◌≡◌, ◌<◌, ◌≤◌, [], false, length, IfOk};
+ghost use Rattle.col_pages.specs.Pages.{most_rows};
 ghost use Rattle.bag_laws.specs.Firsts.{IsTopOf};
-ghost use Rattle.operator_core.specs.Rows.{Row};
-ghost use Rattle.operator_core.specs.Calls.{IsFresh};
+ghost use Rattle.operator_core.specs.Lates.{IsLate, NoFailure};
 ghost use Rattle.col_pages.specs.Fits.{AllFit, IsOfTypes};
 ghost use Rattle.topn_sort.specs.Sorting.{AreCandidates};
 
 use crate::buffer::SortBuffer;
-use blocked::{Bells, BlockedOn};
 use col_pages::Page;
-use operator_core::{OpFault, Operator};
+use operator_core::{Kernel, Late, OpFault, Operator};
 use sql_values::{ColumnRows, KeySpec, Memory, SqlType};
 use std::alloc::Global;
 use std::marker::Model;
-use std::sync::Wait;
-use std::thread::Threads;
 
 /// Gives the first rows in the order of keys, as many as its count, once `finish` was called.
-/// It holds no more rows than these beside the page that it takes in.
-#[derive(Drop)]
-pub struct TopNOp {
+pub type TopNOp = Late<TopRows>;
+
+/// The first rows of those of these types, in pages of at most `page` rows.
+pub fn topn_op(
+    alloc: Global,
     count: u32,
-    buffer: SortBuffer,
-    is_told: bool,
+    keys: Vec<KeySpec>,
+    types: Vec<SqlType>,
+    page: u32,
+) -> Result<TopNOp, Memory>
+    requires some { 0 < length types.items }
+    requires page { (0 < page) × (page ≤ most_rows) }
+    ensures { IfOk result (λ op. IsLate ⟦<Late<TopRows> as Operator>⟧ op
+        (IsTopOf keys.items count) NoFailure types.items page) }
+{
+    let buffer = SortBuffer::new(alloc, keys, &types, page)?;
+    Ok(Late::new(TopRows { count, buffer }))
 }
 
-impl Model for TopNOp {
+/// The first rows in the order of keys, as many as the count. No more rows are held than these beside the page
+/// that is taken in.
+#[derive(Drop)]
+pub struct TopRows {
+    count: u32,
+    buffer: SortBuffer,
+}
+
+impl Model for TopRows {
     ghost use Rattle.topn_sort.specs.Sorting.{TopState, IsTop};
 
     ghost Value = { TopState };
 
-    ghost view = { λ s. record { count = s.count; buffer = s.buffer; is_told = s.is_told } };
+    ghost view = { λ s. record { count = s.count; buffer = s.buffer } };
 
-    ghost invariant = { λ s. IsTop s.count s.buffer s.is_told };
+    ghost invariant = { λ s. IsTop s.count s.buffer };
 }
 
-impl TopNOp {
-    /// That of rows of these types, in pages of at most `page` rows.
-    pub fn new(
-        alloc: Global,
-        count: u32,
-        keys: Vec<KeySpec>,
-        types: Vec<SqlType>,
-        page: u32,
-    ) -> Result<TopNOp, Memory>
-        requires some { 0 < length types.items }
-        requires page { (0 < page) × (page ≤ most_rows) }
-        ensures fresh { IfOk result (λ op. IsFresh ⟦<TopNOp as Operator>⟧ op) }
-        ensures gives { IfOk result (λ op. (X B : List Row)
-            → ⟦<TopNOp as Operator>⟧.may_give op X B ↔ IsTopOf keys.items count X B) }
-        ensures fails { IfOk result (λ op. (X : List Row) (node : ℕ) (kind : Kind)
-            → ⟦<TopNOp as Operator>⟧.may_still_fail op X node kind → ⊥) }
-        ensures takes { IfOk result (λ op. (page : TypedPage)
-            → ⟦<TopNOp as Operator>⟧.takes op page ↔ IsOfTypes types.items page) }
-        ensures open { IfOk result (λ op. ⟦<TopNOp as Operator>⟧.is_full op ≡ false) }
-        ensures size { IfOk result (λ op. ⟦<TopNOp as Operator>⟧.page_size op ≡ page) }
-        ensures late { IfOk result (λ op. ⟦<TopNOp as Operator>⟧.gives_late op ≡ true) }
-        ensures waits { IfOk result (λ op. ⟦<TopNOp as Operator>⟧.waits op ≡ false) }
-        ensures knows { IfOk result (λ op. ⟦<TopNOp as Operator>⟧.knows op ≡ true) }
-        ensures learns { IfOk result
-            (λ op. (m : _) → ⟦<TopNOp as Operator>⟧.may_learn op m → ⊥) }
-    {
-        Ok(TopNOp {
-            count,
-            buffer: SortBuffer::new(alloc, keys, &types, page)?,
-            is_told: false,
-        })
-    }
-
-    /// The types of the rows that it takes and gives.
-    pub fn types(&self) -> &[SqlType]
-        ensures { result.now ≡ self.now.buffer.types }
-    {
-        self.buffer.types()
-    }
-
+impl TopRows {
     /// The rows of a page, or where there are as many rows as are wanted those that stand before the last one.
     fn candidates(&self, page: Page) -> Result<ColumnRows, Memory>
         requires some { 0 < self.now.count }
@@ -95,43 +70,31 @@ impl TopNOp {
     }
 }
 
-impl Operator for TopNOp {
-    ghost use Rattle.std.specs.Prelude.{◌≡◌, [], true, false, not, ◌&&◌, refl};
-    ghost use Rattle.operator_core.specs.LawGroups.{never_full, no_note};
+impl Kernel for TopRows {
+    ghost use Rattle.std.specs.Prelude.{[], false, not, refl};
     ghost use Rattle.operator_core.specs.Samples.{has_row};
-    ghost use Rattle.operator_core.specs.NoteLaws.{held-finished, none-without, told-needs_none, told-needs};
-    ghost use Rattle.col_pages.specs.Fits.{IsOfTypes};
     ghost use Rattle.topn_sort.specs.Sorting.{TopGives, top_rows};
-    ghost use Rattle.topn_sort.specs.SortingLaws.{top-some, top-rest};
+    ghost use Rattle.topn_sort.specs.SortingLaws.{held-done, top-some, top-rest};
 
     ghost may_give = { λ s X B. TopGives s.buffer.begun s.buffer.keys s.count s.buffer.rows X B };
 
-    ghost may_still_fail = { λ _ _ _ _. ⊥ };
+    ghost may_fail = { λ _ _ _ _. ⊥ };
 
-    ghost takes = { λ s page. IsOfTypes s.buffer.types page };
+    ghost pages = { λ s. record { takes = s.buffer.types; size = s.buffer.page } };
 
-    ghost page_size = { λ s. s.buffer.page };
+    ghost holds_row = { λ s. has_row (top_rows s.buffer.begun s.count s.buffer.rows) };
 
-    ghost gives_late = { λ _. true };
+    ghost is_done = { λ s. not (has_row (top_rows s.buffer.begun s.count s.buffer.rows)) };
 
-    ghost needs_input = { λ s. not s.is_told };
+    ghost has_begun = { λ s. s.buffer.begun };
 
-    ghost holds_row = { λ s.
-        s.is_told && has_row (top_rows s.buffer.begun s.count s.buffer.rows) };
+    ghost as_made = { λ s. record s { buffer = record s.buffer { rows = []; begun = false } } };
 
-    ghost is_told = { λ s. s.is_told };
-
-    ghost is_finished = { λ s.
-        s.is_told && not (has_row (top_rows s.buffer.begun s.count s.buffer.rows)) };
-
-    ghost as_made = { λ s.
-        record s { buffer = record s.buffer { rows = []; begun = false }; is_told = false } };
-
-    fn needs_input(&self) -> bool {
-        !self.is_told
+    fn types(&self) -> &[SqlType] {
+        self.buffer.types_of_rows()
     }
 
-    fn add_input(&mut self, page: Page) -> Result<(), OpFault> {
+    fn take_in(&mut self, page: Page) -> Result<(), Memory> {
         if self.count == 0 {
             return Ok(());
         }
@@ -142,51 +105,20 @@ impl Operator for TopNOp {
         Ok(())
     }
 
-    fn get_output(&mut self) -> Result<Option<Page>, OpFault> {
-        if !self.is_told || !self.buffer.holds_row() {
-            return Ok(None);
-        }
-        self.buffer.begin()?;
-        Ok(Some(self.buffer.next_page()?))
+    fn give_out(&mut self) -> Result<Option<Page>, OpFault> {
+        Ok(self.buffer.give()?)
     }
 
-    fn finish(&mut self) {
-        self.is_told = true;
+    fn is_done(&self) -> bool {
+        !self.buffer.holds_row()
     }
 
-    fn is_finished(&self) -> bool {
-        self.is_told && !self.buffer.holds_row()
-    }
+    ghost some_rows = { λ s X. top-some s.buffer.begun s.buffer.keys s.count s.buffer.rows X };
 
-    fn blocked<R: Threads + Wait + Sync, B: Bells>(
-        &mut self,
-        _rt: &R,
-        _bells: &mut B,
-    ) -> Result<Option<BlockedOn>, Memory> {
-        Ok(None)
-    }
+    ghost holds_rest = { λ s B g.
+        top-rest s.buffer.begun s.buffer.keys s.count s.buffer.rows B g };
 
-    ghost some_rows = { λ s X coming.
-        top-some s.buffer.begun s.buffer.keys s.count s.buffer.rows X };
-
-    ghost holds_rest = { λ s B told g.
-        top-rest s.buffer.begun s.is_told s.buffer.keys s.count s.buffer.rows B (told refl) g };
-
-    ghost late_holds_none = { λ s late told.
-        none-without s.is_told (has_row (top_rows s.buffer.begun s.count s.buffer.rows)) told };
-
-    ghost finished = { λ s.
-        held-finished s.is_told (top_rows s.buffer.begun s.count s.buffer.rows) };
-
-    ghost needs_untold = { λ s. told-needs_none s.is_told };
-
-    ghost full = { never_full };
-
-    ghost needs = { λ s told _ _ _. told-needs s.is_told told };
-
-    ghost made_untold = { λ s. refl };
+    ghost done = { λ s. held-done (has_row (top_rows s.buffer.begun s.count s.buffer.rows)) };
 
     ghost made_again = { λ s. refl };
-
-    ghost note = { no_note };
 }

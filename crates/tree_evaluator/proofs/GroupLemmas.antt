@@ -1,5 +1,5 @@
 -- What aggregates make of the rows of their input.
-use Rattle.std.proofs.Common.{◌≡◌, ◌∙◌, ℕ, inl, List, [], ◌∷◌, ◌++◌, ap, length, map, refl, sym, subst}
+use Rattle.std.proofs.Common.{◌≡◌, ◌∙◌, ℕ, List, [], ◌∷◌, ◌++◌, ap, length, map, refl, sym, subst}
 use Rattle.std.specs.Prelude.{flat_map, MatchResult, Result, Ok, Err}
 use Rattle.std.proofs.lemmas.List.Sorted.{IsPermutation-refl}
 use Rattle.sql_values.specs.declared.types.SqlType.{SqlType}
@@ -10,10 +10,9 @@ use Rattle.sql_functions.specs.CallTypes.{type_at}
 use Rattle.col_pages.specs.Pages.{TypedPage}
 use Rattle.relation_laws.specs.Groups.{groups_of}
 use Rattle.relation_laws.specs.Verdicts.{Verdict, failures, keeps, kept}
-use Rattle.plan_trees.specs.TreeForms.{TreeForm, aggregate}
-use Rattle.plan_trees.specs.TreeTypes.{call_kind, types_of}
+use Rattle.plan_trees.specs.Steps.{aggregate}
+use Rattle.plan_trees.specs.TreeTypes.{call_kind}
 use Rattle.plan_trees.specs.Allowed.{Taken, strict}
-use Rattle.plan_trees.proofs.ModeLemmas.{skipping_from_strict}
 use Rattle.aggregation.specs.Giving.{verdicts_with}
 use Rattle.aggregation.specs.Held.{first_keys, first_partials}
 use Rattle.aggregation.specs.Tables.{TableState}
@@ -21,7 +20,8 @@ use Rattle.aggregation.proofs.PartLemmas.{made_verdicts}
 use Rattle.aggregation.proofs.SingleLemmas.{kept-keeps}
 use Rattle.tree_evaluator.specs.declared.stop.EvalStop.{EvalStop}
 use Rattle.tree_evaluator.specs.declared.stop.EvalStop.TheVariants as stop
-use Rattle.tree_evaluator.specs.Stops.{GroupStops, IsEvaluated, StopsFor}
+use Rattle.tree_evaluator.specs.Stops.{GroupStops}
+use Rattle.tree_evaluator.proofs.EvalLemmas.{Answers}
 
 -- rows of which all groups are kept
 none_fails : (rows : List (List Value)) → failures (map keeps rows) ≡ 0
@@ -42,28 +42,11 @@ GivesGroups types keys calls id rows r =
     (λ n. (n.types ≡ map (type_at types) keys ++ map (call_kind types) calls) × (map keeps n.rows ≡ groups_of types keys calls rows))
     (GroupStops id (groups_of types keys calls rows))
 
-module _ (id : ℕ) (keys : List ℕ) (calls : List Call) (input : TreeForm) (tables : List (List (List Value))) (rows : TypedPage) (given : IsEvaluated input tables rows) where
-  group_stops : (reason : EvalStop) → GroupStops id (groups_of (types_of input) keys calls rows.rows) reason → StopsFor (aggregate id keys calls input) tables reason
-  group_stops (stop.ExprFailed node kind) h = inl (
-    h.0,
-    record {
-      given = rows.rows;
-      may = skipping_from_strict input tables rows.rows given.allowed;
-      so = h.1;
-    },
-  )
-  group_stops stop.Memory h = tt
-
-  groups_given : (r : Result TypedPage EvalStop) → GivesGroups (types_of input) keys calls id rows.rows r
-      → MatchResult r (IsEvaluated (aggregate id keys calls input) tables) (StopsFor (aggregate id keys calls input) tables)
-  groups_given (Ok n) h = record { types = h.0; allowed = (rows.rows, given.allowed, all_taken (groups_of (types_of input) keys calls rows.rows) n.rows h.1) }
-  groups_given (Err reason) h = group_stops reason h
-
-pub group_answer : (tree : TreeForm) (id : ℕ) (keys : List ℕ) (calls : List Call) (input : TreeForm) (tables : List (List (List Value))) (rows : TypedPage) (r : Result TypedPage EvalStop)
-    → tree ≡ aggregate id keys calls input → IsEvaluated input tables rows → GivesGroups rows.types keys calls id rows.rows r → MatchResult r (IsEvaluated tree tables) (StopsFor tree tables)
-group_answer tree id keys calls input tables rows r e given h =
-    subst (λ t. MatchResult r (IsEvaluated t tables) (StopsFor t tables)) (sym e)
-    (groups_given id keys calls input tables rows given r (subst (λ ts. GivesGroups ts keys calls id rows.rows r) given.types h))
+pub group_answer : (id : ℕ) (keys : List ℕ) (calls : List Call) (rows : TypedPage) (r : Result TypedPage EvalStop)
+    → GivesGroups rows.types keys calls id rows.rows r → Answers id (aggregate keys calls) rows r
+group_answer id keys calls rows (Ok n) h = record { types = h.0; gives = all_taken (groups_of rows.types keys calls rows.rows) n.rows h.1 }
+group_answer id keys calls rows (Err (stop.ExprFailed node kind)) h = h
+group_answer id keys calls rows (Err stop.Memory) h = tt
 
 -- of a table to which no row came
 pub made_told : (types : List SqlType) (columns : List ℕ) (calls : List Call) (table : TableState) (rows : List (List Value))

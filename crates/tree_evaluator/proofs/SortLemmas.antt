@@ -21,23 +21,25 @@ use Rattle.sql_functions.specs.CallTypes.{type_at}
 use Rattle.sql_exprs.specs.Meaning.{kind_of}
 use Rattle.relation_laws.specs.Sorts.{IsSortOf}
 use Rattle.col_pages.specs.Fits.{AllFit}
-use Rattle.plan_trees.specs.TreeForms.{TreeForm, scan, values, remote, filter, project, join, aggregate, sort, topn, limit, union}
+use Rattle.plan_trees.specs.Steps.{StepForm, aggregate, project, types_after}
+use Rattle.plan_trees.specs.TreeForms.{TreeForm, scan, values, remote, step, join, union}
 use Rattle.plan_trees.specs.TreeTypes.{call_kind, types_of}
-use Rattle.tree_evaluator.specs.Fits.{FitsTables}
+use Rattle.tree_evaluator.specs.Fits.{FitsTables, StepFits}
+
+-- a step over a column has one
+step_column : (types : List SqlType) (s : StepForm) → StepFits types s → 0 < length types → 0 < length (types_after s types)
+step_column types (project columns) fit some = omega (arith, length-map columns (kind_of types), fit.0)
+step_column types (aggregate keys calls) fit some =
+    omega (arith, length-append (map (type_at types) keys) (map (call_kind types) calls), length-map keys (type_at types), length-map calls (call_kind types), fit.0)
+step_column types s fit some = some
 
 -- a tree that fits has a column
 pub has_column : (tree : TreeForm) (tables : List (List (List Value))) → FitsTables tree tables → 0 < length (types_of tree)
 has_column (scan id table columns types) tables fit = fit.0
 has_column (values id types constants) tables fit = fit.0
 has_column (remote id input) tables fit = has_column input tables fit
-has_column (filter id predicate input) tables fit = has_column input tables fit.1
-has_column (project id columns input) tables fit = omega (arith, length-map columns (kind_of (types_of input)), fit.0)
+has_column (step id s input) tables fit = step_column (types_of input) s fit.0 (has_column input tables fit.1)
 has_column (join id kind on left right) tables fit = omega (arith, length-append (types_of left) (types_of right), has_column left tables fit.0)
-has_column (aggregate id keys calls input) tables fit =
-    omega (arith, length-append (map (type_at (types_of input)) keys) (map (call_kind (types_of input)) calls), length-map keys (type_at (types_of input)), length-map calls (call_kind (types_of input)), fit.0)
-has_column (sort id keys input) tables fit = has_column input tables fit
-has_column (topn id count keys input) tables fit = has_column input tables fit
-has_column (limit id count input) tables fit = has_column input tables fit
 has_column (union id left right) tables fit = has_column left tables fit.1
 
 -- so rows that it gave have one

@@ -5,9 +5,10 @@ use Rattle.sql_values.specs.declared.table.Table.{Table}
 use Rattle.sql_values.specs.declared.fail.Fail.{Fail}
 use Rattle.col_pages.specs.Pages.{TypedPage}
 use Rattle.relation_laws.specs.Verdicts.{Verdict, fails}
-use Rattle.plan_trees.specs.TreeForms.{TreeForm, aggregate, filter, limit, project, sort, topn}
+use Rattle.plan_trees.specs.Steps.{StepFails, StepForm, StepGives, types_after}
+use Rattle.plan_trees.specs.TreeForms.{TreeForm}
 use Rattle.plan_trees.specs.TreeTypes.{types_of}
-use Rattle.plan_trees.specs.Allowed.{Allows}
+use Rattle.plan_trees.specs.Allowed.{Allows, strict}
 use Rattle.plan_trees.specs.Stopped.{MayFail}
 use Rattle.tree_evaluator.specs.declared.stop.EvalStop.{EvalStop}
 use Rattle.tree_evaluator.specs.declared.stop.EvalStop.TheVariants as stop
@@ -35,13 +36,12 @@ pub record IsEvaluated (tree : TreeForm) (tables : List (List (List Value))) (gi
   pub types : given.types ≡ types_of tree
   pub allowed : Allows tree tables given.rows
 
--- rows of the node's one input, of which it makes its own. There are none where a node has no input or
--- two, or passes the rows on
-abbrev pub IsInput : TreeForm → List (List (List Value)) → TypedPage → Type 0
-IsInput (filter id predicate input) tables rows = IsEvaluated input tables rows
-IsInput (project id columns input) tables rows = IsEvaluated input tables rows
-IsInput (aggregate id keys calls input) tables rows = IsEvaluated input tables rows
-IsInput (sort id keys input) tables rows = IsEvaluated input tables rows
-IsInput (topn id count keys input) tables rows = IsEvaluated input tables rows
-IsInput (limit id count input) tables rows = IsEvaluated input tables rows
-IsInput _ tables rows = ⊥
+-- rows that a step makes of these
+pub record IsStepped (s : StepForm) (rows given : TypedPage) : Type 0 where
+  pub types : given.types ≡ types_after s rows.types
+  pub gives : StepGives strict rows.types s rows.rows given.rows
+
+-- the step of this node failed with this kind on these rows, or memory was wanting
+abbrev pub StepStops : ℕ → StepForm → TypedPage → EvalStop → Type 0
+StepStops id s rows (stop.ExprFailed node kind) = (id ≡ node) × StepFails rows.types s rows.rows kind
+StepStops id s rows stop.Memory = Unit {0}

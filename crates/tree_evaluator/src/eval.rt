@@ -1,9 +1,8 @@
-ghost use Rattle.std.specs.Prelude.{List, map, MatchResult};
-ghost use Rattle.sql_values.specs.declared.value.Value.{Value};
+ghost use Rattle.std.specs.Prelude.{◌<◌, length, map, MatchResult};
 ghost use Rattle.plan_trees.specs.Allowed.{Allows};
-ghost use Rattle.plan_trees.specs.TreeForms.{tree_view};
-ghost use Rattle.tree_evaluator.specs.Fits.{FitsTables};
-ghost use Rattle.tree_evaluator.specs.Stops.{IsEvaluated, IsInput, StopsFor, rows_of_table};
+ghost use Rattle.plan_trees.specs.TreeForms.{step_view, tree_view};
+ghost use Rattle.tree_evaluator.specs.Fits.{FitsTables, StepFits};
+ghost use Rattle.tree_evaluator.specs.Stops.{IsEvaluated, IsStepped, StepStops, StopsFor, rows_of_table};
 
 use crate::groups::group_rows;
 use crate::joins::join_rows;
@@ -13,7 +12,7 @@ use crate::lists::{append_rows, limit_rows, list_of};
 use crate::node_rows::NodeRows;
 use crate::sorts::sort_rows;
 use crate::stop::EvalStop;
-use plan_trees::{Tree, types_of_tree};
+use plan_trees::{Tree, TreeStep, types_after};
 use sql_values::{RowList, Table};
 use std::alloc::Global;
 
@@ -45,14 +44,9 @@ fn evaluate_node(alloc: Global, tree: &Tree, tables: &[Table]) -> Result<NodeRow
         } => Ok(scan_table(alloc, tables, *table, types.as_slice(), columns.as_slice())?),
         Tree::Values { types, rows, .. } => Ok(constant_rows(alloc, rows, types.as_slice())?),
         Tree::Remote { input, .. } => evaluate_node(alloc, input, tables),
-        Tree::Filter { input, .. }
-        | Tree::Project { input, .. }
-        | Tree::Aggregate { input, .. }
-        | Tree::Sort { input, .. }
-        | Tree::TopN { input, .. }
-        | Tree::Limit { input, .. } => {
+        Tree::Step { id, step, input } => {
             let rows = evaluate_node(alloc, input, tables)?;
-            over_input(alloc, tree, rows)
+            over_step(alloc, *id, step, rows)
         }
         Tree::Join {
             kind,
@@ -74,35 +68,27 @@ fn evaluate_node(alloc: Global, tree: &Tree, tables: &[Table]) -> Result<NodeRow
     }
 }
 
-/// The rows of a node over those of its one input.
-fn over_input(alloc: Global, tree: &Tree, rows: NodeRows) -> Result<NodeRows, EvalStop>
-    requires { (tables : List (List (List Value)))
-        × FitsTables (tree_view tree.now) tables × IsInput (tree_view tree.now) tables rows }
-    ensures { (tables : List (List (List Value))) → IsInput (tree_view tree.now) tables rows
-        → MatchResult result (IsEvaluated (tree_view tree.now) tables) (StopsFor (tree_view tree.now) tables) }
+/// The rows of the node of the number over those of its one input.
+fn over_step(alloc: Global, id: u32, step: &TreeStep, rows: NodeRows) -> Result<NodeRows, EvalStop>
+    requires some { 0 < length rows.types }
+    requires fits { StepFits rows.types (step_view step.now) }
+    ensures { MatchResult result
+        (IsStepped (step_view step.now) rows) (StepStops id (step_view step.now) rows) }
 {
-    match tree {
-        Tree::Filter { id, predicate, .. } => filter_rows(alloc, *id, predicate, rows),
-        Tree::Project { id, columns, .. } => {
-            let types = types_of_tree(alloc, tree)?;
-            project_rows(alloc, *id, columns.as_slice(), types.as_slice(), rows)
+    match step {
+        TreeStep::Filter { predicate } => filter_rows(alloc, id, predicate, rows),
+        TreeStep::Project { columns } => {
+            let types = types_after(alloc, step, rows.types())?;
+            project_rows(alloc, id, columns.as_slice(), types.as_slice(), rows)
         }
-        Tree::Aggregate {
-            id,
-            keys,
-            calls,
-            ..
-        } => group_rows(alloc, *id, keys.as_slice(), calls.as_slice(), rows),
-        Tree::Sort { keys, .. } => Ok(sort_rows(alloc, keys.as_slice(), rows)?),
-        Tree::TopN { count, keys, .. } => {
+        TreeStep::Aggregate { keys, calls } => {
+            group_rows(alloc, id, keys.as_slice(), calls.as_slice(), rows)
+        }
+        TreeStep::Sort { keys } => Ok(sort_rows(alloc, keys.as_slice(), rows)?),
+        TreeStep::TopN { count, keys } => {
             let sorted = sort_rows(alloc, keys.as_slice(), rows)?;
             Ok(limit_rows(alloc, *count, sorted)?)
         }
-        Tree::Limit { count, .. } => Ok(limit_rows(alloc, *count, rows)?),
-        Tree::Scan { .. }
-        | Tree::Values { .. }
-        | Tree::Remote { .. }
-        | Tree::Join { .. }
-        | Tree::Union { .. } => unreachable!(),
+        TreeStep::Limit { count } => Ok(limit_rows(alloc, *count, rows)?),
     }
 }

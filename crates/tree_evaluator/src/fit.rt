@@ -1,19 +1,18 @@
-ghost use Rattle.std.specs.Prelude.{◌≡◌, ◌+◌, ◌<◌, length, map, IsTrue, IfOk};
+ghost use Rattle.std.specs.Prelude.{◌≡◌, ◌<◌, length, map, IsTrue, IfOk};
 ghost use Rattle.sql_exprs.specs.Forms.{form_view};
-ghost use Rattle.accumulators.specs.Limits.{are_allowed};
 ghost use Rattle.plan_trees.specs.Allowed.{scanned};
-ghost use Rattle.plan_trees.specs.TreeForms.{tree_view};
+ghost use Rattle.plan_trees.specs.TreeForms.{step_view, tree_view};
 ghost use Rattle.plan_trees.specs.TreeTypes.{types_of};
 ghost use Rattle.col_pages.specs.Fits.{AllFit};
 ghost use Rattle.page_processor.specs.Typed.{AllTyped, IsTyped};
 ghost use Rattle.sql_values.specs.Columns.{kinds};
-ghost use Rattle.tree_evaluator.specs.Fits.{ColumnFits, ColumnsFit, FitsTables, TablesFit};
+ghost use Rattle.tree_evaluator.specs.Fits.{ColumnFits, ColumnsFit, FitsTables, StepFits, TablesFit};
 ghost use Rattle.tree_evaluator.specs.Stops.{rows_of_table};
 
 use crate::calls::{are_allowed, has_column};
-use plan_trees::{CallList, Tree, types_of_tree};
-use sql_exprs::{Expr, ExprList, TypeFault, typed};
-use sql_values::{Column, ColumnRows, Memory, Places, RowList, SqlType, Table};
+use plan_trees::{Tree, TreeStep, types_of_tree};
+use sql_exprs::{Expr, TypeFault, typed};
+use sql_values::{Column, ColumnRows, Memory, RowList, SqlType, Table};
 use std::alloc::Global;
 
 /// True only where each expression of the tree has a type and each aggregate call can be made, each node
@@ -32,26 +31,10 @@ pub fn fits_tables(alloc: Global, tree: &Tree, tables: &[Table]) -> Result<bool,
             ..
         } => Ok(scan_fits(tables, *table, columns.as_slice(), types.as_slice())),
         Tree::Values { types, rows, .. } => rows_fit(alloc, rows, types.as_slice()),
-        Tree::Filter {
-            predicate,
-            input,
-            ..
-        } => Ok(filter_fits(alloc, predicate, input)? && fits_tables(alloc, input, tables)?),
-        Tree::Project { columns, input, .. } => {
-            Ok(project_fits(alloc, columns, input)? && fits_tables(alloc, input, tables)?)
+        Tree::Remote { input, .. } => fits_tables(alloc, input, tables),
+        Tree::Step { step, input, .. } => {
+            Ok(step_fits(alloc, step, input)? && fits_tables(alloc, input, tables)?)
         }
-        Tree::Aggregate {
-            keys,
-            calls,
-            input,
-            ..
-        } => {
-            Ok(aggregate_fits(alloc, keys, calls, input)? && fits_tables(alloc, input, tables)?)
-        }
-        Tree::Remote { input, .. }
-        | Tree::Sort { input, .. }
-        | Tree::TopN { input, .. }
-        | Tree::Limit { input, .. } => fits_tables(alloc, input, tables),
         Tree::Join { left, right, .. } => {
             Ok(fits_tables(alloc, left, tables)? && fits_tables(alloc, right, tables)?)
         }
@@ -62,38 +45,24 @@ pub fn fits_tables(alloc: Global, tree: &Tree, tables: &[Table]) -> Result<bool,
     }
 }
 
-/// Whether the predicate has a type over the input's rows.
-fn filter_fits(alloc: Global, predicate: &Expr, input: &Tree) -> Result<bool, Memory>
+/// Whether the input has what the step asks of it.
+fn step_fits(alloc: Global, step: &TreeStep, input: &Tree) -> Result<bool, Memory>
     ensures { IfOk result
-        (λ fits. IsTrue fits → IsTyped (types_of (tree_view input.now)) (form_view predicate.now)) }
+        (λ fits. IsTrue fits → StepFits (types_of (tree_view input.now)) (step_view step.now)) }
 {
     let types = types_of_tree(alloc, input)?;
-    is_typed(alloc, types.as_slice(), predicate)
-}
-
-/// Whether there is a column, and each has a type over the input's rows.
-fn project_fits(alloc: Global, columns: &ExprList, input: &Tree) -> Result<bool, Memory>
-    ensures { IfOk result (λ fits. IsTrue fits → (0 < length columns.now.items)
-        × AllTyped (types_of (tree_view input.now)) (map form_view columns.now.items)) }
-{
-    let types = types_of_tree(alloc, input)?;
-    let typed = are_typed(alloc, types.as_slice(), columns.as_slice())?;
-    Ok(!columns.is_empty() && typed)
-}
-
-/// Whether there is a column, and the calls can be made over the input's rows.
-fn aggregate_fits(
-    alloc: Global,
-    keys: &Places,
-    calls: &CallList,
-    input: &Tree,
-) -> Result<bool, Memory>
-    ensures { IfOk result (λ fits. IsTrue fits → (0 < length keys.now + length calls.now)
-        × IsTrue (are_allowed (types_of (tree_view input.now)) calls.now)) }
-{
-    let types = types_of_tree(alloc, input)?;
-    let allowed = are_allowed(types.as_slice(), calls.as_slice());
-    Ok(has_column(keys.as_slice(), calls.as_slice()) && allowed)
+    match step {
+        TreeStep::Filter { predicate } => is_typed(alloc, types.as_slice(), predicate),
+        TreeStep::Project { columns } => {
+            let typed = are_typed(alloc, types.as_slice(), columns.as_slice())?;
+            Ok(!columns.is_empty() && typed)
+        }
+        TreeStep::Aggregate { keys, calls } => {
+            let allowed = are_allowed(types.as_slice(), calls.as_slice());
+            Ok(has_column(keys.as_slice(), calls.as_slice()) && allowed)
+        }
+        _ => Ok(true),
+    }
 }
 
 /// Whether the two sides have the same types.

@@ -4,7 +4,8 @@ use Rattle.sql_values.specs.declared.types.SqlType.{SqlType}
 use Rattle.sql_values.specs.declared.value.Value.{Value}
 use Rattle.sql_values.specs.Types.{rows_have_types}
 use Rattle.sql_exprs.specs.Forms.{Form}
-use Rattle.plan_trees.specs.TreeForms.{TreeForm, scan, values, remote, filter, project, join, aggregate, sort, topn, limit, union}
+use Rattle.plan_trees.specs.Steps.{StepForm, filter, project}
+use Rattle.plan_trees.specs.TreeForms.{TreeForm, scan, values, remote, step, join, union}
 use Rattle.plan_trees.specs.Allowed.{scanned}
 use Rattle.type_laws.specs.Keeps.{CastsToTypes}
 
@@ -16,15 +17,16 @@ abbrev pub EachCastsToTypes : List Form → Type 0
 EachCastsToTypes [] = Unit {0}
 EachCastsToTypes (form ∷ forms) = CastsToTypes form × EachCastsToTypes forms
 
+-- the casts of a step's expressions name types
+abbrev pub StepCasts : StepForm → Type 0
+StepCasts (filter predicate) = CastsToTypes predicate
+StepCasts (project columns) = EachCastsToTypes columns
+StepCasts s = Unit {0}
+
 abbrev pub TypedTables : TreeForm → List (List (List Value)) → Type 0
 TypedTables (scan id table columns types) tables = HaveTypes types (scanned tables table columns)
 TypedTables (values id types constants) tables = HaveTypes types constants
 TypedTables (remote id input) tables = TypedTables input tables
-TypedTables (filter id predicate input) tables = CastsToTypes predicate × TypedTables input tables
-TypedTables (project id columns input) tables = EachCastsToTypes columns × TypedTables input tables
+TypedTables (step id s input) tables = StepCasts s × TypedTables input tables
 TypedTables (join id kind on left right) tables = TypedTables left tables × TypedTables right tables
-TypedTables (aggregate id keys calls input) tables = TypedTables input tables
-TypedTables (sort id keys input) tables = TypedTables input tables
-TypedTables (topn id count keys input) tables = TypedTables input tables
-TypedTables (limit id count input) tables = TypedTables input tables
 TypedTables (union id left right) tables = TypedTables left tables × TypedTables right tables

@@ -7,8 +7,8 @@ use Rattle.plan_spreads.specs.Runs.{plan_run}
 use Rattle.plan_layout.specs.declared.filters.PlacedFilter.{PlacedFilter}
 use Rattle.plan_layout.specs.Filters.{scan_filters}
 use Rattle.plan_layout.specs.Pipes.{PipeForm}
-use Rattle.layout_laws.specs.Reached.{AreReached}
-use Rattle.filter_plan_laws.specs.BuiltFilters.{AreOfPlan}
+use Rattle.net_laws.specs.Reached.{AreReached}
+use Rattle.net_laws.specs.BuiltFilters.{AreOfPlan}
 use Rattle.net_laws.specs.Filtered.{FiltersReach}
 use Rattle.filter_net_laws.specs.PlanCounts.{HasCounts, rows_passed}
 use Rattle.filter_net_laws.specs.PlanFilters.{IsCountOfFilter}

@@ -8,7 +8,7 @@ use Rattle.plan_spreads.specs.Runs.{plan_run}
 use Rattle.plan_layout.specs.declared.filters.PlacedFilter.{PlacedFilter}
 use Rattle.plan_layout.specs.Filters.{scan_filters}
 use Rattle.plan_layout.specs.Pipes.{PipeForm}
-use Rattle.layout_laws.specs.Reached.{AreReached}
+use Rattle.net_laws.specs.Reached.{AreReached}
 use Rattle.net_laws.specs.Filtered.{FiltersReach}
 use Rattle.net_laws.specs.Tidy.{IsTidy}
 use Rattle.filter_net_laws.specs.PlanCounts.{HasCounts}

@@ -1,6 +1,6 @@
 use Rattle.std.proofs.Common.{subst, sym}
 use Rattle.driver_loop.specs.declared.stage.Stage.{Stage}
-use Rattle.pipe_laws.specs.Pipes.{PipeState}
+use Rattle.driver_net_laws.specs.Pipes.{PipeState}
 use Rattle.plan_spreads.specs.Runs.{output_view}
 use Rattle.driver_net_laws.specs.States.{pipe_of, pipe_states_of}
 use Rattle.net_laws.specs.Takes.{TakesRoot}

@@ -1,6 +1,6 @@
 use Rattle.std.proofs.Common.{subst, sym}
 use Rattle.driver_loop.specs.declared.stage.Stage.{Stage}
-use Rattle.pipe_laws.specs.Pipes.{PipeState}
+use Rattle.driver_net_laws.specs.Pipes.{PipeState}
 use Rattle.net_laws.specs.Takes.{TakesRows}
 use Rattle.net_laws.proofs.DriverLemmas.{all_known, pipe_at}
 use Rattle.net_laws.proofs.RowLemmas.{rows_took}

@@ -5,7 +5,7 @@ use Rattle.driver_loop.specs.BuildFilters.{IsFilterOf, build_filter_made}
 use Rattle.driver_loop.specs.Builds.{BuildState, build_made}
 use Rattle.plan_docs.specs.declared.node.DynamicFilter.{DynamicFilter}
 use Rattle.plan_trees.specs.declared.tree.Pair.{Pair}
-use Rattle.driver_net_laws.specs.Nets.{ArePartsFor, right_columns}
+use Rattle.pipe_stages.specs.Nets.{ArePartsFor, right_columns}
 use Rattle.net_making.proofs.BuildLemmas.{build_new}
 use Rattle.net_making.proofs.builds.build_target.Goals as goal
 

@@ -2,8 +2,8 @@ use Rattle.std.proofs.Common.{List, ap, map, subst, sym}
 use Rattle.plan_layout.specs.declared.filters.PlacedFilter.{PlacedFilter}
 use Rattle.plan_layout.specs.Filters.{scan_filters}
 use Rattle.plan_layout.specs.Pipes.{PipeForm, StepForm, pipe_view, step_view}
-use Rattle.driver_net_laws.specs.Makes.{StepsFit}
-use Rattle.driver_net_laws.specs.Nets.{IsTargetFor}
+use Rattle.pipe_stages.specs.Makes.{StepsFit}
+use Rattle.pipe_stages.specs.Nets.{IsTargetFor}
 use Rattle.net_making.specs.Makings.{AreStagesOf, typing_in}
 use Rattle.net_making.proofs.DriverLemmas.{made_for, made_new, ok_left}
 use Rattle.net_making.proofs.StockLemmas.{left_then, nets_left, stocked_left}

@@ -2,7 +2,7 @@ use Rattle.std.proofs.Common.{arith, subst}
 use Rattle.std.proofs.lemmas.List.{length-map}
 use Rattle.std.specs.Prelude.{All}
 use Rattle.plan_layout.specs.Pipes.{pipe_view}
-use Rattle.driver_net_laws.specs.Nets.{AreDriversOf}
+use Rattle.pipe_stages.specs.Nets.{AreDriversOf}
 use Rattle.net_making.specs.Makings.{InNets}
 use Rattle.net_making.specs.Slots.{IsNew}
 use Rattle.pipe_stages.proofs.EachLemmas.{mapped_at}

@@ -1,6 +1,6 @@
 use Rattle.std.proofs.Common.{◌∙◌, ap, subst, sym}
 use Rattle.plan_layout.specs.Pipes.{SourceForm, rows, source_view, table}
-use Rattle.driver_net_laws.specs.Nets.{IsSourceFor}
+use Rattle.pipe_stages.specs.Nets.{IsSourceFor}
 use Rattle.net_making.specs.Makings.{HasSource, layout_in}
 use Rattle.net_making.proofs.LaneLemmas.{if_so}
 use Rattle.net_making.proofs.source.source_of.Goals as goal

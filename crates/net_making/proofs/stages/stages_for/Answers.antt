@@ -1,7 +1,7 @@
 use Rattle.std.proofs.Common.{List, map, subst}
 use Rattle.sql_values.specs.declared.types.SqlType.{SqlType}
 use Rattle.plan_layout.specs.Pipes.{step_view}
-use Rattle.driver_net_laws.specs.Nets.{AreInFront}
+use Rattle.pipe_stages.specs.Nets.{AreInFront}
 use Rattle.net_making.proofs.StageLemmas.{stages_stand}
 use Rattle.net_making.proofs.stages.stages_for.Goals as goal
 

@@ -2,7 +2,7 @@ use Rattle.std.proofs.Common.{◌∙◌, ℕ, ap, map, refl, sym}
 use Rattle.std.specs.List.{range_with_len}
 use Rattle.driver_ends.specs.Targets.{TargetState}
 use Rattle.source_laws.specs.Edges.{output_of}
-use Rattle.driver_net_laws.specs.Nets.{tasks_at}
+use Rattle.pipe_stages.specs.Nets.{tasks_at}
 use Rattle.seat_stocks.specs.Lanes.{lane_at}
 use Rattle.net_making.proofs.PutLemmas.{put_edges, put_new, same_edges}
 use Rattle.net_making.proofs.target.readers_target.Goals as goal

@@ -1,6 +1,6 @@
 use Rattle.std.proofs.Common.{ap, subst, sym}
 use Rattle.plan_layout.specs.Pipes.{TargetForm, target_view}
-use Rattle.driver_net_laws.specs.Nets.{IsTargetFor}
+use Rattle.pipe_stages.specs.Nets.{IsTargetFor}
 use Rattle.net_making.proofs.LaneLemmas.{if_so}
 use Rattle.net_making.proofs.target.target_of.Goals as goal
 

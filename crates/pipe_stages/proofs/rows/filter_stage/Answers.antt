@@ -1,7 +1,7 @@
 use Rattle.std.proofs.Common.{◌∷◌, [], List, refl, subst}
 use Rattle.sql_values.specs.declared.types.SqlType.{SqlType}
 use Rattle.sql_exprs.specs.Forms.{Form, form_view}
-use Rattle.plan_run_laws.specs.Nets.{filter}
+use Rattle.plan_run_laws.specs.Stages.{filter}
 use Rattle.row_ops.specs.contracts.filter_project.FilterProjectOperator.TheImpl.{ghosts}
 use Rattle.driver_loop.specs.declared.stage.Stage.TheVariants.{Filter}
 use Rattle.stage_meanings.specs.Meanings.{Means}

@@ -2,7 +2,7 @@ use Rattle.std.proofs.Common.{◌∷◌, [], List, map, refl, subst}
 use Rattle.sql_values.specs.declared.types.SqlType.{SqlType}
 use Rattle.sql_exprs.specs.Forms.{Form, form_view}
 use Rattle.sql_exprs.specs.Meaning.{kind_of}
-use Rattle.plan_run_laws.specs.Nets.{project}
+use Rattle.plan_run_laws.specs.Stages.{project}
 use Rattle.row_ops.specs.contracts.filter_project.FilterProjectOperator.TheImpl.{ghosts}
 use Rattle.driver_loop.specs.declared.stage.Stage.TheVariants.{Filter}
 use Rattle.stage_meanings.specs.Meanings.{Means}

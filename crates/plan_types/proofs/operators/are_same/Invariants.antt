@@ -1,4 +1,4 @@
-use Rattle.std.proofs.Common.{◌≡◌, drop, length}
+use Rattle.std.proofs.Common.{◌≡◌, drop}
 use Rattle.std.specs.Cmp.Lexicographic.{pointwise}
 use Rattle.sql_functions.specs.CallTypes.{same_type}
 use Rattle.plan_types.proofs.operators.are_same.Given as goal

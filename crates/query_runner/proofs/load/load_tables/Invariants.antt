@@ -2,7 +2,7 @@ use Rattle.std.proofs.Common.{◌≡◌, ◌≤◌, map, take}
 use Rattle.command_line.specs.Words.{asked}
 use Rattle.query_runner.specs.Jobs.{AreTablesAsked}
 use Rattle.tree_evaluator.specs.Stops.{rows_of_table}
-use Rattle.plan_fit_laws.specs.Tables.{HaveColumns}
+use Rattle.task_executor.specs.Tables.{HaveColumns}
 use Rattle.task_executor.specs.Shapes.{AreFew}
 use Rattle.tree_evaluator.specs.Fits.{TablesFit}
 use Rattle.query_runner.proofs.load.load_tables.Given as goal

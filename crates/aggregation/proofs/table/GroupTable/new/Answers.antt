@@ -1,1 +1,0 @@
-use Rattle.aggregation.proofs.table.GroupTable.new.Goals as goal

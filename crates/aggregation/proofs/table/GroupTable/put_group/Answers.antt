@@ -1,1 +1,0 @@
-use Rattle.aggregation.proofs.table.GroupTable.put_group.Goals as goal

@@ -24,11 +24,11 @@ use Rattle.lost_row_laws.specs.Sieves.{Sieve}
 use Rattle.lost_row_laws.proofs.FailedLemmas.{failed}
 use Rattle.lost_row_laws.proofs.RestoreLemmas.{put_back}
 use Rattle.lost_row_laws.proofs.WireLemmas.{wired}
-use Rattle.filter_plan_laws.proofs.DropLemmas.{calm_front}
-use Rattle.filter_plan_laws.proofs.FailLemmas.{failed_in}
-use Rattle.filter_plan_laws.proofs.OverLemmas.{gave_root}
-use Rattle.filter_plan_laws.proofs.SplitLemmas.{fails_after}
-use Rattle.filter_plan_laws.proofs.TypedLemmas.{typed as run_typed}
+use Rattle.sieve_laws.proofs.DropLemmas.{calm_front}
+use Rattle.sieve_laws.proofs.FailLemmas.{failed_in}
+use Rattle.sieve_laws.proofs.OverLemmas.{gave_root}
+use Rattle.sieve_laws.proofs.SplitLemmas.{fails_after}
+use Rattle.sieve_laws.proofs.TypedLemmas.{typed as run_typed}
 use Rattle.driver_loop.specs.Drivers.{DriverState, HasFailed}
 use Rattle.driver_loop.specs.declared.run_fault.RunFault.TheVariants.{ExprFailed}
 use Rattle.driver_loop.specs.Ends.{has_ended, rows_handed, rows_taken, was_given}
@@ -43,9 +43,9 @@ use Rattle.plan_layout.specs.declared.filters.PlacedFilter.{PlacedFilter}
 use Rattle.plan_layout.specs.Filters.{scan_filters}
 use Rattle.plan_layout.specs.Layouts.{drivers_in}
 use Rattle.plan_layout.specs.Pipes.{PipeForm, StepForm, TargetForm, driver_number, result}
-use Rattle.layout_laws.specs.Numbers.{AreNumbered}
-use Rattle.layout_laws.specs.Reached.{AreReached, IsWithin, is_fetching}
-use Rattle.layout_laws.specs.RunPipes.{PipeIn, RunsAs}
+use Rattle.net_laws.specs.Numbers.{AreNumbered}
+use Rattle.net_laws.specs.Reached.{AreReached, IsWithin, is_fetching}
+use Rattle.net_laws.specs.RunPipes.{PipeIn, RunsAs}
 use Rattle.driver_net_laws.specs.Nets.{AreDriversOf, AreInFront, AreStagesFor, IsResultTarget, IsTargetFor, NetForm, front_stages, step_stages}
 use Rattle.driver_net_laws.specs.Settled.{AreSettled}
 use Rattle.driver_net_laws.specs.States.{Flow, IsFlowOf, no_pipe, pipe_of, pipe_states_of}

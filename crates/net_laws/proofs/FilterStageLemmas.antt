@@ -7,8 +7,8 @@ use Rattle.driver_loop.specs.contracts.stage.StageOperator.TheImpl.{ghosts}
 use Rattle.driver_loop.specs.declared.stage.Stage.{Stage}
 use Rattle.driver_loop.specs.declared.stage.Stage.TheVariants.{Dynamic}
 use Rattle.plan_layout.specs.declared.filters.PlacedFilter.{PlacedFilter}
-use Rattle.filter_plan_laws.specs.FilterLanes.{AllDrop, Drops, FilterNoted}
-use Rattle.filter_plan_laws.proofs.FilterOpLemmas.{filter_drops}
+use Rattle.sieve_laws.specs.FilterLanes.{AllDrop, Drops, FilterNoted}
+use Rattle.sieve_laws.proofs.FilterOpLemmas.{filter_drops}
 use Rattle.driver_net_laws.specs.Nets.{AreInFront, NetForm}
 
 -- a stage that is made as a dynamic filter is one

@@ -13,7 +13,7 @@ use Rattle.driver_loop.specs.contracts.stage.StageOperator.TheImpl.{ghosts}
 use Rattle.driver_loop.specs.declared.stage.Stage.{Stage}
 use Rattle.plan_layout.specs.Filters.{filters_of_scan}
 use Rattle.plan_layout.specs.Pipes.{PipeForm, StepForm}
-use Rattle.filter_plan_laws.proofs.SplitLemmas.{finished_both, linked_both, told_both}
+use Rattle.sieve_laws.proofs.SplitLemmas.{finished_both, linked_both, told_both}
 use Rattle.driver_net_laws.specs.Nets.{AreInFront, IsDriverOf, NetForm, front_stages, step_stages}
 use Rattle.driver_net_laws.specs.States.{CameThrough}
 

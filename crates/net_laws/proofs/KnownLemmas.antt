@@ -28,11 +28,11 @@ use Rattle.driver_loop.specs.Turns.{KnowsParts, filter_note_of_stage, filter_of_
 use Rattle.driver_loop.specs.contracts.stage.StageOperator.TheImpl.{ghosts}
 use Rattle.driver_loop.specs.declared.pieces.FilterCellNote.{FilterCellNote}
 use Rattle.driver_loop.specs.declared.stage.Stage.{Stage}
-use Rattle.filter_plan_laws.specs.KnownDomains.{AreKnownOf, IsKnownOf, JoinFilter}
-use Rattle.filter_plan_laws.proofs.SureLemmas.{domain_of_parts}
+use Rattle.sieve_laws.specs.KnownDomains.{AreKnownOf, IsKnownOf, JoinFilter}
+use Rattle.sieve_laws.proofs.SureLemmas.{domain_of_parts}
 use Rattle.plan_layout.specs.Pipes.{BuildForm, TargetForm, driver_number}
 use Rattle.plan_layout.specs.Pipes as form
-use Rattle.layout_laws.specs.RunPipes.{Alone, OfPipe, PipeIn}
+use Rattle.net_laws.specs.RunPipes.{Alone, OfPipe, PipeIn}
 use Rattle.driver_net_laws.specs.FilterCells.{LearnedPart}
 use Rattle.driver_net_laws.specs.Nets.{AreDriversOf, ArePartsFor, IsPartFor, IsTargetFor, NetForm, right_columns}
 use Rattle.driver_net_laws.specs.Settled.{AreSettled, filter_builds_of, filter_looks_of}

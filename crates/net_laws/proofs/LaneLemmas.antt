@@ -20,7 +20,7 @@ use Rattle.driver_net_laws.specs.Pipes.{GaveTyped, IsHalfPipeOf, IsPipeOf, PipeS
 use Rattle.driver_net_laws.specs.Made.{AreMadeFor, Behind, KnowSources, notes_known}
 use Rattle.driver_net_laws.proofs.MadeLemmas.{half_gives, halved, lane, lane_gives}
 use Rattle.plan_layout.specs.Pipes.{PipeForm, driver_number}
-use Rattle.layout_laws.specs.RunPipes.{Into, RunsAs}
+use Rattle.net_laws.specs.RunPipes.{Into, RunsAs}
 use Rattle.driver_net_laws.specs.Nets.{AreDriversOf, HasDriver, NetForm, front_stages, step_stages}
 use Rattle.driver_net_laws.specs.Settled.{AreSettled}
 use Rattle.driver_net_laws.specs.States.{CameThrough, Flow, IsFlowOf, pipe_of}

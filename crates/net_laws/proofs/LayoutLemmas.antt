@@ -10,7 +10,7 @@ use Rattle.plan_layout.specs.Pipes.{PipeForm, SourceForm, StepForm, edge, fragme
 use Rattle.tree_evaluator.specs.Fits.{FitsTables}
 use Rattle.tree_evaluator.specs.Stops.{rows_of_table}
 use Rattle.plan_fit_laws.specs.Reads.{ReadsTables}
-use Rattle.layout_laws.specs.Reached.{AreReached, IsWithin, is_fetching}
+use Rattle.net_laws.specs.Reached.{AreReached, IsWithin, is_fetching}
 use Rattle.driver_net_laws.specs.Makes.{LayoutFits, PipeFits, SourceFits, StepsFit}
 use Rattle.driver_net_laws.specs.Types.{PipesAreTyped, PipeTypes}
 use Rattle.net_laws.proofs.TypeLemmas.{at_pipe}

@@ -1,3 +1,45 @@
+pub mod SeatLemmas
+pub mod LayoutNumberLemmas
+pub mod LayoutLaneLemmas
+pub mod ReaderLemmas
+pub mod FetchOnceLemmas
+mod GiverLemmas
+pub mod LoneLemmas
+pub mod CoverLemmas
+pub mod RunPipeLemmas
+pub mod BlockLemmas
+pub mod UnderLemmas
+pub mod ReachLemmas
+pub mod PlanPipeLemmas
+mod GivenLemmas
+mod ResultLemmas
+pub mod LayoutReadLemmas
+pub mod JoinCountLemmas
+pub mod WeighLemmas
+pub mod ReadCountLemmas
+pub mod SpotLemmas
+pub mod DocumentCountLemmas
+pub mod JoinPlanLemmas
+pub mod PartLemmas
+pub mod TreeLemmas
+pub mod JoinLemmas
+pub mod PairLemmas
+pub mod JoinFilterLemmas
+pub mod BuiltLemmas
+pub mod ApartLemmas
+pub mod FilterCountLemmas
+pub mod FilterIdLemmas
+pub mod MemberLemmas
+pub mod KeyDomainLemmas
+pub mod CountedRowLemmas
+pub mod CountingStageLemmas
+pub mod CountingDriverLemmas
+pub mod IdLemmas
+pub mod OperatorLemmas
+pub mod FirstLemmas
+pub mod OrderLemmas
+mod WorkedCounts
+mod WorkedDrivers
 pub mod FrontLemmas
 pub mod ListLemmas
 pub mod DriverLemmas
@@ -27,10 +69,13 @@ pub mod ScanLemmas
 pub mod PlanLemmas
 mod MakeLemmas
 mod LayoutLemmas
-pub use Rattle.filter_plan_laws.proofs.ComingLemmas
-pub use Rattle.filter_plan_laws.proofs.TypedLemmas
-pub use Rattle.filter_plan_laws.proofs.OverLemmas
-pub use Rattle.filter_plan_laws.proofs.SplitLemmas
-pub use Rattle.lost_row_laws.proofs.RestoreLemmas
-pub use Rattle.lost_row_laws.proofs.WireLemmas
-pub use Rattle.filter_plan_laws.proofs.BuiltLemmas
+pub mod RightKeyLemmas
+pub mod PlacedLemmas
+pub mod CountedScanLemmas
+pub mod RightLemmas
+pub mod CountedStageLemmas
+pub mod CountedPipeLemmas
+pub mod CountedPlanLemmas
+pub mod CountedFilterLemmas
+pub mod CountedReadLemmas
+pub mod CountedNumberLemmas

@@ -16,8 +16,8 @@ use Rattle.tree_evaluator.specs.Fits.{FitsTables, StepFits as TreeStepFits}
 use Rattle.tree_evaluator.specs.Stops.{rows_of_table}
 use Rattle.tree_evaluator.proofs.SortLemmas.{has_column}
 use Rattle.plan_fit_laws.specs.Reads.{ReadsTables}
-use Rattle.layout_laws.specs.Reached.{IsWithin}
-use Rattle.layout_laws.specs.RunPipes.{Into, RunsAs, Takes, final_step}
+use Rattle.net_laws.specs.Reached.{IsWithin}
+use Rattle.net_laws.specs.RunPipes.{Into, RunsAs, Takes, final_step}
 use Rattle.driver_net_laws.specs.Makes.{PipeFits, SourceFits, StepFits, StepsFit}
 use Rattle.driver_net_laws.specs.Types.{PipesAreTyped, PipeTypes, types_after, types_through}
 use Rattle.plan_run_laws.specs.HalvedSteps.{HalvedForm, whole_step}

@@ -36,7 +36,7 @@ use Rattle.driver_net_laws.specs.Stages.{IsProbeOf}
 use Rattle.driver_net_laws.specs.Cells.{LearnedFrom, cell_of}
 use Rattle.driver_net_laws.specs.Made.{AreMadeFor, Behind, KnowSources, note_known, notes_known}
 use Rattle.plan_layout.specs.Pipes.{BuildForm, PipeForm, SourceForm, StepForm, TargetForm, cell, driver_number}
-use Rattle.layout_laws.specs.RunPipes.{Alone, OfPipe, PipeIn, RunsAs}
+use Rattle.net_laws.specs.RunPipes.{Alone, OfPipe, PipeIn, RunsAs}
 use Rattle.driver_net_laws.specs.Nets.{AreDriversOf, IsTargetFor, NetForm, right_columns}
 use Rattle.driver_net_laws.specs.Settled.{AreSettled, WasTakenApart, builds_of, looks_of}
 use Rattle.driver_net_laws.specs.States.{Flow, IsFlowOf, no_pipe, pipe_of, pipe_states_of}

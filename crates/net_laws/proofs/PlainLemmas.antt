@@ -13,7 +13,7 @@ use Rattle.plan_layout.specs.Pipes.{PipeForm, TargetForm, readers, result, side}
 use Rattle.plan_layout.specs.Sides.{Site, built_for, pipe_of, pipes_of, sides_of}
 use Rattle.plan_layout.specs.Steps.{side_count}
 use Rattle.plan_layout.proofs.PipeLemmas.{each_fetch, each_numbered}
-use Rattle.layout_laws.specs.Reached.{is_fetching}
+use Rattle.net_laws.specs.Reached.{is_fetching}
 
 abbrev IsPlain : PipeForm → Type 0
 IsPlain pipe = is_fetching pipe.target ≡ true → (pipe.steps ≡ []) × (reads_edge pipe.source ≡ true)

@@ -4,7 +4,7 @@ use Rattle.std.specs.Prelude.{slice_get}
 use Rattle.plan_run_laws.specs.Nets.{IsAlone}
 use Rattle.plan_run_laws.specs.RunPlans.{RunPlan}
 use Rattle.plan_layout.specs.Pipes.{PipeForm}
-use Rattle.layout_laws.specs.Reached.{AreReached}
+use Rattle.net_laws.specs.Reached.{AreReached}
 use Rattle.net_laws.specs.Roots.{IsLoneRoot}
 
 pub root_is : (layout : List PipeForm) (run : RunPlan) (reached : AreReached layout run) (pipe : PipeForm) → IsLoneRoot layout pipe → reached.root.pipe ≡ pipe

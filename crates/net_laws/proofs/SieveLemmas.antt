@@ -22,16 +22,16 @@ use Rattle.lost_row_laws.specs.Domains.{sieve_of}
 use Rattle.lost_row_laws.specs.Runs.{AreTyped}
 use Rattle.lost_row_laws.specs.Sieves.{Sieve}
 use Rattle.lost_row_laws.specs.Stops.{AreSure}
-use Rattle.filter_plan_laws.specs.KnownDomains.{JoinFilter, sieves_of}
-use Rattle.filter_plan_laws.proofs.ComingLemmas.{arriving_comes_down, own_arrives}
-use Rattle.filter_plan_laws.proofs.SureLemmas.{has_sieve, sure}
+use Rattle.sieve_laws.specs.KnownDomains.{JoinFilter, sieves_of}
+use Rattle.sieve_laws.proofs.ComingLemmas.{arriving_comes_down, own_arrives}
+use Rattle.sieve_laws.proofs.SureLemmas.{has_sieve, sure}
 use Rattle.plan_layout.specs.declared.filters.PlacedFilter.{PlacedFilter}
 use Rattle.plan_layout.specs.Filters.{Builds, IsPlaced, filters_built, scan_filters}
 use Rattle.plan_layout.specs.Pipes.{BuildForm, PipeForm, SourceForm, StepForm, TargetForm, cell, driver_number, readers, result, side, takers}
 use Rattle.plan_layout.specs.Runs.{HasScan}
 use Rattle.plan_layout.proofs.ScanFilterLemmas.{scan_filters_are_for}
-use Rattle.layout_laws.specs.RunPipes.{Alone, PipeIn, RunsAs}
-use Rattle.filter_plan_laws.specs.RunJoins.{ReachesIn}
+use Rattle.net_laws.specs.RunPipes.{Alone, PipeIn, RunsAs}
+use Rattle.net_laws.specs.RunJoins.{ReachesIn}
 use Rattle.driver_net_laws.specs.Nets.{AreDriversOf, AreInFront, IsFilterFor, NetForm, front_stages}
 use Rattle.driver_net_laws.specs.Settled.{AreSettled}
 use Rattle.driver_net_laws.specs.States.{Flow, IsFlowOf}

@@ -19,9 +19,9 @@ use Rattle.driver_loop.specs.declared.stage.Stage.{Stage}
 use Rattle.driver_net_laws.specs.Pipes.{TookTyped}
 use Rattle.lost_row_laws.specs.Domains.{sieve_of}
 use Rattle.lost_row_laws.specs.Sieves.{Sieve, is_lost}
-use Rattle.filter_plan_laws.specs.FilterLanes.{AreAmong, AreFiltered, FilterNoted, IsFiltered}
-use Rattle.filter_plan_laws.proofs.DropLemmas.{all_fitting, filtered, scan_filtered}
-use Rattle.filter_plan_laws.proofs.SplitLemmas.{told_both}
+use Rattle.sieve_laws.specs.FilterLanes.{AreAmong, AreFiltered, FilterNoted, IsFiltered}
+use Rattle.sieve_laws.proofs.DropLemmas.{all_fitting, filtered, scan_filtered}
+use Rattle.sieve_laws.proofs.SplitLemmas.{told_both}
 use Rattle.plan_layout.specs.Pipes.{PipeForm}
 use Rattle.driver_net_laws.specs.Nets.{NetForm, front_stages, step_stages}
 use Rattle.driver_net_laws.specs.States.{Flow, fact_of, pipe_of, rows_taken_by, sources_ended}

@@ -16,7 +16,7 @@ use Rattle.driver_net_laws.specs.Made.{AreMadeFor, Behind}
 use Rattle.driver_net_laws.specs.Stages.{IsProbeOf, IsStageOf}
 use Rattle.plan_layout.specs.Pipes.{SourceForm, StepForm}
 use Rattle.plan_layout.specs.Pipes as form
-use Rattle.layout_laws.specs.RunPipes.{Into, RunsAs, final_step}
+use Rattle.net_laws.specs.RunPipes.{Into, RunsAs, final_step}
 use Rattle.driver_net_laws.specs.Nets.{AreStagesFor, IsStageFor, NetForm}
 use Rattle.driver_net_laws.specs.Types.{PipesAreTyped, types_after, types_through}
 use Rattle.net_laws.specs.Along.{bells_in}

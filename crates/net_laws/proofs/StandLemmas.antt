@@ -28,15 +28,15 @@ use Rattle.driver_loop.specs.declared.stage.Stage.{Stage}
 use Rattle.driver_net_laws.specs.Lanes.{Noted, other_notes}
 use Rattle.driver_net_laws.specs.Pipes.{GaveTyped, IsHalfPipeOf, PipeState, TookTyped, stopped}
 use Rattle.lost_row_laws.specs.Sieves.{Sieve, over_input, under}
-use Rattle.filter_plan_laws.specs.ComingDown.{ComeDown}
-use Rattle.filter_plan_laws.specs.LosingPipes.{StandsLosing}
+use Rattle.sieve_laws.specs.ComingDown.{ComeDown}
+use Rattle.sieve_laws.specs.LosingPipes.{StandsLosing}
 use Rattle.plan_spreads.specs.Runs.{output_view}
 use Rattle.plan_layout.specs.Edges.{reads_fragment}
 use Rattle.plan_layout.specs.Pipes.{PipeForm, SourceForm, StepForm, TargetForm}
 use Rattle.plan_layout.specs.Pipes as form
-use Rattle.layout_laws.specs.Givers.{HasSource, HasTarget}
-use Rattle.layout_laws.specs.Reached.{is_fetching}
-use Rattle.layout_laws.specs.RunPipes.{Into, OfPipe, PipeIn, RunsAs, Takes}
+use Rattle.net_laws.specs.Givers.{HasSource, HasTarget}
+use Rattle.net_laws.specs.Reached.{is_fetching}
+use Rattle.net_laws.specs.RunPipes.{Into, OfPipe, PipeIn, RunsAs, Takes}
 use Rattle.driver_net_laws.specs.Nets.{AreDriversOf, NetForm, front_stages}
 use Rattle.driver_net_laws.specs.Settled.{AreSettled}
 use Rattle.driver_net_laws.specs.States.{Flow, IsFlowOf, pipe_states_of, rows_taken_by, sources_ended}

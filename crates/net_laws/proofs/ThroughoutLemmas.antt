@@ -4,7 +4,7 @@ use Rattle.plan_run_laws.specs.RunPlans.{RunPlan}
 use Rattle.plan_run_laws.specs.RunPlans as plan
 use Rattle.plan_layout.specs.Pipes.{BuildForm, PipeForm, SourceForm, StepForm, cell}
 use Rattle.plan_layout.specs.Runs.{HasScan}
-use Rattle.layout_laws.specs.RunPipes.{Alone, IsRightSide, PipeIn, RunsAs}
+use Rattle.net_laws.specs.RunPipes.{Alone, IsRightSide, PipeIn, RunsAs}
 use Rattle.net_laws.specs.Throughout.{OfRight, OfScan, Throughout}
 
 -- the pipe at a place builds the right side of a join

@@ -13,7 +13,7 @@ use Rattle.plan_run_laws.specs.RunPlans as plan
 use Rattle.driver_net_laws.specs.Operators.{types_of_source}
 use Rattle.plan_layout.specs.Pipes.{PipeForm, SourceForm, StepForm, TargetForm}
 use Rattle.plan_layout.specs.Pipes as form
-use Rattle.layout_laws.specs.RunPipes.{Into, OfPipe, RunsAs, Takes, final_step}
+use Rattle.net_laws.specs.RunPipes.{Into, OfPipe, RunsAs, Takes, final_step}
 use Rattle.driver_net_laws.specs.Types.{PipesAreTyped, PipeTypes, TakesTypes, gives_to, types_after, types_through}
 use Rattle.net_laws.specs.Halves.{half_step, half_types}
 use Rattle.net_laws.specs.Typed.{HasHalfTypes, HasTypes}

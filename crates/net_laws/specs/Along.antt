@@ -9,7 +9,7 @@ use Rattle.plan_run_laws.specs.RunPlans as plan
 use Rattle.driver_net_laws.specs.Lanes.{Noted, first_note, other_notes}
 use Rattle.driver_net_laws.specs.Pipes.{GaveTyped, PipeState}
 use Rattle.plan_layout.specs.Pipes.{PipeForm, SourceForm, StepForm}
-use Rattle.layout_laws.specs.RunPipes.{RunsAs}
+use Rattle.net_laws.specs.RunPipes.{RunsAs}
 use Rattle.driver_net_laws.specs.Nets.{Links}
 
 -- the bells of the cells of its joins, in a task

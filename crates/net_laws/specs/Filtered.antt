@@ -2,8 +2,8 @@
 use Rattle.std.specs.Prelude.{List}
 use Rattle.plan_run_laws.specs.RunPlans.{RunPlan}
 use Rattle.plan_layout.specs.Pipes.{PipeForm}
-use Rattle.filter_plan_laws.specs.ComingDown.{ScansApart}
-use Rattle.filter_plan_laws.specs.BuiltFilters.{BuiltFiltersReach, PipesApart}
+use Rattle.sieve_laws.specs.ComingDown.{ScansApart}
+use Rattle.net_laws.specs.BuiltFilters.{BuiltFiltersReach, PipesApart}
 
 -- each scan, and each right side of a join, is found by its id; and what a pipe builds is the right side of a join of the
 -- run, of which each filter reaches the scan that it names

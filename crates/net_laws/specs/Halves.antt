@@ -5,7 +5,7 @@ use Rattle.plan_run_laws.specs.HalvedSteps.{HalvedForm}
 use Rattle.plan_run_laws.specs.Stages.{Stage, first_half}
 use Rattle.pipe_laws.specs.Trees.{types_between}
 use Rattle.plan_layout.specs.Pipes.{StepForm}
-use Rattle.layout_laws.specs.RunPipes.{partial_step}
+use Rattle.net_laws.specs.RunPipes.{partial_step}
 
 -- the step, by the number of its node
 abbrev pub half_step : HalvedForm → ℕ → StepForm

@@ -9,10 +9,10 @@ use Rattle.dyn_filter.specs.declared.domain.Domain.{Domain}
 use Rattle.lost_row_laws.specs.Domains.{sieve_of}
 use Rattle.lost_row_laws.specs.Sieves.{Sieve}
 use Rattle.lost_row_laws.specs.Stops.{AreSure}
-use Rattle.filter_plan_laws.specs.ComingDown.{ComeDown}
-use Rattle.filter_plan_laws.specs.FilterLanes.{AllDrop, FilterNoted}
+use Rattle.sieve_laws.specs.ComingDown.{ComeDown}
+use Rattle.sieve_laws.specs.FilterLanes.{AllDrop, FilterNoted}
 use Rattle.plan_layout.specs.Pipes.{PipeForm, SourceForm, StepForm, driver_number}
-use Rattle.layout_laws.specs.RunPipes.{RunsAs}
+use Rattle.net_laws.specs.RunPipes.{RunsAs}
 use Rattle.driver_net_laws.specs.Nets.{front_stages}
 use Rattle.net_laws.specs.Throughout.{OfRight, OfScan, Throughout}
 

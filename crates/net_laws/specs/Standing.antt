@@ -9,10 +9,10 @@ use Rattle.driver_loop.specs.contracts.stage.StageOperator.TheImpl.{ghosts}
 use Rattle.driver_net_laws.specs.Lanes.{Noted}
 use Rattle.driver_net_laws.specs.Pipes.{GaveTyped, IsPipeOf, PipeState, TookTyped}
 use Rattle.lost_row_laws.specs.Sieves.{Sieve}
-use Rattle.filter_plan_laws.specs.LosingPipes.{IsBelowLosing, StandsLosing}
+use Rattle.sieve_laws.specs.LosingPipes.{IsBelowLosing, StandsLosing}
 use Rattle.plan_layout.specs.Pipes.{PipeForm, SourceForm, StepForm}
-use Rattle.layout_laws.specs.Reached.{IsWithin}
-use Rattle.layout_laws.specs.RunPipes.{RunsAs}
+use Rattle.net_laws.specs.Reached.{IsWithin}
+use Rattle.net_laws.specs.RunPipes.{RunsAs}
 use Rattle.net_laws.specs.Along.{Along, BuiltTyped}
 
 -- What its drivers took of the sources of the plan, and how the pipes below stand. The sieves come from above, and

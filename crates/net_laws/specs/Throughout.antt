@@ -3,7 +3,7 @@ use Rattle.std.specs.Prelude.{ℕ, List}
 use Rattle.plan_run_laws.specs.RunPlans.{RunPlan}
 use Rattle.plan_run_laws.specs.RunPlans as plan
 use Rattle.plan_layout.specs.Pipes.{PipeForm, SourceForm, StepForm}
-use Rattle.layout_laws.specs.RunPipes.{RunsAs}
+use Rattle.net_laws.specs.RunPipes.{RunsAs}
 
 -- of a scan: of its id, and the place of the pipe that reads it
 abbrev pub OfScan : Type 1

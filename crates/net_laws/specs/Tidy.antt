@@ -2,8 +2,8 @@
 use Rattle.std.specs.Prelude.{◌≡◌, ℕ, List, [], Option, None, Some, slice_get, true}
 use Rattle.plan_layout.specs.Pipes.{PipeForm, SourceForm, table, rows, sides, fragment, edge}
 use Rattle.plan_layout.specs.Runs.{AreFetched}
-use Rattle.layout_laws.specs.Givers.{GiveToReaders, GiveToUnions}
-use Rattle.layout_laws.specs.Reached.{is_fetching}
+use Rattle.net_laws.specs.Givers.{GiveToReaders, GiveToUnions}
+use Rattle.net_laws.specs.Reached.{is_fetching}
 
 -- only what takes from a table has a scan
 abbrev pub IsOwnScan : SourceForm → Option ℕ → Type 0

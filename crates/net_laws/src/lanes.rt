@@ -10,7 +10,7 @@ ghost use Rattle.driver_loop.specs.Drivers.{DriverState, IsWhole};
 ghost use Rattle.driver_net_laws.specs.Pipes.{GaveTyped, IsHalfPipeOf, IsPipeOf, TookTyped};
 ghost use Rattle.driver_net_laws.specs.Made.{AreMadeFor, Behind};
 ghost use Rattle.plan_layout.specs.Pipes.{PipeForm};
-ghost use Rattle.layout_laws.specs.RunPipes.{Into, RunsAs};
+ghost use Rattle.net_laws.specs.RunPipes.{Into, RunsAs};
 ghost use Rattle.driver_net_laws.specs.Nets.{AreDriversOf, AreStagesFor, IsDriverOf, NetForm};
 ghost use Rattle.driver_net_laws.specs.Settled.{AreSettled};
 ghost use Rattle.driver_net_laws.specs.States.{Flow, IsFlowOf, pipe_states_of};

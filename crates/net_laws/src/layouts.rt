@@ -20,6 +20,6 @@ pub fn layouts_fit(plan: &Plan)
         → (types : ℕ → PipeTypes) → PipesAreTyped (layout_of p (plan_view plan.now)) types
         → LayoutFits tables (layout_of p (plan_view plan.now)) types }
 {
-    layout_laws::pipes_are_reached(plan);
+    crate::pipes::pipes_are_reached(plan);
     plan_fit_laws::consistent_plans_fit(plan);
 }

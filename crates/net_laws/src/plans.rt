@@ -31,8 +31,8 @@ pub fn layouts_are_tidy(plan: &Plan)
     ensures { IsConsistent (plan_view plan.now) → (p : Parallelism)
         → IsTidy (layout_of p (plan_view plan.now)) }
 {
-    layout_laws::unions_have_two_sides(plan);
-    layout_laws::readers_have_one_root(plan);
+    crate::pipes::unions_have_two_sides(plan);
+    crate::pipes::readers_have_one_root(plan);
     plan_layout::sources_are_fetched(plan);
 }
 
@@ -41,8 +41,8 @@ pub fn plan_filters_reach(plan: &Plan)
     ensures { IsConsistent (plan_view plan.now) → (p : Parallelism)
         → FiltersReach (layout_of p (plan_view plan.now)) (plan_run p.tasks (plan_view plan.now)) }
 {
-    filter_plan_laws::scans_are_apart(plan);
-    filter_plan_laws::built_filters_reach(plan);
+    crate::joins::scans_are_apart(plan);
+    crate::joins::built_filters_reach(plan);
 }
 
 /// The law that where all drivers are finished, the rows of the one of the result are a list that the plan allows.
@@ -59,7 +59,7 @@ pub fn plans_give<'w>(plan: &Plan, of: PhantomData<Stage<'w>>)
         → Gives strict (tree_of (plan_view plan.now)) net.tables (rows_handed d.target) }
 {
     layouts_are_tidy(plan);
-    layout_laws::pipes_are_reached(plan);
+    crate::pipes::pipes_are_reached(plan);
     plan_link_laws::consistent_plans_are_placed(plan);
     plan_filters_reach(plan);
     nets_give(of);
@@ -79,8 +79,8 @@ pub fn plans_fail<'w>(plan: &Plan, of: PhantomData<Stage<'w>>)
         → MayFail (tree_of (plan_view plan.now)) net.tables node kind }
 {
     layouts_are_tidy(plan);
-    layout_laws::pipes_are_reached(plan);
-    layout_laws::drivers_are_numbered(plan);
+    crate::pipes::pipes_are_reached(plan);
+    crate::pipes::drivers_are_numbered(plan);
     plan_link_laws::consistent_plans_are_placed(plan);
     plan_filters_reach(plan);
     nets_fail(of);
@@ -104,7 +104,7 @@ pub fn plans_without_filters_fail<'w>(plan: &Plan, of: PhantomData<Stage<'w>>)
         → MayFail (tree_of (plan_view plan.now)) net.tables node kind }
 {
     layouts_are_tidy(plan);
-    layout_laws::pipes_are_reached(plan);
+    crate::pipes::pipes_are_reached(plan);
     plan_link_laws::consistent_plans_are_placed(plan);
     plan_filters_reach(plan);
     nets_without_filters_fail(of);

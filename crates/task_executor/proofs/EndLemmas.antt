@@ -17,14 +17,14 @@ use Rattle.plan_layout.specs.declared.pipe.Parallelism.{Parallelism}
 use Rattle.plan_layout.specs.Layouts.{layout_of}
 use Rattle.plan_layout.specs.Pipes.{PipeForm, driver_number}
 use Rattle.tree_evaluator.specs.Fits.{FitsTables}
-use Rattle.filter_net_laws.specs.Nets.{AreDriversOf, NetForm}
-use Rattle.filter_net_laws.specs.Settled.{AreSettled}
-use Rattle.filter_net_laws.specs.Roots.{IsLoneRoot}
+use Rattle.net_laws.specs.Nets.{AreDriversOf, NetForm}
+use Rattle.net_laws.specs.Settled.{AreSettled}
+use Rattle.net_laws.specs.Roots.{IsLoneRoot}
 use Rattle.net_closing.specs.Back.{HasNet}
 use Rattle.net_closing.specs.Left.{handed_in}
 use Rattle.net_closing.specs.Results.{IsResultOf}
-use Rattle.filter_net_laws.specs.Later.{AreLater}
-use Rattle.filter_net_laws.proofs.LaterLemmas.{drivers_on}
+use Rattle.net_laws.specs.Later.{AreLater}
+use Rattle.net_laws.proofs.LaterLemmas.{drivers_on}
 use Rattle.net_making.specs.Slots.{IsNew}
 use Rattle.task_executor.specs.Nets.{FailsFor, IsNetOf, IsOverTables, NetState, layout_in, plan_in}
 use Rattle.task_executor.specs.declared.answer.RunDone.{RunDone}

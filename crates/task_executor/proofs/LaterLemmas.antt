@@ -2,8 +2,8 @@
 use Rattle.std.proofs.Common.{◌≡◌, List, [], ◌∷◌, None}
 use Rattle.std.proofs.lemmas.List.Elements.{All-head, All-tail}
 use Rattle.driver_loop.specs.Drivers.{DriverState}
-use Rattle.filter_net_laws.specs.Later.{AreLater}
-use Rattle.filter_net_laws.proofs.LaterLemmas.{later_same, later_then}
+use Rattle.net_laws.specs.Later.{AreLater}
+use Rattle.net_laws.proofs.LaterLemmas.{later_same, later_then}
 use Rattle.task_executor.specs.Turns.{AreUnfailed}
 
 pub all_same : (drivers : List DriverState) → AreLater drivers drivers

@@ -17,11 +17,11 @@ use Rattle.plan_layout.specs.Filters.{scan_filters}
 use Rattle.plan_layout.specs.Layouts.{layout_of}
 use Rattle.plan_layout.specs.Pipes.{PipeForm}
 use Rattle.tree_evaluator.specs.Fits.{FitsTables}
-use Rattle.filter_net_laws.specs.Nets.{AreDriversOf, NetForm}
-use Rattle.filter_net_laws.specs.Settled.{AreSettled}
-use Rattle.filter_net_laws.proofs.LaterLemmas.{drivers_on}
-use Rattle.filter_net_laws.specs.PlanCounts.{AreCountable}
-use Rattle.filter_net_laws.specs.PlanFilters.{HasPlace, IsCountOfFilter, IsFilterOfPlan}
+use Rattle.net_laws.specs.Nets.{AreDriversOf, NetForm}
+use Rattle.net_laws.specs.Settled.{AreSettled}
+use Rattle.net_laws.proofs.LaterLemmas.{drivers_on}
+use Rattle.net_laws.specs.PlanCounts.{AreCountable}
+use Rattle.net_laws.specs.PlanFilters.{HasPlace, IsCountOfFilter, IsFilterOfPlan}
 use Rattle.net_closing.specs.Counts.{AreCounts, counts_from, counts_of, rows_passed}
 use Rattle.net_closing.specs.declared.counts.FilterPassed.{FilterPassed}
 use Rattle.net_closing.proofs.PipeLemmas.{all_flat}

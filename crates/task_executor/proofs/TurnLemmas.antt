@@ -5,8 +5,8 @@ use Rattle.std.proofs.lemmas.List.Elements.{All-cons, All-head, All-nil, All-tai
 use Rattle.driver_loop.specs.Drivers.{DriverState, IsWhole}
 use Rattle.driver_loop.specs.declared.run_fault.RunFault.{RunFault}
 use Rattle.driver_loop.specs.declared.run_fault.RunFault.TheVariants.{ExprFailed, Memory}
-use Rattle.filter_net_laws.specs.Later.{AreLater, IsLaterDriver}
-use Rattle.filter_net_laws.proofs.LaterLemmas.{later_same}
+use Rattle.net_laws.specs.Later.{AreLater, IsLaterDriver}
+use Rattle.net_laws.proofs.LaterLemmas.{later_same}
 use Rattle.net_closing.specs.Closing.{AreWholeDrivers}
 use Rattle.task_executor.specs.Turns.{AreFailing, AreUnfailed}
 use Rattle.task_executor.proofs.LaterLemmas.{all_same}

@@ -8,10 +8,10 @@ use Rattle.plan_docs.specs.Plans.{PlanForm}
 use Rattle.plan_reader.specs.Trees.{tree_of}
 use Rattle.plan_trees.specs.declared.tree.Pair.{Pair}
 use Rattle.plan_layout.specs.Pipes.{PipeForm}
-use Rattle.filter_net_laws.specs.PlanFilters.{IsCountOfFilter, IsFilterOfPlan}
-use Rattle.filter_net_laws.specs.Later.{AreLater}
-use Rattle.filter_net_laws.specs.Nets.{AreDriversOf, NetForm}
-use Rattle.filter_net_laws.specs.Settled.{AreSettled}
+use Rattle.net_laws.specs.PlanFilters.{IsCountOfFilter, IsFilterOfPlan}
+use Rattle.net_laws.specs.Later.{AreLater}
+use Rattle.net_laws.specs.Nets.{AreDriversOf, NetForm}
+use Rattle.net_laws.specs.Settled.{AreSettled}
 use Rattle.net_closing.specs.Closing.{AreWholeDrivers}
 use Rattle.net_closing.specs.Counts.{AreCounts, filters_in}
 use Rattle.net_closing.specs.declared.counts.FilterPassed.{FilterPassed}

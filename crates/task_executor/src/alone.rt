@@ -4,7 +4,7 @@ ghost use Rattle.plan_docs.specs.Plans.{PlanForm};
 ghost use Rattle.plan_reader.specs.Trees.{tree_of};
 ghost use Rattle.plan_trees.specs.Allowed.{Allows};
 ghost use Rattle.operator_core.specs.Rows.{Row};
-ghost use Rattle.filter_net_laws.specs.Later.{AreLater, IsLaterDriver};
+ghost use Rattle.net_laws.specs.Later.{AreLater, IsLaterDriver};
 ghost use Rattle.task_executor.specs.Nets.{FailsFor, IsNetOf};
 ghost use Rattle.net_closing.specs.Closing.{AreWholeDrivers};
 ghost use Rattle.task_executor.specs.Passed.{HavePassed};

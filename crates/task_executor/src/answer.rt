@@ -6,7 +6,7 @@ ghost use Rattle.plan_trees.specs.Allowed.{Allows};
 ghost use Rattle.operator_core.specs.Rows.{Row};
 ghost use Rattle.driver_loop.specs.Drivers.{DriverState};
 ghost use Rattle.driver_loop.specs.declared.run_fault.RunFault.{RunFault};
-ghost use Rattle.filter_net_laws.specs.Later.{AreLater};
+ghost use Rattle.net_laws.specs.Later.{AreLater};
 ghost use Rattle.task_executor.specs.Nets.{FailsFor, IsNetOf, IsOverTables};
 ghost use Rattle.net_closing.specs.Closing.{AreWholeDrivers};
 ghost use Rattle.task_executor.specs.Passed.{HavePassed};
@@ -14,7 +14,7 @@ ghost use Rattle.task_executor.specs.Turns.{AreFailing, AreFinished};
 
 use crate::result::rows_of;
 use driver_loop::{Driver, RunFault, Stage};
-use filter_net_laws::{plans_fail, plans_give};
+use net_laws::{plans_fail, plans_give};
 use net_closing::{Closed, PassedList, close};
 use plan_layout::Pipe;
 use plan_reader::Plan;

@@ -71,7 +71,7 @@ impl<'w, 'p, C: Courier> Net<'w, 'p, C> {
         requires unused { AreUnused (map share_view wiring.old.shared.pipes.items) }
         ensures { IfOk result (IsNetOf (plan_view plan.now) (map rows_of_table tables.now)) }
     {
-        filter_net_laws::layouts_fit(plan);
+        net_laws::layouts_fit(plan);
         plan_fit_laws::consistent_plans_fit(plan);
         let Wiring { layout, shared } = wiring;
         let bells = shared.bells;

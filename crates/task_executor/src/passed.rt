@@ -3,12 +3,12 @@ ghost use Rattle.std.specs.Prelude.{List};
 ghost use Rattle.operator_core.specs.Rows.{Row};
 ghost use Rattle.plan_docs.specs.Plans.{plan_view};
 ghost use Rattle.net_closing.specs.declared.counts.FilterPassed.{FilterPassed};
-ghost use Rattle.filter_net_laws.specs.PlanCounts.{AreCountable};
+ghost use Rattle.net_laws.specs.PlanCounts.{AreCountable};
 ghost use Rattle.task_executor.specs.Nets.{IsNetOf, NetState};
 ghost use Rattle.task_executor.specs.Passed.{AreCountsIn, HavePassed};
 
 use driver_loop::Stage;
-use filter_net_laws::{filters_are_counted, filters_have_places};
+use net_laws::{filters_are_counted, filters_have_places};
 use plan_reader::Plan;
 use std::marker::PhantomData;
 

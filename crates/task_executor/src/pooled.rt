@@ -63,8 +63,8 @@ impl<'m, 'w, C: Courier, M: Meet> PooledDriver<'m, 'w, C, M> {
 
 impl<'m, 'w, C: Courier, M: Meet> TakesTurns for PooledDriver<'m, 'w, C, M> {
     ghost use Rattle.std.specs.Prelude.{is_some};
-    ghost use Rattle.filter_net_laws.specs.Later.{IsLaterDriver};
-    ghost use Rattle.filter_net_laws.proofs.LaterLemmas.{later_same, later_then};
+    ghost use Rattle.net_laws.specs.Later.{IsLaterDriver};
+    ghost use Rattle.net_laws.proofs.LaterLemmas.{later_same, later_then};
     ghost use Rattle.task_executor.specs.Turns.{unfailed};
     ghost use Rattle.task_executor.specs.Waits.{WaitsAt};
 

@@ -6,7 +6,7 @@ ghost use Rattle.plan_reader.specs.Trees.{tree_of};
 ghost use Rattle.plan_trees.specs.Allowed.{Allows};
 ghost use Rattle.operator_core.specs.Rows.{Row};
 ghost use Rattle.driver_loop.specs.Drivers.{DriverState, IsWhole};
-ghost use Rattle.filter_net_laws.specs.Later.{AreLater};
+ghost use Rattle.net_laws.specs.Later.{AreLater};
 ghost use Rattle.task_executor.specs.Nets.{FailsFor, IsNetOf};
 ghost use Rattle.net_closing.specs.Closing.{AreWholeDrivers};
 ghost use Rattle.task_executor.specs.Passed.{HavePassed};

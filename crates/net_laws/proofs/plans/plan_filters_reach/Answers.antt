@@ -1,5 +1,5 @@
 use Rattle.plan_docs.specs.Plans.{plan_view}
-use Rattle.filter_plan_laws.proofs.ApartLemmas.{plan_pipes_apart}
+use Rattle.net_laws.proofs.ApartLemmas.{plan_pipes_apart}
 use Rattle.net_laws.proofs.plans.plan_filters_reach.Goals as goal
 
 pub returns : goal.returns

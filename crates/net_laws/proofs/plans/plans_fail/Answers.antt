@@ -7,8 +7,8 @@ use Rattle.plan_run_laws.specs.RunPlans.{RunPlan}
 use Rattle.plan_spreads.specs.Runs.{plan_run}
 use Rattle.plan_layout.specs.Layouts.{drivers_in}
 use Rattle.plan_layout.specs.Pipes.{PipeForm}
-use Rattle.layout_laws.specs.Numbers.{AreNumbered}
-use Rattle.layout_laws.specs.Reached.{AreReached}
+use Rattle.net_laws.specs.Numbers.{AreNumbered}
+use Rattle.net_laws.specs.Reached.{AreReached}
 use Rattle.net_laws.specs.Filtered.{FiltersReach}
 use Rattle.net_laws.specs.Tidy.{IsTidy}
 use Rattle.net_laws.proofs.PlanLemmas.{root_lone}

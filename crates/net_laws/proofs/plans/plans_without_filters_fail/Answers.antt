@@ -6,7 +6,7 @@ use Rattle.tree_evaluator.specs.Fits.{FitsTables}
 use Rattle.plan_run_laws.specs.RunPlans.{RunPlan}
 use Rattle.plan_spreads.specs.Runs.{plan_run}
 use Rattle.plan_layout.specs.Pipes.{PipeForm}
-use Rattle.layout_laws.specs.Reached.{AreReached}
+use Rattle.net_laws.specs.Reached.{AreReached}
 use Rattle.net_laws.specs.Filtered.{FiltersReach}
 use Rattle.net_laws.specs.Tidy.{IsTidy}
 use Rattle.net_laws.proofs.PlanLemmas.{root_lone}

@@ -1,5 +1,5 @@
 use Rattle.net_laws.proofs.EndLemmas.{gives}
-use Rattle.filter_plan_laws.proofs.TypedLemmas.{typed as run_typed}
+use Rattle.sieve_laws.proofs.TypedLemmas.{typed as run_typed}
 use Rattle.net_laws.proofs.SieveLemmas.{all_sifted, due, of_join}
 use Rattle.net_laws.proofs.stands.nets_give.Goals as goal
 

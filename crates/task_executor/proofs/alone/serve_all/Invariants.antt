@@ -1,5 +1,5 @@
 use Rattle.std.proofs.Common.{◌≡◌, length}
-use Rattle.filter_net_laws.specs.Later.{AreLater}
+use Rattle.net_laws.specs.Later.{AreLater}
 use Rattle.task_executor.specs.Turns.{AreUnfailed}
 use Rattle.task_executor.proofs.alone.serve_all.Given as goal
 

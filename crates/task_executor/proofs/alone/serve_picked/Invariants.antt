@@ -1,4 +1,4 @@
-use Rattle.filter_net_laws.specs.Later.{AreLater}
+use Rattle.net_laws.specs.Later.{AreLater}
 use Rattle.task_executor.specs.Turns.{AreUnfailed}
 use Rattle.task_executor.proofs.alone.serve_picked.Given as goal
 

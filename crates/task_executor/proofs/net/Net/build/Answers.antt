@@ -1,7 +1,7 @@
 use Rattle.std.proofs.Common.{List, refl, ap, sym, subst, ◌∙◌}
 use Rattle.std.specs.Prelude.{map}
-use Rattle.filter_net_laws.specs.Makes.{LayoutFits}
-use Rattle.filter_net_laws.specs.Types.{PipesAreTyped}
+use Rattle.net_laws.specs.Makes.{LayoutFits}
+use Rattle.net_laws.specs.Types.{PipesAreTyped}
 use Rattle.plan_docs.specs.Plans.{plan_view}
 use Rattle.plan_fit_laws.proofs.ConsistentLemmas.{some}
 use Rattle.plan_layout.specs.Pipes.{PipeForm, pipe_view}

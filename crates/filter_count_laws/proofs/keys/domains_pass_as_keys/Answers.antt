@@ -1,5 +1,0 @@
-use Rattle.filter_count_laws.proofs.KeyLemmas.{passes_as_keys}
-use Rattle.filter_count_laws.proofs.keys.domains_pass_as_keys.Goals as goal
-
-pub returns : goal.returns
-returns c = λ keys is. passes_as_keys c.args.domain.now keys c.args.value.now is

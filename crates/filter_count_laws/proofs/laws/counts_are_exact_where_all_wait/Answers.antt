@@ -1,5 +1,0 @@
-use Rattle.filter_count_laws.proofs.OrderLemmas.{count_exact}
-use Rattle.filter_count_laws.proofs.laws.counts_are_exact_where_all_wait.Goals as goal
-
-pub returns : goal.returns
-returns c = count_exact

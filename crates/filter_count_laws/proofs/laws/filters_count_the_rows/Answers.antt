@@ -1,6 +1,0 @@
-use Rattle.filter_count_laws.proofs.DriverLemmas.{drivers_count}
-use Rattle.filter_count_laws.proofs.laws.filters_count_the_rows.Goals as goal
-
-pub returns : goal.returns
-returns g c = λ filters n w stages came gave over counts have rows hop few.
-    drivers_count g.O.Operator c.laws.ensures filters n w stages came gave over counts have rows hop few

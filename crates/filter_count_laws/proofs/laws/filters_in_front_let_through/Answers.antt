@@ -1,6 +1,0 @@
-use Rattle.filter_count_laws.proofs.DriverLemmas.{driver_counts}
-use Rattle.filter_count_laws.proofs.laws.filters_in_front_let_through.Goals as goal
-
-pub returns : goal.returns
-returns g c = λ filters stages came gave over have.
-    driver_counts g.O.Operator c.laws.ensures filters stages have.are over have.turns came gave have.linked have.finished

@@ -1,5 +1,0 @@
-use Rattle.filter_count_laws.proofs.OperatorLemmas.{filter_drops_exactly}
-use Rattle.filter_count_laws.proofs.operators.waiting_filter_ops_drop_exactly.Goals as goal
-
-pub returns : goal.returns
-returns c = λ w. filter_drops_exactly c.args.op.now w

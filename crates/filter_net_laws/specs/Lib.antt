@@ -1,9 +1,0 @@
-pub mod RightSides
-pub mod PlanCounts
-pub mod PlanFilters
-pub use Rattle.net_laws.specs.Later
-pub use Rattle.net_laws.specs.Nets
-pub use Rattle.net_laws.specs.Settled
-pub use Rattle.net_laws.specs.Roots
-pub use Rattle.net_laws.specs.Makes
-pub use Rattle.net_laws.specs.Types

@@ -1,6 +1,0 @@
-use Rattle.plan_docs.specs.Plans.{plan_view}
-use Rattle.filter_plan_laws.proofs.FilterIdLemmas.{scan_ids_rise}
-use Rattle.filter_plan_laws.proofs.laws.filter_ids_rise.Goals as goal
-
-pub returns : goal.returns
-returns c = scan_ids_rise (plan_view c.args.plan.now)

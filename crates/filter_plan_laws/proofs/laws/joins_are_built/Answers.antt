@@ -1,6 +1,0 @@
-use Rattle.plan_docs.specs.Plans.{plan_view}
-use Rattle.filter_plan_laws.proofs.BuiltLemmas.{plan_joins_built}
-use Rattle.filter_plan_laws.proofs.laws.joins_are_built.Goals as goal
-
-pub returns : goal.returns
-returns c = λ p. plan_joins_built p (plan_view c.args.plan.now)

@@ -1,6 +1,0 @@
-use Rattle.plan_docs.specs.Plans.{plan_view}
-use Rattle.filter_plan_laws.proofs.ApartLemmas.{plan_pipes_apart}
-use Rattle.filter_plan_laws.proofs.laws.pipes_are_apart.Goals as goal
-
-pub returns : goal.returns
-returns c = plan_pipes_apart (plan_view c.args.plan.now)

@@ -1,9 +1,0 @@
-use Rattle.plan_docs.specs.Plans.{plan_view}
-use Rattle.layout_laws.proofs.ReadLemmas.{all_read, roots_placed}
-use Rattle.layout_laws.proofs.laws.fragments_are_read.Goals as goal
-
-pub returns : goal.returns
-returns c = record {
-  readers = all_read (plan_view c.args.plan.now);
-  roots = roots_placed (plan_view c.args.plan.now);
-}

@@ -1,6 +1,0 @@
-use Rattle.plan_docs.specs.Plans.{plan_view}
-use Rattle.layout_laws.proofs.ResultLemmas.{one_result}
-use Rattle.layout_laws.proofs.laws.results_have_one_driver.Goals as goal
-
-pub returns : goal.returns
-returns c = one_result (plan_view c.args.plan.now)

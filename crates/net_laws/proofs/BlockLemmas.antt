@@ -97,9 +97,7 @@ module _ (layout : List PipeForm) (s : Site) (Told : ℕ → ℕ → Type 0) whe
   nodes_laid own next (node.scan id table columns types) stand reads = ((refl, refl, reads), λ place low high. absurd (omega (arith, low, high)))
   nodes_laid own next (node.values id types list) stand reads = ((refl, refl), λ place low high. absurd (omega (arith, low, high)))
   nodes_laid own next (node.remote id number) stand reads = ((refl, refl), λ place low high. absurd (omega (arith, low, high)))
-  nodes_laid own next (node.filter id predicate input) stand reads =
-      let below = nodes_laid own next input stand reads in ((steps_of s.fragments next input, refl, below.0), below.1)
-  nodes_laid own next (node.project id columns input) stand reads =
+  nodes_laid own next (node.step id operator input) stand reads =
       let below = nodes_laid own next input stand reads in ((steps_of s.fragments next input, refl, below.0), below.1)
   nodes_laid own next (node.join id kind on filters left right) stand reads =
       let at = next + side_count left in
@@ -121,20 +119,6 @@ module _ (layout : List PipeForm) (s : Site) (Told : ℕ → ℕ → Type 0) whe
       by_part : {A B C D : Type 0} → (B → C) → (A → D) → A ⊎ B → C ⊎ D
       by_part f g (inl a) = inr (g a)
       by_part f g (inr b) = inl (f b)
-  nodes_laid own next (node.aggregate id step keys calls input) stand reads =
-      let below = nodes_laid own next input stand reads in ((steps_of s.fragments next input, refl, below.0), below.1)
-  nodes_laid own next (node.aggregate_final id input) stand reads =
-      let below = nodes_laid own next input stand reads in ((steps_of s.fragments next input, refl, below.0), below.1)
-  nodes_laid own next (node.sort id keys input) stand reads =
-      let below = nodes_laid own next input stand reads in ((steps_of s.fragments next input, refl, below.0), below.1)
-  nodes_laid own next (node.top_n id step count keys input) stand reads =
-      let below = nodes_laid own next input stand reads in ((steps_of s.fragments next input, refl, below.0), below.1)
-  nodes_laid own next (node.top_n_final id input) stand reads =
-      let below = nodes_laid own next input stand reads in ((steps_of s.fragments next input, refl, below.0), below.1)
-  nodes_laid own next (node.limit id step count input) stand reads =
-      let below = nodes_laid own next input stand reads in ((steps_of s.fragments next input, refl, below.0), below.1)
-  nodes_laid own next (node.limit_final id input) stand reads =
-      let below = nodes_laid own next input stand reads in ((steps_of s.fragments next input, refl, below.0), below.1)
   nodes_laid own next (node.union id left right) stand reads =
       let at = next + 1 + side_count left in
       let first = pipes_of s next (side own) left in

@@ -105,21 +105,13 @@ module _ (layout : List PipeForm) (Of : JoinClaim)
   node_built s own (node.scan id place columns types) source steps r = tt
   node_built s own (node.values id types list) source steps r = tt
   node_built s own (node.remote id number) source steps r = tt
-  node_built s own (node.filter id predicate input) source steps r = node_built s own input source r.0 r.2
-  node_built s own (node.project id columns input) source steps r = node_built s own input source r.0 r.2
+  node_built s own (node.step id operator input) source steps r = node_built s own input source r.0 r.2
   node_built s own (node.join id kind on filters left right) source steps r =
       let q = real layout r.0 r.1.pipe r.1.is in (
         one id kind on filters left r.0 (record { pipe = q.pipe; is = q.is; gives = ap (λ (x : PipeForm). x.target) q.same ∙ r.1.has }),
         node_built s own left source r.2.0 r.2.2,
         node_built s r.0 right r.1.pipe.source r.1.pipe.steps r.1.below,
       )
-  node_built s own (node.aggregate id step keys calls input) source steps r = node_built s own input source r.0 r.2
-  node_built s own (node.aggregate_final id input) source steps r = node_built s own input source r.0 r.2
-  node_built s own (node.sort id keys input) source steps r = node_built s own input source r.0 r.2
-  node_built s own (node.top_n id step count keys input) source steps r = node_built s own input source r.0 r.2
-  node_built s own (node.top_n_final id input) source steps r = node_built s own input source r.0 r.2
-  node_built s own (node.limit id step count input) source steps r = node_built s own input source r.0 r.2
-  node_built s own (node.limit_final id input) source steps r = node_built s own input source r.0 r.2
   node_built s own (node.union id left right) source steps r = (
     node_built s r.2.0 left r.2.1.pipe.source r.2.1.pipe.steps r.2.1.below,
     node_built s r.3.0 right r.3.1.pipe.source r.3.1.pipe.steps r.3.1.below,

@@ -120,17 +120,9 @@ abbrev pub Holds : (layout : List PipeForm) (s : Site) (Told : ℕ → ℕ → T
 Holds layout s Told place own (node.scan id table columns types) source steps r = ⊥
 Holds layout s Told place own (node.values id types list) source steps r = ⊥
 Holds layout s Told place own (node.remote id number) source steps r = Told number place
-Holds layout s Told place own (node.filter id predicate input) source steps r = Holds layout s Told place own input source r.0 r.2
-Holds layout s Told place own (node.project id columns input) source steps r = Holds layout s Told place own input source r.0 r.2
+Holds layout s Told place own (node.step id operator input) source steps r = Holds layout s Told place own input source r.0 r.2
 Holds layout s Told place own (node.join id kind on filters left right) source steps r =
     ((place ≡ r.0) ⊎ Holds layout s Told place r.0 right r.1.pipe.source r.1.pipe.steps r.1.below) ⊎ Holds layout s Told place own left source r.2.0 r.2.2
-Holds layout s Told place own (node.aggregate id step keys calls input) source steps r = Holds layout s Told place own input source r.0 r.2
-Holds layout s Told place own (node.aggregate_final id input) source steps r = Holds layout s Told place own input source r.0 r.2
-Holds layout s Told place own (node.sort id keys input) source steps r = Holds layout s Told place own input source r.0 r.2
-Holds layout s Told place own (node.top_n id step count keys input) source steps r = Holds layout s Told place own input source r.0 r.2
-Holds layout s Told place own (node.top_n_final id input) source steps r = Holds layout s Told place own input source r.0 r.2
-Holds layout s Told place own (node.limit id step count input) source steps r = Holds layout s Told place own input source r.0 r.2
-Holds layout s Told place own (node.limit_final id input) source steps r = Holds layout s Told place own input source r.0 r.2
 Holds layout s Told place own (node.union id left right) source steps r =
     ((place ≡ r.2.0) ⊎ Holds layout s Told place r.2.0 left r.2.1.pipe.source r.2.1.pipe.steps r.2.1.below)
     ⊎ ((place ≡ r.3.0) ⊎ Holds layout s Told place r.3.0 right r.3.1.pipe.source r.3.1.pipe.steps r.3.1.below)

@@ -105,8 +105,7 @@ module _ (s : Site) where
   sides_name own next (node.scan id place columns types) = tt
   sides_name own next (node.values id types list) = tt
   sides_name own next (node.remote id number) = tt
-  sides_name own next (node.filter id predicate input) = sides_name own next input
-  sides_name own next (node.project id columns input) = sides_name own next input
+  sides_name own next (node.step id operator input) = sides_name own next input
   sides_name own next (node.join id kind on filters left right) =
       let at = next + side_count left in
       let end = next + side_count (node.join id kind on filters left right) in
@@ -117,13 +116,6 @@ module _ (s : Site) where
         each_weaker (Names at (at + 1) (at + 1 + side_count right)) (Names own next end)
             (wider own at next (at + 1 + side_count right) (at + 1) end (omega arith) (omega arith) (omega arith) (omega arith) (omega arith)) (sides_of s at (at + 1) right) (sides_name at (at + 1) right),
       )
-  sides_name own next (node.aggregate id step keys calls input) = sides_name own next input
-  sides_name own next (node.aggregate_final id input) = sides_name own next input
-  sides_name own next (node.sort id keys input) = sides_name own next input
-  sides_name own next (node.top_n id step count keys input) = sides_name own next input
-  sides_name own next (node.top_n_final id input) = sides_name own next input
-  sides_name own next (node.limit id step count input) = sides_name own next input
-  sides_name own next (node.limit_final id input) = sides_name own next input
   sides_name own next (node.union id left right) =
       let at = next + 1 + side_count left in
       let end = next + side_count (node.union id left right) in
@@ -176,20 +168,12 @@ module _ (s : Site) where
   few_sides x own next (node.scan id place columns types) lt = omega arith
   few_sides x own next (node.values id types list) lt = omega arith
   few_sides x own next (node.remote id number) lt = omega arith
-  few_sides x own next (node.filter id predicate input) lt = few_sides x own next input lt
-  few_sides x own next (node.project id columns input) lt = few_sides x own next input lt
+  few_sides x own next (node.step id operator input) lt = few_sides x own next input lt
   few_sides x own next (node.join id kind on filters left right) lt =
       let at = next + side_count left in
       let both = sides_append x (sides_of s own next left) (pipes_of s at (built_for id on filters) right) in
       let parts = two_parts own next at x left right lt (omega arith) (few_sides x own next left lt) (few_sides x at (at + 1) right (omega arith)) in
       omega (arith, both, parts)
-  few_sides x own next (node.aggregate id step keys calls input) lt = few_sides x own next input lt
-  few_sides x own next (node.aggregate_final id input) lt = few_sides x own next input lt
-  few_sides x own next (node.sort id keys input) lt = few_sides x own next input lt
-  few_sides x own next (node.top_n id step count keys input) lt = few_sides x own next input lt
-  few_sides x own next (node.top_n_final id input) lt = few_sides x own next input lt
-  few_sides x own next (node.limit id step count input) lt = few_sides x own next input lt
-  few_sides x own next (node.limit_final id input) lt = few_sides x own next input lt
   few_sides x own next (node.union id left right) lt =
       let at = next + 1 + side_count left in
       let both = sides_append x (pipes_of s next (side own) left) (pipes_of s at (side own) right) in
@@ -224,8 +208,7 @@ module _ (layout : List PipeForm) (s : Site) where
   unions own next (node.scan id place columns types) stand here = tt
   unions own next (node.values id types list) stand here = tt
   unions own next (node.remote id number) stand here = tt
-  unions own next (node.filter id predicate input) stand here = unions own next input stand here
-  unions own next (node.project id columns input) stand here = unions own next input stand here
+  unions own next (node.step id operator input) stand here = unions own next input stand here
   unions own next (node.join id kind on filters left right) stand here =
       let at = next + side_count left in
       let beside = pipes_of s at (built_for id on filters) right in
@@ -236,13 +219,6 @@ module _ (layout : List PipeForm) (s : Site) where
         unions at (at + 1) right (stand_next layout at (pipe_of s (at + 1) (built_for id on filters) right) (sides_of s at (at + 1) right) stands)
             (has_first at (pipe_of s (at + 1) (built_for id on filters) right) (sides_of s at (at + 1) right) stands),
       )
-  unions own next (node.aggregate id step keys calls input) stand here = unions own next input stand here
-  unions own next (node.aggregate_final id input) stand here = unions own next input stand here
-  unions own next (node.sort id keys input) stand here = unions own next input stand here
-  unions own next (node.top_n id step count keys input) stand here = unions own next input stand here
-  unions own next (node.top_n_final id input) stand here = unions own next input stand here
-  unions own next (node.limit id step count input) stand here = unions own next input stand here
-  unions own next (node.limit_final id input) stand here = unions own next input stand here
   unions own next (node.union id left right) stand here =
       let at = next + 1 + side_count left in
       let first = pipes_of s next (side own) left in
@@ -272,18 +248,10 @@ module _ (s : Site) where
   no_reader own next (node.scan id place columns types) = tt
   no_reader own next (node.values id types list) = tt
   no_reader own next (node.remote id number) = tt
-  no_reader own next (node.filter id predicate input) = no_reader own next input
-  no_reader own next (node.project id columns input) = no_reader own next input
+  no_reader own next (node.step id operator input) = no_reader own next input
   no_reader own next (node.join id kind on filters left right) =
       let at = next + side_count left in
       each_join NoReader (sides_of s own next left) (pipes_of s at (built_for id on filters) right) (no_reader own next left) ((λ output k is. cc is), no_reader at (at + 1) right)
-  no_reader own next (node.aggregate id step keys calls input) = no_reader own next input
-  no_reader own next (node.aggregate_final id input) = no_reader own next input
-  no_reader own next (node.sort id keys input) = no_reader own next input
-  no_reader own next (node.top_n id step count keys input) = no_reader own next input
-  no_reader own next (node.top_n_final id input) = no_reader own next input
-  no_reader own next (node.limit id step count input) = no_reader own next input
-  no_reader own next (node.limit_final id input) = no_reader own next input
   no_reader own next (node.union id left right) =
       let at = next + 1 + side_count left in
       each_join NoReader (pipes_of s next (side own) left) (pipes_of s at (side own) right) ((λ output k is. cc is), no_reader next (next + 1) left)
@@ -298,18 +266,10 @@ module _ (s : Site) where
   no_result own next (node.scan id place columns types) = tt
   no_result own next (node.values id types list) = tt
   no_result own next (node.remote id number) = tt
-  no_result own next (node.filter id predicate input) = no_result own next input
-  no_result own next (node.project id columns input) = no_result own next input
+  no_result own next (node.step id operator input) = no_result own next input
   no_result own next (node.join id kind on filters left right) =
       let at = next + side_count left in
       each_join NoResult (sides_of s own next left) (pipes_of s at (built_for id on filters) right) (no_result own next left) ((λ is. cc is), no_result at (at + 1) right)
-  no_result own next (node.aggregate id step keys calls input) = no_result own next input
-  no_result own next (node.aggregate_final id input) = no_result own next input
-  no_result own next (node.sort id keys input) = no_result own next input
-  no_result own next (node.top_n id step count keys input) = no_result own next input
-  no_result own next (node.top_n_final id input) = no_result own next input
-  no_result own next (node.limit id step count input) = no_result own next input
-  no_result own next (node.limit_final id input) = no_result own next input
   no_result own next (node.union id left right) =
       let at = next + 1 + side_count left in
       each_join NoResult (pipes_of s next (side own) left) (pipes_of s at (side own) right) ((λ is. cc is), no_result next (next + 1) left)

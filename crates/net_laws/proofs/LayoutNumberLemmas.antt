@@ -24,16 +24,8 @@ pub reads_none : (n : NodeForm) → reads_edge (source_of n) ≡ false
 reads_none (node.scan id place columns types) = refl
 reads_none (node.values id types list) = refl
 reads_none (node.remote id number) = refl
-reads_none (node.filter id predicate input) = reads_none input
-reads_none (node.project id columns input) = reads_none input
+reads_none (node.step id operator input) = reads_none input
 reads_none (node.join id kind on filters left right) = reads_none left
-reads_none (node.aggregate id step keys calls input) = reads_none input
-reads_none (node.aggregate_final id input) = reads_none input
-reads_none (node.sort id keys input) = reads_none input
-reads_none (node.top_n id step count keys input) = reads_none input
-reads_none (node.top_n_final id input) = reads_none input
-reads_none (node.limit id step count input) = reads_none input
-reads_none (node.limit_final id input) = reads_none input
 reads_none (node.union id left right) = refl
 
 abbrev drivers_of : PipeForm → ℕ

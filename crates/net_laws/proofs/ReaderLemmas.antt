@@ -41,21 +41,13 @@ module _ (number : ℕ) (s : Site) where
   node_readers own next (node.scan id place columns types) = refl
   node_readers own next (node.values id types list) = refl
   node_readers own next (node.remote id other) = let one = count_one (other == number) in omega (arith, one)
-  node_readers own next (node.filter id predicate input) = node_readers own next input
-  node_readers own next (node.project id columns input) = node_readers own next input
+  node_readers own next (node.step id operator input) = node_readers own next input
   node_readers own next (node.join id kind on filters left right) =
       let at = next + side_count left in
       let both = readers_append number (sides_of s own next left) (pipes_of s at (built_for id on filters) right) in
       let first = node_readers own next left in
       let second = node_readers at (at + 1) right in
       omega (arith, both, first, second)
-  node_readers own next (node.aggregate id step keys calls input) = node_readers own next input
-  node_readers own next (node.aggregate_final id input) = node_readers own next input
-  node_readers own next (node.sort id keys input) = node_readers own next input
-  node_readers own next (node.top_n id step count keys input) = node_readers own next input
-  node_readers own next (node.top_n_final id input) = node_readers own next input
-  node_readers own next (node.limit id step count input) = node_readers own next input
-  node_readers own next (node.limit_final id input) = node_readers own next input
   node_readers own next (node.union id left right) =
       let at = next + 1 + side_count left in
       let both = readers_append number (pipes_of s next (side own) left) (pipes_of s at (side own) right) in
@@ -101,16 +93,8 @@ module _ (P : ℕ → Type 0) where
   own_names (node.scan id place columns types) each = tt
   own_names (node.values id types list) each = tt
   own_names (node.remote id number) each = each
-  own_names (node.filter id predicate input) each = own_names input each
-  own_names (node.project id columns input) each = own_names input each
+  own_names (node.step id operator input) each = own_names input each
   own_names (node.join id kind on filters left right) each = own_names left each.0
-  own_names (node.aggregate id step keys calls input) each = own_names input each
-  own_names (node.aggregate_final id input) each = own_names input each
-  own_names (node.sort id keys input) each = own_names input each
-  own_names (node.top_n id step count keys input) each = own_names input each
-  own_names (node.top_n_final id input) each = own_names input each
-  own_names (node.limit id step count input) each = own_names input each
-  own_names (node.limit_final id input) each = own_names input each
   own_names (node.union id left right) each = tt
 
   module _ (s : Site) where
@@ -118,19 +102,11 @@ module _ (P : ℕ → Type 0) where
     side_names own next (node.scan id place columns types) each = tt
     side_names own next (node.values id types list) each = tt
     side_names own next (node.remote id number) each = tt
-    side_names own next (node.filter id predicate input) each = side_names own next input each
-    side_names own next (node.project id columns input) each = side_names own next input each
+    side_names own next (node.step id operator input) each = side_names own next input each
     side_names own next (node.join id kind on filters left right) each =
         let at = next + side_count left in
         each_join (PipeNames P) (sides_of s own next left) (pipes_of s at (built_for id on filters) right) (side_names own next left each.0)
         (own_names right each.1, side_names at (at + 1) right each.1)
-    side_names own next (node.aggregate id step keys calls input) each = side_names own next input each
-    side_names own next (node.aggregate_final id input) each = side_names own next input each
-    side_names own next (node.sort id keys input) each = side_names own next input each
-    side_names own next (node.top_n id step count keys input) each = side_names own next input each
-    side_names own next (node.top_n_final id input) each = side_names own next input each
-    side_names own next (node.limit id step count input) each = side_names own next input each
-    side_names own next (node.limit_final id input) each = side_names own next input each
     side_names own next (node.union id left right) each =
         let at = next + 1 + side_count left in
         each_join (PipeNames P) (pipes_of s next (side own) left) (pipes_of s at (side own) right) (own_names left each.0, side_names next (next + 1) left each.0)

@@ -42,17 +42,9 @@ module _ (P : ℕ → Type 0) (n : ℕ) where
   each_source_of (node.scan id table columns types) some each = absurd (omega (arith, some))
   each_source_of (node.values id types rows) some each = absurd (omega (arith, some))
   each_source_of (node.remote id m) some each = subst P (named_is m n some) each
-  each_source_of (node.filter id predicate input) some each = each_source_of input some each
-  each_source_of (node.project id columns input) some each = each_source_of input some each
+  each_source_of (node.step id operator input) some each = each_source_of input some each
   each_source_of (node.join id kind on filters left right) some each =
       by_either (λ h. each_source_of left h each.0) (λ h. each_source_of right h each.1) (one_of_two (reads_of n left) (reads_of n right) some)
-  each_source_of (node.aggregate id step keys calls input) some each = each_source_of input some each
-  each_source_of (node.aggregate_final id input) some each = each_source_of input some each
-  each_source_of (node.sort id keys input) some each = each_source_of input some each
-  each_source_of (node.top_n id step count keys input) some each = each_source_of input some each
-  each_source_of (node.top_n_final id input) some each = each_source_of input some each
-  each_source_of (node.limit id step count input) some each = each_source_of input some each
-  each_source_of (node.limit_final id input) some each = each_source_of input some each
   each_source_of (node.union id left right) some each =
       by_either (λ h. each_source_of left h each.0) (λ h. each_source_of right h each.1) (one_of_two (reads_of n left) (reads_of n right) some)
 
@@ -65,8 +57,7 @@ module _ (layout : List PipeForm) (s : Site) (Told : ℕ → ℕ → Type 0) (n 
   source_holds (node.remote id m) own source steps some r =
       let same : n ≡ m = sym (named_is m n some) in
       subst (λ (k : ℕ). Told k place) same told
-  source_holds (node.filter id predicate input) own source steps some r = source_holds input own source r.0 some r.2
-  source_holds (node.project id columns input) own source steps some r = source_holds input own source r.0 some r.2
+  source_holds (node.step id operator input) own source steps some r = source_holds input own source r.0 some r.2
   source_holds (node.join id kind on filters left right) own source steps some r =
       two_sides (one_of_two (reads_of n left) (reads_of n right) some) (λ h. source_holds left own source r.2.0 h r.2.2)
       (λ h. source_holds right r.0 r.1.pipe.source r.1.pipe.steps h r.1.below)
@@ -74,13 +65,6 @@ module _ (layout : List PipeForm) (s : Site) (Told : ℕ → ℕ → Type 0) (n 
       two_sides : {A B : Type 0} → (0 < reads_of n left) ⊎ (0 < reads_of n right) → (0 < reads_of n left → A) → (0 < reads_of n right → B) → ((place ≡ r.0) ⊎ B) ⊎ A
       two_sides (inl h) first second = inr (first h)
       two_sides (inr h) first second = inl (inr (second h))
-  source_holds (node.aggregate id step keys calls input) own source steps some r = source_holds input own source r.0 some r.2
-  source_holds (node.aggregate_final id input) own source steps some r = source_holds input own source r.0 some r.2
-  source_holds (node.sort id keys input) own source steps some r = source_holds input own source r.0 some r.2
-  source_holds (node.top_n id step count keys input) own source steps some r = source_holds input own source r.0 some r.2
-  source_holds (node.top_n_final id input) own source steps some r = source_holds input own source r.0 some r.2
-  source_holds (node.limit id step count input) own source steps some r = source_holds input own source r.0 some r.2
-  source_holds (node.limit_final id input) own source steps some r = source_holds input own source r.0 some r.2
   source_holds (node.union id left right) own source steps some r =
       two_sides (one_of_two (reads_of n left) (reads_of n right) some) (λ h. source_holds left r.2.0 r.2.1.pipe.source r.2.1.pipe.steps h r.2.1.below)
       (λ h. source_holds right r.3.0 r.3.1.pipe.source r.3.1.pipe.steps h r.3.1.below)

@@ -1,16 +1,16 @@
 -- A driver of its parts.
 use Rattle.std.proofs.Common.{◌≡◌, ℕ, List, Result, Ok, Err, IfOk, OnOk, ap, sym, subst, ◌∙◌, None, false}
-use Rattle.driver_loop.specs.Drivers.{DriverState}
-use Rattle.driver_loop.specs.Sources.{Source}
-use Rattle.driver_loop.specs.declared.stage.Stage.{Stage}
-use Rattle.driver_loop.specs.declared.target.Target.{Target}
-use Rattle.plan_layout.specs.Filters.{scan_filters}
-use Rattle.plan_layout.specs.Pipes.{PipeForm, driver_number}
-use Rattle.pipe_stages.specs.Nets.{IsDriverOf, IsSourceFor, IsTargetFor}
+use Rattle.net_parts.specs.Drivers.{DriverState}
+use Rattle.net_parts.specs.Sources.{Source}
+use Rattle.net_parts.specs.Stage.{Stage}
+use Rattle.net_parts.specs.Target.{Target}
+use Rattle.net_parts.specs.Filters.{scan_filters}
+use Rattle.net_parts.specs.Pipes.{PipeForm, driver_number}
+use Rattle.net_parts.specs.Nets.{IsDriverOf, IsSourceFor, IsTargetFor}
+use Rattle.net_parts.specs.Makings.{AreStagesOf, InNets}
+use Rattle.net_parts.specs.declared.making.Making.{Making}
+use Rattle.net_parts.specs.Stocks.{AreLeft, StockForm}
 use Rattle.net_making.specs.Slots.{IsNew}
-use Rattle.net_making.specs.Makings.{AreStagesOf, InNets}
-use Rattle.net_making.specs.declared.making.Making.{Making}
-use Rattle.seat_stocks.specs.Stocks.{AreLeft, StockForm}
 
 abbrev pub driver_made : ℕ → Source → List Stage → Target → DriverState
 driver_made number source stages target = record { number = number; source = source; stages = stages; target = target; work = 0; is_finished = false; fault = None }

@@ -3,19 +3,19 @@ use Rattle.std.proofs.Common.{◌≡◌, ℕ, ◌+◌, ◌<◌, ◌≤◌, ◌�
 use Rattle.std.specs.Prelude.{replicate, slice_get, slice_set}
 use Rattle.std.proofs.lemmas.Bool.{cases_order}
 use Rattle.std.proofs.lemmas.List.{length-map, length-replicate}
-use Rattle.driver_loop.specs.Drivers.{DriverState}
-use Rattle.plan_layout.specs.Layouts.{drivers_in}
-use Rattle.plan_layout.specs.Pipes.{PipeForm, driver_number}
-use Rattle.pipe_stages.specs.Nets.{AreDriversOf, IsDriverOf, NetForm}
-use Rattle.pipe_stages.specs.Types.{PipesAreTyped}
-use Rattle.pipe_stages.specs.Each.{EachBelow}
-use Rattle.pipe_stages.proofs.EachLemmas.{each, one_more}
-use Rattle.seat_stocks.specs.Stocks.{AreLeft, StockForm}
-use Rattle.net_making.specs.Makings.{CanMake, InNets, layout_in}
+use Rattle.net_parts.specs.Drivers.{DriverState}
+use Rattle.net_parts.specs.Layouts.{drivers_in}
+use Rattle.net_parts.specs.Pipes.{PipeForm, driver_number}
+use Rattle.net_parts.specs.Nets.{AreDriversOf, IsDriverOf, NetForm}
+use Rattle.net_parts.specs.Types.{PipesAreTyped}
+use Rattle.net_parts.specs.Each.{EachBelow}
+use Rattle.net_parts.specs.Stocks.{AreLeft, StockForm}
+use Rattle.net_parts.specs.Makings.{CanMake, InNets, layout_in}
+use Rattle.net_parts.specs.declared.making.Making.{Making}
+use Rattle.net_parts.proofs.EachLemmas.{each, one_more}
+use Rattle.net_parts.proofs.StockLemmas.{left_self, left_then, nets_left}
 use Rattle.net_making.specs.Slots.{HasSlot, HaveGrown, IsNew}
-use Rattle.net_making.specs.declared.making.Making.{Making}
 use Rattle.net_making.proofs.SlotLemmas.{all_from, grown_put, grown_self, grown_then, none_filled, set_there, slot_driver, slot_kept, some_at}
-use Rattle.net_making.proofs.StockLemmas.{left_self, left_then, nets_left}
 
 -- what holds of all numbers below one, and of it
 below_next : (P : ℕ → Type 0) (n : ℕ) → ((k : ℕ) → k < n → P k) → P n → (k : ℕ) → k < n + 1 → P k
@@ -25,10 +25,6 @@ below_next P n before own k less = by (cases_order k n)
     by (inl same) = subst P (sym same) own
     by (inr (inl fewer)) = before k fewer
     by (inr (inr more)) = absurd (omega (arith, less, more))
-
-pub if_so : {V E : Type 0} {P Q : V → Type 0} (r : Result V E) → ((v : V) → P v → Q v) → IfOk r P → IfOk r Q
-if_so (Ok v) holds of = holds v of
-if_so (Err e) holds of = tt
 
 -- of what is answered
 pub answered : {V E : Type 0} (items : V → List DriverState) (r : Result V E) (slots : List (Option DriverState)) (P : List DriverState → Type 0)

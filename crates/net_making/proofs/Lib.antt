@@ -1,10 +1,4 @@
-pub mod StockLemmas
-pub mod ScanLemmas
-pub mod SeatLemmas
-pub mod PutLemmas
 pub mod SlotLemmas
 pub mod NetLemmas
 pub mod LaneLemmas
-pub mod StageLemmas
-pub mod BuildLemmas
 pub mod DriverLemmas

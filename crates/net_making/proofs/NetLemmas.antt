@@ -12,31 +12,31 @@ use Rattle.split_source.specs.Seats.{ClaimsId, ClaimsState, SeatState}
 use Rattle.split_source.specs.Splits.{split_count}
 use Rattle.hash_join.specs.Cells.{CellState}
 use Rattle.dyn_filter.specs.Cells as filter
-use Rattle.tree_evaluator.specs.Fits.{TablesFit}
-use Rattle.tree_evaluator.specs.Stops.{rows_of_table}
-use Rattle.driver_loop.specs.Drivers.{DriverState}
-use Rattle.plan_layout.specs.Filters.{filters_built}
-use Rattle.plan_layout.specs.Pipes.{PipeForm, table}
 use Rattle.plan_wiring.specs.declared.shared.Shared.{Shared}
 use Rattle.plan_wiring.specs.Bells.{gather_bells, spread_bells}
 use Rattle.plan_wiring.specs.Handed.{SeatsForm, new_seats}
 use Rattle.plan_wiring.specs.Shares.{ClaimForm, ShareForm, claims_of, filter_parts, new_claims, rows_at, share_of, shares_of}
 use Rattle.plan_wiring.specs.Wirings.{bells_of, cell_bells, claims_view, filter_bells, parts_of, share_view}
-use Rattle.pipe_stages.specs.Makes.{LayoutFits}
-use Rattle.pipe_stages.specs.Nets.{AreDriversOf, Links, NetForm}
-use Rattle.pipe_stages.specs.Types.{PipesAreTyped, PipeTypes}
-use Rattle.pipe_stages.specs.declared.table.PipeTypes as declared
-use Rattle.pipe_stages.specs.Tables.{types_in}
-use Rattle.pipe_stages.specs.Cells.{HasCells, HasFilterCells, cell_at}
-use Rattle.seat_stocks.specs.Labels.{IsLabelled, at_place, claims_id, labels_of, no_claims}
-use Rattle.seat_stocks.specs.Lanes.{lane_at}
-use Rattle.seat_stocks.specs.Stocks.{StockForm, stock_of}
-use Rattle.seat_stocks.proofs.LabelLemmas.{all_labelled}
-use Rattle.net_making.specs.Makings.{AreFew, CanMake, HasTask, HaveFilterCells, InNets, IsNetFor, IsStocked, layout_in, typing_in}
-use Rattle.net_making.specs.Nets.{IsNewNetOf}
+use Rattle.net_parts.specs.Fits.{TablesFit}
+use Rattle.net_parts.specs.Stops.{rows_of_table}
+use Rattle.net_parts.specs.Drivers.{DriverState}
+use Rattle.net_parts.specs.Filters.{filters_built}
+use Rattle.net_parts.specs.Pipes.{PipeForm, table}
+use Rattle.net_parts.specs.Makes.{LayoutFits}
+use Rattle.net_parts.specs.Nets.{AreDriversOf, Links, NetForm}
+use Rattle.net_parts.specs.Types.{PipesAreTyped, PipeTypes}
+use Rattle.net_parts.specs.PipeTypes as declared
+use Rattle.net_parts.specs.Tables.{types_in}
+use Rattle.net_parts.specs.Cells.{HasCells, HasFilterCells, cell_at}
+use Rattle.net_parts.specs.Labels.{IsLabelled, at_place, claims_id, labels_of, no_claims}
+use Rattle.net_parts.specs.Lanes.{lane_at}
+use Rattle.net_parts.specs.Stocks.{StockForm, stock_of}
+use Rattle.net_parts.specs.Makings.{AreFew, CanMake, HaveFilterCells, InNets, IsNetFor, IsStocked, layout_in, typing_in}
+use Rattle.net_parts.specs.declared.making.Making.{Making}
+use Rattle.net_parts.proofs.LabelLemmas.{all_labelled}
+use Rattle.net_parts.proofs.AnswerLemmas.{some_same}
+use Rattle.net_making.specs.Nets.{HasTask, IsNewNetOf}
 use Rattle.net_making.specs.Slots.{IsNew}
-use Rattle.net_making.specs.declared.making.Making.{Making}
-use Rattle.net_making.proofs.SlotLemmas.{some_same}
 
 pub can_make : (m : Making) (layout : List PipeForm) (list : List declared.PipeTypes) → layout ≡ layout_in m → m.types.now ≡ list → PipesAreTyped (layout_in m) (types_in list)
     → ((types : ℕ → PipeTypes) → PipesAreTyped layout types → LayoutFits m.tables.now layout types) → TablesFit m.tables.now → AreFew m.tables.now → HaveFilterCells layout m.filters.now

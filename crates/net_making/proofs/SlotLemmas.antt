@@ -1,16 +1,14 @@
 -- Slots that are filled one by one.
 use Rattle.std.proofs.Common.{◌≡◌, ℕ, zero, suc, ◌<◌, ◌⊎◌, inl, inr, List, [], ◌∷◌, All, Option, get_or, map, Some, None, refl, ap, sym, subst, ◌∙◌, arith}
-use Rattle.std.specs.Prelude.{replicate, slice_get, slice_set, unwrap_or}
+use Rattle.std.specs.Prelude.{replicate, slice_get, slice_set}
 use Rattle.std.proofs.lemmas.Bool.{cases_order}
 use Rattle.std.proofs.lemmas.List.{length-set}
 use Rattle.std.proofs.lemmas.Option.{slice_get-get_or}
-use Rattle.driver_loop.specs.Drivers.{DriverState}
-use Rattle.plan_layout.specs.Pipes.{PipeForm, driver_number}
-use Rattle.pipe_stages.specs.Nets.{HasDriver, NetForm}
+use Rattle.net_parts.specs.Drivers.{DriverState}
+use Rattle.net_parts.specs.Pipes.{PipeForm, driver_number}
+use Rattle.net_parts.specs.Nets.{HasDriver, NetForm}
+use Rattle.net_parts.proofs.AnswerLemmas.{some_same}
 use Rattle.net_making.specs.Slots.{AreNew, HasSlot, HaveGrown, IsNew}
-
-pub some_same : {X : Type 0} (x y : X) → Some x ≡ Some y → x ≡ y
-some_same {X} x y same = ap (λ (o : Option X). unwrap_or o x) same
 
 module _ {X : Type 0} where
   pub set_there : (xs : List X) (n : ℕ) (x old : X) → slice_get xs n ≡ Some old → slice_get (slice_set xs n x) n ≡ Some x

@@ -1,3 +1,3 @@
-pub mod Makings
 pub mod Slots
 pub mod Nets
+pub use Rattle.net_parts.specs.Makings

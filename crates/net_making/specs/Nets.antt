@@ -1,11 +1,15 @@
 -- Drivers that were just made for a layout.
-use Rattle.std.specs.Prelude.{◌≡◌, ℕ, ◌*◌, List, All, Some, max, slice_get}
+use Rattle.std.specs.Prelude.{◌≡◌, ℕ, ◌<◌, ◌*◌, List, All, Some, max, slice_get}
 use Rattle.sql_values.specs.declared.types.SqlType.{SqlType}
-use Rattle.driver_loop.specs.Drivers.{DriverState}
-use Rattle.plan_layout.specs.Pipes.{PipeForm, table}
 use Rattle.plan_run_laws.specs.Spreads.{Tables}
-use Rattle.pipe_stages.specs.Nets.{AreDriversOf, NetForm}
+use Rattle.net_parts.specs.Drivers.{DriverState}
+use Rattle.net_parts.specs.Pipes.{PipeForm, table}
+use Rattle.net_parts.specs.Nets.{AreDriversOf, NetForm}
 use Rattle.net_making.specs.Slots.{IsNew}
+
+-- the pipe has a task
+abbrev pub HasTask : PipeForm → Type 0
+HasTask pipe = 0 < pipe.tasks
 
 -- they are those of a layout over tables that are read in splits of a size, and new. The claims of a table have a seat for each
 -- driver of its pipe, and one also where there is no driver

@@ -1,8 +1,8 @@
 -- Drivers by their numbers, while they are made.
 use Rattle.std.specs.Prelude.{◌≡◌, ℕ, List, false, Option, Some, None, length, slice_get}
-use Rattle.driver_loop.specs.Drivers.{DriverState}
-use Rattle.plan_layout.specs.Pipes.{PipeForm, driver_number}
-use Rattle.pipe_stages.specs.Nets.{IsDriverOf, NetForm}
+use Rattle.net_parts.specs.Drivers.{DriverState}
+use Rattle.net_parts.specs.Pipes.{PipeForm, driver_number}
+use Rattle.net_parts.specs.Nets.{IsDriverOf, NetForm}
 
 -- no turn of it was over
 pub record IsNew (d : DriverState) : Type 0 where

@@ -2,7 +2,7 @@
 ghost use Rattle.std.specs.Prelude.{◌≡◌, map, IfOk};
 ghost use Rattle.plan_wiring.specs.Handed.{SeatsForm, seats_view};
 
-use pipe_stages::{FilterCells, JoinCells};
+use net_parts::{FilterCells, JoinCells};
 use plan_wiring::Seats;
 use sql_values::Memory;
 use std::alloc::Global;

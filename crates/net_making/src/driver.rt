@@ -1,20 +1,14 @@
 //! A driver of its parts.
 ghost use Rattle.std.specs.Prelude.{◌≡◌, ℕ, Some, slice_get, IfOk, OnOk};
-ghost use Rattle.plan_layout.specs.Filters.{scan_filters};
-ghost use Rattle.plan_layout.specs.Pipes.{driver_number, pipe_view};
-ghost use Rattle.pipe_stages.specs.Nets.{IsDriverOf};
-ghost use Rattle.seat_stocks.specs.Stocks.{AreLeft};
-ghost use Rattle.net_making.specs.Makings.{CanMake, InNets, IsStocked, layout_in};
+ghost use Rattle.net_parts.specs.Filters.{scan_filters};
+ghost use Rattle.net_parts.specs.Pipes.{driver_number, pipe_view};
+ghost use Rattle.net_parts.specs.Nets.{IsDriverOf};
+ghost use Rattle.net_parts.specs.Stocks.{AreLeft};
+ghost use Rattle.net_parts.specs.Makings.{CanMake, InNets, IsStocked, layout_in};
 ghost use Rattle.net_making.specs.Slots.{IsNew};
 
-use crate::making::Making;
-use crate::source::source_of;
-use crate::stages::stages_for;
-use crate::target::target_of;
-use driver_loop::Driver;
-use plan_layout::{Pipe, PlacedFilter};
+use net_parts::{Driver, Making, Pipe, PlacedFilter, Stock, source_of, stages_for, target_of};
 use run_ports::Courier;
-use seat_stocks::Stock;
 use sql_values::Memory;
 
 /// A driver of the pipe at the place `own`, in a task, of this number, with the filters of its scan.

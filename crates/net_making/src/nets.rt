@@ -1,24 +1,20 @@
 //! The drivers of a laid out plan.
 ghost use Rattle.std.specs.Prelude.{◌<◌, ◌≤◌, ℕ, All, map, IfOk, IsTrue};
-ghost use Rattle.tree_evaluator.specs.Fits.{TablesFit};
-ghost use Rattle.tree_evaluator.specs.Stops.{rows_of_table};
-ghost use Rattle.plan_layout.specs.Pipes.{pipe_view};
 ghost use Rattle.plan_wiring.specs.Handed.{AreUnused};
 ghost use Rattle.plan_wiring.specs.Wirings.{IsWiringOf, share_view};
-ghost use Rattle.pipe_stages.specs.Makes.{LayoutFits};
-ghost use Rattle.pipe_stages.specs.Types.{PipesAreTyped, PipeTypes};
-ghost use Rattle.net_making.specs.Makings.{AreFew, HasTask};
-ghost use Rattle.net_making.specs.Nets.{IsNewNetOf};
+ghost use Rattle.net_parts.specs.Fits.{TablesFit};
+ghost use Rattle.net_parts.specs.Stops.{rows_of_table};
+ghost use Rattle.net_parts.specs.Pipes.{pipe_view};
+ghost use Rattle.net_parts.specs.Makes.{LayoutFits};
+ghost use Rattle.net_parts.specs.Types.{PipesAreTyped, PipeTypes};
+ghost use Rattle.net_parts.specs.Makings.{AreFew};
+ghost use Rattle.net_making.specs.Nets.{HasTask, IsNewNetOf};
 
 use crate::cells::{cells_of, filter_cells_of};
-use crate::making::Making;
 use crate::pipes::make_all;
-use driver_loop::Driver;
-use pipe_stages::types_of_pipes;
-use plan_layout::{Layout, Pipe};
+use net_parts::{Driver, Lanes, Layout, Making, Pipe, Stock, types_of_pipes};
 use plan_wiring::Wiring;
 use run_ports::Courier;
-use seat_stocks::{Lanes, Stock};
 use sql_values::{Memory, Table};
 use std::alloc::Global;
 

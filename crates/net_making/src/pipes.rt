@@ -1,20 +1,16 @@
 //! The drivers of all pipes.
 ghost use Rattle.std.specs.Prelude.{◌≡◌, ◌<◌, ◌+◌, ◌*◌, ℕ, All, Some, map, slice_get, IfOk, OnOk};
-ghost use Rattle.plan_layout.specs.Filters.{scan_filters};
-ghost use Rattle.plan_layout.specs.Layouts.{drivers_in};
-ghost use Rattle.plan_layout.specs.Pipes.{pipe_view};
-ghost use Rattle.pipe_stages.specs.Nets.{AreDriversOf};
-ghost use Rattle.seat_stocks.specs.Stocks.{AreLeft};
-ghost use Rattle.net_making.specs.Makings.{CanMake, InNets, IsStocked, layout_in};
+ghost use Rattle.net_parts.specs.Filters.{scan_filters};
+ghost use Rattle.net_parts.specs.Layouts.{drivers_in};
+ghost use Rattle.net_parts.specs.Pipes.{pipe_view};
+ghost use Rattle.net_parts.specs.Nets.{AreDriversOf};
+ghost use Rattle.net_parts.specs.Stocks.{AreLeft};
+ghost use Rattle.net_parts.specs.Makings.{CanMake, InNets, IsStocked, layout_in};
 ghost use Rattle.net_making.specs.Slots.{HasSlot, HaveGrown, IsNew};
 
 use crate::driver::driver_of;
-use crate::making::Making;
-use crate::slots::Slots;
-use driver_loop::Driver;
-use plan_layout::{Pipe, PlacedFilter, scan_filters};
+use net_parts::{Driver, Making, Pipe, PlacedFilter, Slots, Stock, scan_filters};
 use run_ports::Courier;
-use seat_stocks::Stock;
 use sql_values::Memory;
 
 /// All drivers, by their numbers.

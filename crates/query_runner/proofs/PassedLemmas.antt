@@ -4,11 +4,11 @@ use Rattle.std.specs.Prelude.{IfOk, MatchResult}
 use Rattle.std.proofs.lemmas.List.Elements.{All-map}
 use Rattle.sql_values.specs.declared.table.Table.{Table}
 use Rattle.count_laws.specs.Counts.{most_count}
-use Rattle.driver_loop.specs.declared.run_fault.RunFault.{RunFault}
+use Rattle.task_executor.specs.RunFault.{RunFault}
 use Rattle.plan_docs.specs.Plans.{PlanForm}
 use Rattle.plan_reader.specs.Trees.{tree_of}
 use Rattle.plan_trees.specs.Allowed.{Allows}
-use Rattle.net_closing.specs.declared.counts.FilterPassed.{FilterPassed}
+use Rattle.task_executor.specs.FilterPassed.{FilterPassed}
 use Rattle.task_executor.specs.Nets.{FailsFor, IsNetOf, NetState}
 use Rattle.task_executor.specs.PlanCounts.{AreCountable}
 use Rattle.task_executor.specs.Passed.{AreCountsIn, HavePassed}

@@ -5,7 +5,7 @@ use Rattle.count_laws.specs.Counts.{Rose}
 use Rattle.run_ports.specs.Writing.{AppendsPrefix}
 use Rattle.plan_docs.specs.declared.plan.TableDoc.{TableDoc}
 use Rattle.plan_docs.specs.Plans.{PlanForm}
-use Rattle.net_closing.specs.declared.counts.FilterPassed.{FilterPassed}
+use Rattle.task_executor.specs.FilterPassed.{FilterPassed}
 use Rattle.command_line.specs.Words.{Job}
 use Rattle.query_runner.specs.Answers.{AreCountsAsked, Heard, RunFails, Told, ToldAsked, ToldRan, ToldWell}
 use Rattle.query_runner.specs.Jobs.{Contents, Row}

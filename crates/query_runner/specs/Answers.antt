@@ -14,7 +14,7 @@ use Rattle.plan_trees.specs.Stopped.{MayFail}
 use Rattle.plan_trees.specs.Laws.{CannotFail}
 use Rattle.plan_reader.specs.Trees.{tree_of}
 use Rattle.csv_tables.specs.ResultTexts.{result_text}
-use Rattle.net_closing.specs.declared.counts.FilterPassed.{FilterPassed}
+use Rattle.task_executor.specs.FilterPassed.{FilterPassed}
 use Rattle.task_executor.specs.Passed.{AreCountsIn}
 use Rattle.command_line.specs.Words.{Job, no_job}
 use Rattle.command_line.specs.declared.command.WordsFault.{WordsFault}

@@ -5,7 +5,7 @@ use Rattle.sql_values.specs.declared.fail.Fail.{Fail}
 use Rattle.sql_values.specs.declared.fail.Fail.TheVariants as fail
 use Rattle.plan_docs.specs.declared.plan.TableDoc.{TableDoc}
 use Rattle.command_line.specs.Words.{Job, file_at}
-use Rattle.net_closing.specs.declared.counts.FilterPassed.{FilterPassed}
+use Rattle.task_executor.specs.FilterPassed.{FilterPassed}
 use Rattle.query_runner.specs.declared.status.Status.{Status}
 use Rattle.query_runner.specs.declared.status.Status.TheVariants as status
 

@@ -6,3 +6,5 @@ pub mod Passed
 pub mod Waits
 pub use Rattle.net_laws.specs.PlanCounts
 pub use Rattle.plan_fit_laws.specs.Tables
+pub use Rattle.driver_loop.specs.declared.run_fault.RunFault
+pub use Rattle.net_closing.specs.declared.counts.FilterPassed

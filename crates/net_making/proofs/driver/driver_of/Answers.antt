@@ -1,12 +1,12 @@
 use Rattle.std.proofs.Common.{List, ap, map, subst, sym}
-use Rattle.plan_layout.specs.declared.filters.PlacedFilter.{PlacedFilter}
-use Rattle.plan_layout.specs.Filters.{scan_filters}
-use Rattle.plan_layout.specs.Pipes.{PipeForm, StepForm, pipe_view, step_view}
-use Rattle.pipe_stages.specs.Makes.{StepsFit}
-use Rattle.pipe_stages.specs.Nets.{IsTargetFor}
-use Rattle.net_making.specs.Makings.{AreStagesOf, typing_in}
+use Rattle.net_parts.specs.PlacedFilter.{PlacedFilter}
+use Rattle.net_parts.specs.Filters.{scan_filters}
+use Rattle.net_parts.specs.Pipes.{PipeForm, StepForm, pipe_view, step_view}
+use Rattle.net_parts.specs.Makes.{StepsFit}
+use Rattle.net_parts.specs.Nets.{IsTargetFor}
+use Rattle.net_parts.specs.Makings.{AreStagesOf, typing_in}
+use Rattle.net_parts.proofs.StockLemmas.{left_then, nets_left, stocked_left}
 use Rattle.net_making.proofs.DriverLemmas.{made_for, made_new, ok_left}
-use Rattle.net_making.proofs.StockLemmas.{left_then, nets_left, stocked_left}
 use Rattle.net_making.proofs.driver.driver_of.Goals as goal
 
 pub source_of-requires-clause-fits : goal.source_of-requires-clause-fits

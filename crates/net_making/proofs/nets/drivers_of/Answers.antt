@@ -1,9 +1,9 @@
 use Rattle.std.proofs.Common.{◌∙◌, All, IsTrue, ap, map, rules, subst, sym}
 use Rattle.std.proofs.lemmas.List.Elements.{All-map}
-use Rattle.plan_layout.specs.Pipes.{pipe_view}
 use Rattle.plan_wiring.specs.Handed.{SeatsForm, seats_view}
-use Rattle.seat_stocks.specs.Stocks.{stock_of}
-use Rattle.net_making.specs.Makings.{HasTask}
+use Rattle.net_parts.specs.Pipes.{pipe_view}
+use Rattle.net_parts.specs.Stocks.{stock_of}
+use Rattle.net_making.specs.Nets.{HasTask}
 use Rattle.net_making.proofs.NetLemmas.{can_make, have_filter_cells, is_stocked, net_made}
 use Rattle.net_making.proofs.nets.drivers_of.Goals as goal
 

@@ -1,7 +1,7 @@
 use Rattle.std.proofs.Common.{arith}
-use Rattle.plan_layout.specs.Pipes.{pipe_view}
+use Rattle.net_parts.specs.Pipes.{pipe_view}
+use Rattle.net_parts.proofs.StockLemmas.{stocked_left}
 use Rattle.net_making.proofs.LaneLemmas.{no_tasks, one_task}
-use Rattle.net_making.proofs.StockLemmas.{stocked_left}
 use Rattle.net_making.proofs.pipes.add_pipe.Goals as goal
 
 pub loop-task-init : goal.loop-task-init

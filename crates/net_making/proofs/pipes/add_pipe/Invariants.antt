@@ -1,4 +1,4 @@
-use Rattle.plan_layout.specs.Pipes.{pipe_view}
+use Rattle.net_parts.specs.Pipes.{pipe_view}
 use Rattle.net_making.proofs.LaneLemmas.{Made, Tasks}
 use Rattle.net_making.proofs.pipes.add_pipe.Given as goal
 

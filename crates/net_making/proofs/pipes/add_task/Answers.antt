@@ -1,7 +1,7 @@
 use Rattle.std.proofs.Common.{arith}
-use Rattle.plan_layout.specs.Pipes.{pipe_view}
+use Rattle.net_parts.specs.Pipes.{pipe_view}
+use Rattle.net_parts.proofs.StockLemmas.{stocked_left}
 use Rattle.net_making.proofs.LaneLemmas.{no_lanes, one_lane}
-use Rattle.net_making.proofs.StockLemmas.{stocked_left}
 use Rattle.net_making.proofs.pipes.add_task.Goals as goal
 
 pub loop-lane-init : goal.loop-lane-init

@@ -1,4 +1,4 @@
-use Rattle.plan_layout.specs.Pipes.{pipe_view}
+use Rattle.net_parts.specs.Pipes.{pipe_view}
 use Rattle.net_making.proofs.LaneLemmas.{Lanes, Made}
 use Rattle.net_making.proofs.pipes.add_task.Given as goal
 

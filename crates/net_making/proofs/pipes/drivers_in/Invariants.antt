@@ -1,6 +1,6 @@
 use Rattle.std.proofs.Common.{◌≡◌, ◌+◌, drop, map}
-use Rattle.plan_layout.specs.Layouts.{drivers_in}
-use Rattle.plan_layout.specs.Pipes.{pipe_view}
+use Rattle.net_parts.specs.Layouts.{drivers_in}
+use Rattle.net_parts.specs.Pipes.{pipe_view}
 use Rattle.net_making.proofs.pipes.drivers_in.Given as goal
 
 abbrev pub invariant-loop-pipe : goal.invariant-loop-pipe

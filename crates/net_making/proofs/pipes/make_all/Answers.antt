@@ -1,13 +1,13 @@
 use Rattle.std.proofs.Common.{arith, subst}
 use Rattle.std.proofs.lemmas.List.{length-map}
 use Rattle.std.specs.Prelude.{All}
-use Rattle.plan_layout.specs.Pipes.{pipe_view}
-use Rattle.pipe_stages.specs.Nets.{AreDriversOf}
-use Rattle.net_making.specs.Makings.{InNets}
+use Rattle.net_parts.specs.Pipes.{pipe_view}
+use Rattle.net_parts.specs.Nets.{AreDriversOf}
+use Rattle.net_parts.specs.Makings.{InNets}
+use Rattle.net_parts.proofs.EachLemmas.{mapped_at}
+use Rattle.net_parts.proofs.StockLemmas.{stocked_left}
 use Rattle.net_making.specs.Slots.{IsNew}
-use Rattle.pipe_stages.proofs.EachLemmas.{mapped_at}
 use Rattle.net_making.proofs.LaneLemmas.{Made, Pipes, all_made, all_new, answered, no_pipes, one_pipe}
-use Rattle.net_making.proofs.StockLemmas.{stocked_left}
 use Rattle.net_making.proofs.pipes.make_all.Goals as goal
 
 pub loop-own-init : goal.loop-own-init

@@ -1,5 +1,0 @@
-use Rattle.net_making.proofs.BuildLemmas.{PartsSoFar}
-use Rattle.net_making.proofs.builds.build_filters.Given as goal
-
-abbrev pub invariant-loop-place : goal.invariant-loop-place
-invariant-loop-place l = PartsSoFar l.cells l.own l.task l.on l.filters l.place l.made.items

@@ -1,0 +1,9 @@
+pub mod AnswerLemmas
+pub mod StockLemmas
+pub mod ScanLemmas
+pub mod SeatLemmas
+pub mod PutLemmas
+pub mod StageLemmas
+pub mod BuildLemmas
+pub use Rattle.pipe_stages.proofs.EachLemmas
+pub use Rattle.seat_stocks.proofs.LabelLemmas

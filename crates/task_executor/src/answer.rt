@@ -14,8 +14,8 @@ ghost use Rattle.task_executor.specs.Turns.{AreFailing, AreFinished};
 
 use crate::result::rows_of;
 use driver_loop::{Driver, RunFault, Stage};
-use net_laws::{plans_fail, plans_give};
 use net_closing::{Closed, PassedList, close};
+use net_laws::{plans_fail, plans_give};
 use plan_layout::Pipe;
 use plan_reader::Plan;
 use run_ports::Courier;

@@ -30,3 +30,6 @@ invariant_of-self g c =
       most = subst (λ (v : EdgeView). end_count v.put ≤ c.self.inside.takers) (sym is) (ends_of_spread (spread_put_view c.self.inside) c.args.piece may);
       order = subst (λ (v : EdgeView). PagesThenEnds v.put) (sym is) (order_of_spread (spread_put_view c.self.inside) c.args.piece may i.order);
     }
+
+pub returns-in-Err-clause-full : goal.returns-in-Err-clause-full
+returns-in-Err-clause-full c = search rules

@@ -14,10 +14,16 @@
 //! - `domains`: what `dyn_filter` keeps of values, of few and of many, and which pass
 //! - `filters`: its cells of two parts, and what its operator lets through
 //! - `trees`: small trees over constants, by `tree_evaluator`
+//! - `cell_texts`: values as texts, and two results as one
+//! - `exprs`: expressions over a column of whole numbers
 #![tactic(auto)]
 
 #[cfg(test)]
+mod cell_texts;
+#[cfg(test)]
 mod domains;
+#[cfg(test)]
+mod exprs;
 #[cfg(test)]
 mod filters;
 #[cfg(test)]

@@ -1,6 +1,7 @@
 //! Rows found by their keys. Rows stand between strokes, their cells between blanks, and `-` is NULL.
 ghost use Rattle.std.specs.Prelude.{◌≡◌, ◌<◌, length, IfOk};
 
+use crate::cell_texts::show_place;
 use col_pages::{MOST_ROWS, Page};
 use join_index::{Key, KeyIndex};
 use sql_values::{ColumnRows, Memory, ParseFault, SqlType, ValueRef, parse_value};
@@ -56,16 +57,23 @@ fn index_of(
 ) -> Result<KeyIndex, ParseFault>
     requires { 0 < length types.now }
 {
+    let keys = Vec::from_slice(alloc, keys)?;
     let rows = rows(alloc, types, texts)?;
-    Ok(KeyIndex::build(alloc, Vec::from_slice(alloc, keys)?, rows)?)
+    Ok(KeyIndex::build(alloc, keys, rows)?)
 }
 
 /// A page of the rows; of more than a page holds there is none.
-fn page_of(alloc: Global, rows: ColumnRows) -> Result<Page, Memory> {
+fn page_of(rows: ColumnRows) -> Result<Page, Memory> {
     if rows.len() > MOST_ROWS as usize {
         return Err(Memory);
     }
     Ok(Page::of_columns(rows))
+}
+
+fn page(alloc: Global, types: &[SqlType], texts: &str) -> Result<Page, ParseFault>
+    requires { 0 < length types.now }
+{
+    Ok(page_of(rows(alloc, types, texts)?)?)
 }
 
 /// Appends the places of the matches of a row.
@@ -79,10 +87,9 @@ fn show_matches(
     requires { row < length page.now.rows }
 {
     for place in index.matches(Key::of(page, row, columns)) {
-        write!(text, "{place} ")?;
+        show_place(text, place)?;
     }
-    text.push_str("| ")?;
-    Ok(())
+    Ok(text.push_str("| ")?)
 }
 
 /// The places of the matches of each row of a page.
@@ -98,18 +105,28 @@ fn show_all(
     Ok(())
 }
 
-/// Whether the matches of the rows stand at the wanted places.
+/// Whether the matches of the rows of a page stand at the wanted places.
 fn are_found(
     alloc: Global,
     index: &KeyIndex,
-    looked_for: ColumnRows,
+    page: &Page,
     columns: &[u32],
     wanted: &str,
 ) -> Result<bool, Memory> {
-    let page = page_of(alloc, looked_for)?;
     let mut text = String::new(alloc);
-    show_all(&mut text, index, &page, columns)?;
+    show_all(&mut text, index, page, columns)?;
     Ok(text.as_str() == wanted)
+}
+
+/// Whether those of texts of rows of one column do.
+fn are_texts_found(
+    alloc: Global,
+    index: &KeyIndex,
+    looked_for: &str,
+    wanted: &str,
+) -> Result<bool, ParseFault> {
+    let page = page(alloc, &[SqlType::Varchar], looked_for)?;
+    Ok(are_found(alloc, index, &page, &[0], wanted)?)
 }
 
 /// A case of one key column: the rows that are held, those that are looked for, and the places.
@@ -117,8 +134,7 @@ fn is_found_by_one(alloc: Global, case: &str) -> Result<bool, ParseFault> {
     let (held, rest) = case.split_once(';').unwrap_or((case, ""));
     let (looked_for, wanted) = rest.split_once(';').unwrap_or((rest, ""));
     let index = index_of(alloc, &[0], &[SqlType::Varchar, SqlType::Bigint], held)?;
-    let looked_for = rows(alloc, &[SqlType::Varchar], looked_for)?;
-    Ok(are_found(alloc, &index, looked_for, &[0], wanted)?)
+    are_texts_found(alloc, &index, looked_for, wanted)
 }
 
 fn are_found_by_one(alloc: Global, cases: &str) -> Result<bool, ParseFault> {
@@ -147,25 +163,28 @@ fn is_found_by(
     looked_for: &str,
     wanted: &str,
 ) -> Result<bool, ParseFault> {
-    let looked_for = rows(alloc, &[PRICE, SqlType::Varchar], looked_for)?;
-    Ok(are_found(alloc, index, looked_for, columns, wanted)?)
+    let page = page(alloc, &[PRICE, SqlType::Varchar], looked_for)?;
+    Ok(are_found(alloc, index, &page, columns, wanted)?)
+}
+
+fn are_found_by_two(alloc: Global, index: &KeyIndex) -> Result<bool, ParseFault> {
+    let some = "1.50 a | 1.50 b | 2.50 b";
+    let all = is_found_by(alloc, index, &[0, 1], some, "0 5 | 2 | | ")?;
+    let nulls = is_found_by(alloc, index, &[0, 1], "1.50 - | - a | - -", "| | | ")?;
+    let short = is_found_by(alloc, index, &[0], "1.50 a | - a", "| | ")?;
+    Ok(all & nulls & short)
+}
+
+/// Whether they are found among these rows of a text and a price.
+fn is_found_by_two(alloc: Global, held: &str) -> Result<bool, ParseFault> {
+    let index = index_of(alloc, &[1, 0], &[SqlType::Varchar, PRICE], held)?;
+    are_found_by_two(alloc, &index)
 }
 
 #[test]
 fn rows_are_found_by_two_columns(rt: HostRuntime) -> Result<(), ParseFault> {
-    let alloc = rt.alloc();
     let held = "a 1.50 | a 2.50 | b 1.50 | - 1.50 | a - | a 1.50";
-    let index = index_of(alloc, &[1, 0], &[SqlType::Varchar, PRICE], held)?;
-    let all = is_found_by(
-        alloc,
-        &index,
-        &[0, 1],
-        "1.50 a | 1.50 b | 2.50 b",
-        "0 5 | 2 | | ",
-    )?;
-    let nulls = is_found_by(alloc, &index, &[0, 1], "1.50 - | - a | - -", "| | | ")?;
-    let short = is_found_by(alloc, &index, &[0], "1.50 a | - a", "| | ")?;
-    assert!(rt; all && nulls && short);
+    assert!(rt; is_found_by_two(rt.alloc(), held)?);
     Ok(())
 }
 
@@ -192,18 +211,36 @@ fn are_first_places(index: &KeyIndex, page: &Page, count: usize) -> bool
     places == count
 }
 
+/// Whether it holds 5000 rows of one key and column, the last of 7.
+fn is_of_one_key(index: &KeyIndex) -> bool {
+    if index.len() != 5_000 {
+        return false;
+    }
+    let is_last = matches!(index.cell(4_999, 0), ValueRef::Bigint(7));
+    is_last & (index.keys().len() == 1) & (index.types().len() == 1)
+}
+
+fn many_alike(alloc: Global) -> Result<KeyIndex, Memory> {
+    let keys = Vec::from_array(alloc, [0])?;
+    let rows = all_alike(alloc, 5_000)?;
+    KeyIndex::build(alloc, keys, rows)
+}
+
+/// Whether a row like them finds each.
+fn are_alike_found(alloc: Global, index: &KeyIndex) -> Result<bool, Memory> {
+    let page = page_of(all_alike(alloc, 1)?)?;
+    Ok(page.len() == 1 && are_first_places(index, &page, 5_000))
+}
+
+fn have_one_key(alloc: Global) -> Result<bool, Memory> {
+    let index = many_alike(alloc)?;
+    let are_found = are_alike_found(alloc, &index)?;
+    Ok(is_of_one_key(&index) & are_found)
+}
+
 #[test]
 fn many_rows_have_one_key(rt: HostRuntime) -> Result<(), Memory> {
-    let alloc = rt.alloc();
-    let index = KeyIndex::build(
-        alloc,
-        Vec::from_array(alloc, [0])?,
-        all_alike(alloc, 5_000)?,
-    )?;
-    let page = page_of(alloc, all_alike(alloc, 1)?)?;
-    assert!(rt; index.len() == 5_000 && index.keys().len() == 1 && index.types().len() == 1);
-    assert!(rt; page.len() == 1 && are_first_places(&index, &page, 5_000));
-    assert!(rt; matches!(index.cell(4_999, 0), ValueRef::Bigint(7)));
+    assert!(rt; have_one_key(rt.alloc())?);
     Ok(())
 }
 
@@ -212,14 +249,13 @@ fn show_two(text: &mut String, index: &KeyIndex, page: &Page, row: u32) -> Resul
     requires { row < length page.now.rows }
 {
     let key = Key::of(page, row, &[0]);
-    let Some(place) = index.first_match(&key) else {
-        return Ok(text.push_str("| ")?);
-    };
-    match index.next_match(&key, place) {
-        Some(next) => write!(text, "{place} {next} | ")?,
-        None => write!(text, "{place} | ")?,
+    if let Some(place) = index.first_match(&key) {
+        show_place(text, place as usize)?;
+        if let Some(next) = index.next_match(&key, place) {
+            show_place(text, next as usize)?;
+        }
     }
-    Ok(())
+    Ok(text.push_str("| ")?)
 }
 
 fn show_twos(text: &mut String, index: &KeyIndex, page: &Page) -> Result<(), Memory> {
@@ -229,18 +265,37 @@ fn show_twos(text: &mut String, index: &KeyIndex, page: &Page) -> Result<(), Mem
     Ok(())
 }
 
+fn are_twos(alloc: Global, index: &KeyIndex, page: &Page, wanted: &str) -> Result<bool, Memory> {
+    let mut text = String::new(alloc);
+    show_twos(&mut text, index, page)?;
+    Ok(text.as_str() == wanted)
+}
+
+/// Whether the first two matches of each day stand at the wanted places.
+fn are_days_found(
+    alloc: Global,
+    index: &KeyIndex,
+    looked_for: &str,
+    wanted: &str,
+) -> Result<bool, ParseFault> {
+    let page = page(alloc, &[SqlType::Date], looked_for)?;
+    Ok(are_twos(alloc, index, &page, wanted)?)
+}
+
+fn come_one_by_one(
+    alloc: Global,
+    held: &str,
+    looked_for: &str,
+    wanted: &str,
+) -> Result<bool, ParseFault> {
+    let index = index_of(alloc, &[0], &[SqlType::Date], held)?;
+    are_days_found(alloc, &index, looked_for, wanted)
+}
+
 #[test]
 fn matches_come_one_by_one(rt: HostRuntime) -> Result<(), ParseFault> {
-    let alloc = rt.alloc();
     let held = "1998-09-02 | - | 1998-09-02 | 1970-01-01 | 1998-09-02";
-    let index = index_of(alloc, &[0], &[SqlType::Date], held)?;
-    let looked_for = rows(
-        alloc,
-        &[SqlType::Date],
-        "1998-09-02 | 1970-01-01 | - | 1969-12-31",
-    )?;
-    let mut text = String::new(alloc);
-    show_twos(&mut text, &index, &page_of(alloc, looked_for)?)?;
-    assert!(rt; text.as_str() == "0 2 | 3 | | | ");
+    let days = "1998-09-02 | 1970-01-01 | - | 1969-12-31";
+    assert!(rt; come_one_by_one(rt.alloc(), held, days, "0 2 | 3 | | | ")?);
     Ok(())
 }

@@ -2,9 +2,11 @@
 //! blanks, and `-` is NULL.
 ghost use Rattle.std.specs.Prelude.{[], ◌∷◌, IsTrue};
 ghost use Rattle.accumulators.specs.Limits.{are_allowed};
+ghost use Rattle.sql_values.specs.declared.types.SqlType.TheVariants as kind;
 
+use crate::cell_texts::show_value;
 use accumulators::Accumulator;
-use sql_values::{Call, EvalFault, Memory, Row, SqlType, Text, Value, ValueRef};
+use sql_values::{Call, EvalFault, Memory, Row, SqlType, Text, Value};
 use std::alloc::Global;
 
 const WHOLE: SqlType = SqlType::Bigint;
@@ -37,32 +39,40 @@ fn add_cell(
     Ok(())
 }
 
+/// Adds a row of each cell.
+fn add_cells(
+    alloc: Global,
+    kind: SqlType,
+    group: &mut Accumulator,
+    cells: &str,
+) -> Result<(), Memory> {
+    for text in cells.split(' ') {
+        if !text.is_empty() {
+            add_cell(alloc, kind, group, text)?;
+        }
+    }
+    Ok(())
+}
+
 /// A group of rows of one column that it can take.
 fn group(alloc: Global, kind: SqlType, calls: &[Call], cells: &str) -> Result<Accumulator, Memory>
     requires { IsTrue (are_allowed (kind ∷ []) calls.now) }
 {
     let mut group = Accumulator::new(alloc, calls, &[kind])?;
-    for text in cells.split(' ') {
-        if !text.is_empty() {
-            add_cell(alloc, kind, &mut group, text)?;
-        }
-    }
+    add_cells(alloc, kind, &mut group, cells)?;
     Ok(group)
 }
 
 /// Appends the values of a row, one behind the other.
 fn show(text: &mut String, row: &Row) -> Result<(), Memory> {
     for value in row.as_slice() {
-        match value.as_ref() {
-            ValueRef::Null => text.push_str("null ")?,
-            ValueRef::Boolean(truth) => write!(text, "{truth} ")?,
-            ValueRef::Bigint(n) => write!(text, "{n} ")?,
-            ValueRef::Decimal(n) => write!(text, "{n}d ")?,
-            ValueRef::Varchar(held) => write!(text, "'{held}' ")?,
-            ValueRef::Date(day) => write!(text, "day {day} ")?,
-        }
+        show_value(text, value.as_ref())?;
     }
     Ok(())
+}
+
+fn show_part(text: &mut String, group: &Accumulator) -> Result<(), Memory> {
+    show(text, &group.part()?)
 }
 
 fn show_outcome(text: &mut String, outcome: Result<Row, EvalFault>) -> Result<(), Memory> {
@@ -76,7 +86,7 @@ fn show_outcome(text: &mut String, outcome: Result<Row, EvalFault>) -> Result<()
 /// Whether a group gives this partial row and these results.
 fn tells(alloc: Global, group: &Accumulator, wanted: &str) -> Result<bool, Memory> {
     let mut text = String::new(alloc);
-    show(&mut text, &group.part()?)?;
+    show_part(&mut text, group)?;
     show_outcome(&mut text, group.result())?;
     Ok(text.as_str() == wanted)
 }
@@ -85,7 +95,8 @@ fn has_case(alloc: Global, kind: SqlType, calls: &[Call], case: &str) -> Result<
     requires { IsTrue (are_allowed (kind ∷ []) calls.now) }
 {
     let (cells, wanted) = case.split_once('|').unwrap_or((case, ""));
-    tells(alloc, &group(alloc, kind, calls, cells)?, wanted)
+    let group = group(alloc, kind, calls, cells)?;
+    tells(alloc, &group, wanted)
 }
 
 /// Whether each line names the partial row and the results of a group of its cells.
@@ -142,13 +153,32 @@ fn merge_twice(all: &mut Accumulator, one: &Accumulator) -> Result<(), Memory> {
     merge(all, &part)
 }
 
+/// Merges the part of a group of these cells in, twice.
+fn merge_cells(
+    alloc: Global,
+    calls: &[Call],
+    all: &mut Accumulator,
+    cells: &str,
+) -> Result<(), Memory>
+    requires { IsTrue (are_allowed (kind.Bigint ∷ []) calls.now) }
+{
+    let one = group(alloc, WHOLE, calls, cells)?;
+    merge_twice(all, &one)
+}
+
+/// Whether a group tells what two like parts make.
+fn are_merged(alloc: Global, calls: &[Call], cells: &str, wanted: &str) -> Result<bool, Memory>
+    requires { IsTrue (are_allowed (kind.Bigint ∷ []) calls.now) }
+{
+    let mut all = Accumulator::new(alloc, calls, &[WHOLE])?;
+    merge_cells(alloc, calls, &mut all, cells)?;
+    tells(alloc, &all, wanted)
+}
+
 #[test]
 fn parts_are_merged(rt: HostRuntime) -> Result<(), Memory> {
-    let alloc = rt.alloc();
     let calls = [Call::CountAll, Call::Count(0), Call::Sum(0), Call::Max(0)];
-    let mut all = group(alloc, WHOLE, &calls, "")?;
-    merge_twice(&mut all, &group(alloc, WHOLE, &calls, "- 5 7")?)?;
-    assert!(rt; tells(alloc, &all, "6d 4 24d 7 6 4 24 7 ")?);
+    assert!(rt; are_merged(rt.alloc(), &calls, "- 5 7", "6d 4 24d 7 6 4 24 7 ")?);
     Ok(())
 }
 
@@ -162,11 +192,16 @@ fn takes_part_of(
     Ok(group.takes_part(&Row::of(part), 0))
 }
 
+/// Whether a group of too large a number tells only the first, and takes no part with such a sum.
+fn is_bounded(alloc: Global) -> Result<bool, Memory> {
+    let long = group(alloc, SHORT, &[Call::Sum(0)], "999 1000 -1000")?;
+    let told = tells(alloc, &long, "1d 999d 999d ")?;
+    let taken = takes_part_of(alloc, &long, 1, 1000)?;
+    Ok(told & !taken)
+}
+
 #[test]
 fn what_no_group_can_take_is_told(rt: HostRuntime) -> Result<(), Memory> {
-    let alloc = rt.alloc();
-    let long = group(alloc, SHORT, &[Call::Sum(0)], "999 1000 -1000")?;
-    assert!(rt; tells(alloc, &long, "1d 999d 999d ")?);
-    assert!(rt; !takes_part_of(alloc, &long, 1, 1000)?);
+    assert!(rt; is_bounded(rt.alloc())?);
     Ok(())
 }

@@ -1,4 +1,4 @@
-ghost use Rattle.std.specs.Prelude.{◌≡◌, ◌-◌, ◌<◌, ◌≤◌, ◌↔◌, [], length, take, drop, map, slice_get, slice_index_or, Some, IsSome, IsTrue, IfOk, IfSome, All};
+ghost use Rattle.std.specs.Prelude.{◌≡◌, ◌-◌, ◌<◌, ◌≤◌, ◌↔◌, [], length, take, drop, map, option_map, slice_get, slice_index_or, Some, IsSome, IsTrue, IfOk, IfSome, All};
 ghost use Rattle.columns.specs.Present.{gather};
 ghost use Rattle.sql_values.specs.Buckets.{GoOnBy};
 ghost use Rattle.sql_values.specs.Cells.{cell, cut, lent_value};
@@ -129,6 +129,14 @@ impl Page {
         ensures { GoOnBy (λ k. cell (slice_index_or self.now.rows k []) column) hashes.old hashes.new }
     {
         self.held.hash_column(column, hashes);
+    }
+
+    /// A column, where one stands there.
+    pub fn block(&self, column: u32) -> Option<&Block>
+        ensures there { option_map (λ b. b.now.kind) result ≡ slice_get self.now.types column }
+        ensures cells { IfSome result (λ b. b.now.cells ≡ map (λ row. cell row column) self.now.rows) }
+    {
+        self.held.block(column)
     }
 
     /// A copy of a column, or none where no column of that type stands there.

@@ -2,7 +2,7 @@
 use Rattle.std.proofs.Common.{◌≡◌, ℕ, ◌+◌, ◌-◌, ◌<◌, ◌≤◌, Bool, true, false, List, [], ◌∷◌, ◌++◌, length, get_or, set, take, drop, map, min, refl, ap, sym, ◌∙◌, append_assoc, length-append, length-drop, length-take, add-one, arith, zero, suc}
 use Rattle.std.specs.Prelude.{All, replicate, ◌&&◌, ◌↔◌, IsTrue, Some, None, option_map, slice_get}
 use Rattle.std.proofs.lemmas.Option.{slice_get-map}
-use Rattle.std.proofs.lemmas.List.{length-map, length-set, length-replicate, get_or-replicate, take-replicate, drop-replicate, drop_all, drop_at, take_min, take_more, take-map, drop-map, take-take, nil_from_length}
+use Rattle.std.proofs.lemmas.List.{length-map, length-set, length-replicate, get_or-replicate, take-replicate, drop-replicate, drop_all, drop_at, take_all, take_min, take_more, take-map, drop-map, take-take, nil_from_length}
 use Rattle.columns.specs.Present.{gather}
 use Rattle.sql_values.specs.declared.types.SqlType.{SqlType}
 use Rattle.sql_values.specs.declared.value.Value.{Value}
@@ -417,6 +417,18 @@ cells-cut n k low m cs j c f e l h =
     let one : List Value → Value = λ row. cell row j in
     sym (sym (take-map one m (drop low (rows_of n cs))) ∙ ap (take m) (sym (drop-map one low (rows_of n cs))) ∙ ap (λ vs. take m (drop low vs)) (have-cells n cs j c (filled-have n k cs f) e l) ∙ take-within low m n c.cells h)
 
+-- the cells of a column that has none of a row that is only begun
+pub whole-cells : (n : ℕ) (cs : List TypedCells) (j : ℕ) (c : TypedCells) → AreFilled n zero cs → c ≡ get_or cs j c → j < length cs → c.cells ≡ map (λ row. cell row j) (rows_of n cs)
+whole-cells n [] j c f e l = absurd (omega arith)
+whole-cells n (b ∷ cs) zero c f e l =
+    let rows : length (rows_of n cs) ≡ n = length-rows_of n zero cs f.1 in
+    let first : map (λ row. cell row 0) (cons_each b.cells (rows_of n cs)) ≡ b.cells =
+    first-cells b.cells (rows_of n cs) (omega (arith, f.0)) ∙ take_all (length (rows_of n cs)) b.cells (omega (arith, f.0)) in
+    ap (λ (x : TypedCells). x.cells) e ∙ sym first
+whole-cells n (b ∷ cs) (suc j) c f e l =
+    let rows : length (rows_of n cs) ≡ n = length-rows_of n zero cs f.1 in
+    whole-cells n cs j c f.1 e (omega arith) ∙ sym (later-cells b.cells (rows_of n cs) j (omega (arith, f.0)))
+
 -- columns handed in and out
 pub first-common : (cs : List TypedCells) (c : TypedCells) → c ≡ get_or cs 0 c → 0 < length cs → length c.cells ≡ common_length cs
 first-common [] c e l = absurd (omega arith)
@@ -478,3 +490,10 @@ pub none-there : (t : TypedRows) (ts : List SqlType) (cs : List TypedCells) (n k
 none-there t ts cs n k j h e l =
     ap (λ (x : TypedRows). slice_get x.types j) (sym e) ∙ ap (λ ks. slice_get ks j) (sym h.kinds) ∙ slice_get-map (λ (x : TypedCells). x.kind) cs j
     ∙ ap (option_map (λ (x : TypedCells). x.kind)) l
+
+-- a column of rows of which none is begun
+pub seen-columns : (t : TypedRows) (ts : List SqlType) (cs : List TypedCells) (n k j : ℕ) (c : TypedCells) → AreColumns ts cs n k → seen ts n cs ≡ t → t.begun ≡ [] → c ≡ get_or cs j c → j < length cs → c.cells ≡ map (λ row. cell row j) t.rows
+seen-columns t ts cs n k j c h e b f l =
+    let begun : begun_of n cs ≡ [] = ap (λ (x : TypedRows). x.begun) e ∙ b in
+    let none : k ≡ 0 = omega (arith, length-begun_of n k cs h.filled, ap length begun) in
+    whole-cells n cs j c (rw none at h.filled) f l ∙ ap (λ (x : TypedRows). map (λ row. cell row j) x.rows) e

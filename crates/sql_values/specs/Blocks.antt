@@ -24,6 +24,11 @@ fits Varchar (value.Varchar text) = true
 fits Date (value.Date day) = true
 fits kind v = false
 
+-- whether a type is a decimal one
+abbrev pub has_decimals : SqlType → Bool
+has_decimals (Decimal p s) = true
+has_decimals kind = false
+
 -- the cells after a value was offered: with it at their end where it was taken
 abbrev pub offered : Bool → List Value → Value → List Value
 offered true cells v = cells ++ v ∷ []

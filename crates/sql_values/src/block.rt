@@ -1,8 +1,9 @@
-ghost use Rattle.std.specs.Prelude.{◌≡◌, ◌-◌, ◌<◌, ◌≤◌, ◌↔◌, ◌++◌, [], if◌then◌else◌, length, take, drop, slice_index_or, IsTrue, IfOk, OnErr, All};
+ghost use Rattle.std.specs.Prelude.{◌≡◌, ◌-◌, ◌<◌, ◌≤◌, ◌↔◌, ◌++◌, [], if◌then◌else◌, length, map, take, drop, slice_index_or, IsTrue, IfOk, IfSome, IsSome, OnErr, All};
 ghost use Rattle.columns.specs.Present.{gather};
+ghost use Rattle.sql_values.specs.declared.types.SqlType.TheVariants as kind_is;
 ghost use Rattle.sql_values.specs.declared.value.Value.TheVariants as value_is;
 ghost use Rattle.sql_values.specs.Cells.{lent_value};
-ghost use Rattle.sql_values.specs.Blocks.{fits, offered, with_cells};
+ghost use Rattle.sql_values.specs.Blocks.{fits, has_decimals, offered, or_null, with_cells};
 ghost use Rattle.sql_values.specs.Buckets.{GoOnBy};
 ghost use Rattle.sql_values.specs.Types.{has_type};
 
@@ -76,6 +77,97 @@ impl Block {
             block.push(value.as_ref())?;
         }
         Ok(block)
+    }
+
+    /// The block of these truths.
+    pub fn of_booleans(truths: Nullable<bool>) -> Block
+        ensures { result ≡ record { kind = kind_is.Boolean; cells = map (or_null value_is.Boolean) truths } }
+    {
+        Block {
+            held: Held::Boolean(truths),
+        }
+    }
+
+    /// The block of these numbers.
+    pub fn of_bigints(numbers: Nullable<i64>) -> Block
+        ensures { result ≡ record { kind = kind_is.Bigint; cells = map (or_null value_is.Bigint) numbers } }
+    {
+        Block {
+            held: Held::Bigint(numbers),
+        }
+    }
+
+    /// The block of these numbers without their points, of a type of p digits and s places.
+    pub fn of_decimals(p: u8, s: u8, numbers: Nullable<i128>) -> Block
+        ensures { result ≡ record { kind = kind_is.Decimal p s; cells = map (or_null value_is.Decimal) numbers } }
+    {
+        Block {
+            held: Held::Decimal { p, s, numbers },
+        }
+    }
+
+    /// The block of these days.
+    pub fn of_dates(days: Nullable<i32>) -> Block
+        ensures { result ≡ record { kind = kind_is.Date; cells = map (or_null value_is.Date) days } }
+    {
+        Block {
+            held: Held::Date(days),
+        }
+    }
+
+    /// The truths, where the block has their type.
+    pub fn booleans(&self) -> Option<&Nullable<bool>>
+        ensures there { IsSome result ↔ (self.now.kind ≡ kind_is.Boolean) }
+        ensures cells { IfSome result (λ c. self.now.cells ≡ map (or_null value_is.Boolean) c.now) }
+    {
+        match &self.held {
+            Held::Boolean(truths) => Some(truths),
+            _ => None,
+        }
+    }
+
+    /// The numbers, where the block has the type bigint.
+    pub fn bigints(&self) -> Option<&Nullable<i64>>
+        ensures there { IsSome result ↔ (self.now.kind ≡ kind_is.Bigint) }
+        ensures cells { IfSome result (λ c. self.now.cells ≡ map (or_null value_is.Bigint) c.now) }
+    {
+        match &self.held {
+            Held::Bigint(numbers) => Some(numbers),
+            _ => None,
+        }
+    }
+
+    /// The numbers without their points, where the block has a decimal type.
+    pub fn decimals(&self) -> Option<&Nullable<i128>>
+        ensures there { IsSome result ↔ IsTrue (has_decimals self.now.kind) }
+        ensures cells { IfSome result (λ c. self.now.cells ≡ map (or_null value_is.Decimal) c.now) }
+    {
+        match &self.held {
+            Held::Decimal { numbers, .. } => Some(numbers),
+            _ => None,
+        }
+    }
+
+    /// The texts, where the block has their type.
+    pub fn texts(&self) -> Option<&Texts>
+        ensures there { IsSome result ↔ (self.now.kind ≡ kind_is.Varchar) }
+        ensures cells { IfSome result (λ c. self.now.cells ≡ map (or_null value_is.Varchar) c.now) }
+    {
+        match &self.held {
+            Held::Varchar(texts) => Some(texts),
+            _ => None,
+        }
+    }
+
+    /// The days, where the block has the type date.
+    pub fn dates(&self) -> Option<&Nullable<i32>>
+        ensures there { IsSome result ↔ (self.now.kind ≡ kind_is.Date) }
+        ensures cells { IfSome result (λ c. self.now.cells ≡ map (or_null value_is.Date) c.now) }
+    {
+        match &self.held {
+            Held::Date(days) => Some(days),
+            _ => None,
+        }
     }
 
     /// The law that each cell has the variant of the block's type, or is NULL.

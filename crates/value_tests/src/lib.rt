@@ -1,12 +1,14 @@
-//! Tests of the crates of values and of expressions, a module for each, and two for `sql_values` and for `sql_exprs`. What
+//! Tests of the crates of values and of expressions, a module for each, and more for `sql_values` and for `sql_exprs`. What
 //! they want is what PostgreSQL and Trino document, or was computed outside or by hand.
 //!
-//! - `column_tests`, `decimal_tests`, `scalar_tests`, `list_tests`, `value_tests`, `page_tests`: `columns`, `decimals`,
-//!   `scalar_texts`, `sql_values` and `col_pages`
+//! - `column_tests`, `decimal_tests`, `scalar_tests`, `list_tests`, `block_tests`, `value_tests`, `page_tests`: `columns`,
+//!   `decimals`, `scalar_texts`, `sql_values` and `col_pages`
 //! - `function_tests`: `sql_functions`
 //! - `expr_tests`, with its `expr_cases`, and `typing_tests`: `sql_exprs`
 #![tactic(auto)]
 
+#[cfg(test)]
+mod block_tests;
 #[cfg(test)]
 mod column_tests;
 #[cfg(test)]

@@ -200,7 +200,7 @@ fn truths(alloc: Global, rows: &RowList) -> Result<Page, Memory>
     Page::of_rows(alloc, rows, &[SqlType::Boolean], &[1], 0, 1)
 }
 
-fn second_column(alloc: Global) -> Result<Page, Memory>
+pub(crate) fn second_column(alloc: Global) -> Result<Page, Memory>
     ensures { IfOk result (λ p. length p.rows ≡ 1) }
 {
     let rows = list(alloc)?;

@@ -138,7 +138,7 @@ pub record AreCountsAsked (held : Contents) (job : Job) (plan : PlanForm) (count
   pub are_tables : AreTablesAsked held job plan.tables tables
   pub are : AreCountsIn plan tables counts
 
--- these were told, if they are asked for, and else nothing
+-- these lines were written, if they are asked for, and else nothing
 abbrev pub ToldAsked : Bool → Heard → List FilterPassed → Type 0
 ToldAsked true heard counts = ToldText heard (count_lines counts)
 ToldAsked false heard counts = heard.told_after ≡ heard.told_before

@@ -6,7 +6,8 @@ ghost use Rattle.sql_exprs.specs.Pages.{cell_at, cells_at};
 ghost use Rattle.page_processor.specs.Positions.{calm_positions, index_of, values_at};
 
 use col_pages::{Block, Page};
-use sql_exprs::{Expr, PageFault, eval_page};
+use column_exprs::eval_columns;
+use sql_exprs::{Expr, PageFault};
 use sql_values::{Fail, Memory};
 use std::alloc::Global;
 
@@ -39,7 +40,7 @@ pub fn values_before(
     ensures values { IfOk result (λ v. v ≡ values_at page.now.types page.now.rows positions.old.items (form_view expr.now)) }
     ensures kept { OnOk result (positions.new.items ≡ calm_positions (cell_at page.now.types (form_view expr.now) page.now.rows) positions.old.items) }
 {
-    match eval_page(alloc, expr, page, positions.as_slice()) {
+    match eval_columns(alloc, expr, page, positions.as_slice()) {
         Ok(block) => Ok(Values {
             block,
             failure: None,
@@ -60,7 +61,7 @@ fn calm_values(alloc: Global, expr: &Expr, page: &Page, positions: &[u32]) -> Re
     ensures kind { IfOk result (λ b. b.kind ≡ kind_of page.now.types (form_view expr.now)) }
     ensures cells { IfOk result (λ b. cells_at page.now.types (form_view expr.now) page.now.rows positions.now ≡ Ok b.cells) }
 {
-    match eval_page(alloc, expr, page, positions) {
+    match eval_columns(alloc, expr, page, positions) {
         Ok(block) => Ok(block),
         Err(_) => Err(Memory),
     }

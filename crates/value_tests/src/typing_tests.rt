@@ -1,7 +1,7 @@
 //! Expressions: what does not fit its types, and values on the positions of a page.
 use crate::expr_tests::{DATE, DEC_2_1, TRUTH, WHOLE, binary, case_of, literal, name_of, unary};
 use CallName::{DaysBetween, Divide, Less, Not, Year};
-use col_pages::{Page, PageBuilder};
+use col_pages::{Block, Page, PageBuilder};
 use sql_exprs::{Branch, CallName, Expr, PageFault, TypeFault, eval_page, typed};
 use sql_values::{Memory, SqlType, Value, ValueRef};
 use std::alloc::Global;
@@ -115,15 +115,9 @@ fn show_cell(text: &mut String, cell: ValueRef<'_>) -> Result<(), Memory> {
     Ok(())
 }
 
-/// The numbers that an expression has at the positions, or the position at which it fails.
-fn show(
-    alloc: Global,
-    text: &mut String,
-    page: &Page,
-    expr: &Expr,
-    positions: &[u32],
-) -> Result<(), Memory> {
-    match eval_page(alloc, expr, page, positions) {
+/// The numbers that an expression has at positions, or the position at which it fails.
+pub(crate) fn show(text: &mut String, values: Result<Block, PageFault>) -> Result<(), Memory> {
+    match values {
         Ok(block) => {
             for place in 0..block.len() {
                 show_cell(text, block.cell(place))?;
@@ -143,7 +137,7 @@ fn shows(
     wanted: &str,
 ) -> Result<bool, Memory> {
     let mut text = String::new(alloc);
-    show(alloc, &mut text, page, expr, positions)?;
+    show(&mut text, eval_page(alloc, expr, page, positions))?;
     Ok(text.as_str() == wanted)
 }
 

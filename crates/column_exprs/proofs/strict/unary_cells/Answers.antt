@@ -1,0 +1,15 @@
+use Rattle.std.proofs.Common.{◌∙◌, ap}
+use Rattle.sql_values.specs.Blocks.{TypedCells}
+use Rattle.column_exprs.specs.Operands.{unary_at}
+use Rattle.column_exprs.proofs.OperandLemmas.{pushed, unary_here}
+use Rattle.column_exprs.proofs.strict.unary_cells.Goals as goal
+
+pub loop-place-preserved : goal.loop-place-preserved
+loop-place-preserved c =
+    let w = c.in_ok-push_unary.ensures c.if-not-branch.false in
+    record {
+      kind = ap (λ (b : TypedCells). b.kind) w.2 ∙ c.loop-place.invariant.kind;
+      values =
+          pushed (unary_at c.args.name c.args.arg.now) c.loop-place.place c.loop-place.block c.push_unary.new.block w.0 c.loop-place.invariant.values
+          (unary_here c.args.name c.args.arg.now c.loop-place.place _ _ w.0 c.kind-from.ensures c.cell-value.ensures w.1) w.2;
+    }

@@ -1,0 +1,162 @@
+ghost use Rattle.std.specs.Prelude.{◌≡◌, length, map, IfOk, IfSome, IsTrue};
+ghost use Rattle.sql_exprs.specs.Forms.{Form, call, cast, column, form_view, forms_of, more, none};
+ghost use Rattle.column_exprs.specs.Operands.{AreRows, HasCells, IsOperand, is_strict};
+
+use crate::made::{binary_made, cast_made, unary_made};
+use crate::operand::Operand;
+use crate::rows::Rows;
+use sql_exprs::Expr;
+use sql_functions::CallName;
+use sql_values::{Memory, SqlType, ValueRef};
+use std::alloc::Global;
+
+/// The values of an expression on rows, or none where it fails on one of them or is not covered.
+#[cycle(parts)]
+pub fn operand_of<'a>(
+    alloc: Global,
+    expr: &'a Expr,
+    rows: Rows<'a>,
+) -> Result<Option<Operand<'a>>, Memory>
+    requires { AreRows rows }
+    ensures { IfOk result (λ o. IfSome o (IsOperand (form_view expr.now) rows.entry)) }
+{
+    match expr {
+        Expr::Column(column) => column_operand(alloc, *column, rows),
+        Expr::Literal { kind, value } => Ok(Some(Operand::Constant {
+            kind: *kind,
+            value: value.as_ref(),
+        })),
+        Expr::Null(kind) => Ok(Some(Operand::Constant {
+            kind: *kind,
+            value: ValueRef::Null,
+        })),
+        Expr::Call { name, args } => call_operand(alloc, *name, args.as_slice(), rows),
+        Expr::Cast { arg, kind } => cast_operand(alloc, arg, *kind, rows),
+        Expr::Case { .. } => Ok(None),
+    }
+}
+
+/// The column of the page, without a copy where the rows are all there are.
+fn column_operand<'a>(
+    alloc: Global,
+    place: u32,
+    rows: Rows<'a>,
+) -> Result<Option<Operand<'a>>, Memory>
+    requires { AreRows rows }
+    ensures { IfOk result (λ o. IfSome o (IsOperand (column place) rows.entry)) }
+{
+    let Some(block) = rows.page.block(place) else {
+        return Ok(None);
+    };
+    if rows.whole {
+        return Ok(Some(Operand::Lent(block)));
+    }
+    Ok(Some(Operand::Made(block.select(alloc, rows.positions)?)))
+}
+
+#[cycle(parts)]
+fn cast_operand<'a>(
+    alloc: Global,
+    arg: &'a Expr,
+    kind: SqlType,
+    rows: Rows<'a>,
+) -> Result<Option<Operand<'a>>, Memory>
+    requires { AreRows rows }
+    ensures { IfOk result (λ o. IfSome o (IsOperand (cast (form_view arg.now) kind) rows.entry)) }
+{
+    match operand_of(alloc, arg, rows)? {
+        Some(operand) => cast_made(alloc, &operand, kind, rows),
+        None => Ok(None),
+    }
+}
+
+#[cycle(parts)]
+fn call_operand<'a>(
+    alloc: Global,
+    name: CallName,
+    args: &'a [Expr],
+    rows: Rows<'a>,
+) -> Result<Option<Operand<'a>>, Memory>
+    requires { AreRows rows }
+    ensures { IfOk result (λ o. IfSome o
+        (IsOperand (call name (forms_of (map form_view args.now))) rows.entry)) }
+{
+    if !is_strict(name) {
+        return Ok(None);
+    }
+    strict_operand(alloc, name, args, rows)
+}
+
+/// A call that takes the values of all its arguments.
+#[cycle(parts)]
+fn strict_operand<'a>(
+    alloc: Global,
+    name: CallName,
+    args: &'a [Expr],
+    rows: Rows<'a>,
+) -> Result<Option<Operand<'a>>, Memory>
+    requires rows { AreRows rows }
+    requires strict { IsTrue (is_strict name) }
+    ensures { IfOk result (λ o. IfSome o
+        (IsOperand (call name (forms_of (map form_view args.now))) rows.entry)) }
+{
+    match args {
+        [arg] => unary_operand(alloc, name, arg, rows),
+        [left, right] => match operand_of(alloc, left, rows)? {
+            Some(first) => second_operand(alloc, name, &first, right, rows),
+            None => Ok(None),
+        },
+        [] => Ok(None),
+        [_, _, _, ..] => Ok(None),
+    }
+}
+
+/// A call of one argument.
+#[cycle(parts)]
+fn unary_operand<'a>(
+    alloc: Global,
+    name: CallName,
+    arg: &'a Expr,
+    rows: Rows<'a>,
+) -> Result<Option<Operand<'a>>, Memory>
+    requires rows { AreRows rows }
+    requires strict { IsTrue (is_strict name) }
+    ensures { IfOk result (λ o. IfSome o
+        (IsOperand (call name (more (form_view arg.now) none)) rows.entry)) }
+{
+    match operand_of(alloc, arg, rows)? {
+        Some(operand) => unary_made(alloc, name, &operand, rows),
+        None => Ok(None),
+    }
+}
+
+/// A call of two arguments of which the first has an operand.
+#[cycle(parts)]
+fn second_operand<'a>(
+    alloc: Global,
+    name: CallName,
+    first: &Operand<'_>,
+    right: &'a Expr,
+    rows: Rows<'a>,
+) -> Result<Option<Operand<'a>>, Memory>
+    requires rows { AreRows rows }
+    requires strict { IsTrue (is_strict name) }
+    requires cells { HasCells first.now (length rows.positions.now) }
+    ensures { IfOk result (λ o. IfSome o (λ x. (form : Form) → IsOperand form rows.entry first.now
+        → IsOperand (call name (more form (more (form_view right.now) none))) rows.entry x)) }
+{
+    match operand_of(alloc, right, rows)? {
+        Some(second) => binary_made(alloc, name, first, &second, rows),
+        None => Ok(None),
+    }
+}
+
+/// Whether a call takes the values of all its arguments.
+fn is_strict(name: CallName) -> bool
+    ensures { result ≡ is_strict name }
+{
+    match name {
+        CallName::And | CallName::Or | CallName::Coalesce => false,
+        _ => true,
+    }
+}

@@ -6,8 +6,8 @@
 //! - `buffer`: `SortBuffer`, the rows of either, in typed columns. No row is moved while they are put in
 //!   order: their places are, and pages are gathered by these
 //! - `places`: places of rows by the order of keys
-//! - `numbers`: the same where the first key is a whole number or a date: its numbers stand beside the places, so that
-//!   most pairs are compared without a look at the rows
+//! - `numbers`: the same where the first key is a whole number or a date: what its cells rank by stands beside the
+//!   places, so that most pairs are compared without a look at the rows
 //!
 //! `specs/Sorting.antt` says what the operators may give. NULL is last, ascending and descending, and rows
 //! that the keys do not tell apart stand in any order.

@@ -7,5 +7,8 @@ pub mod CellLemmas
 pub mod ReadBackLemmas
 pub mod FitLemmas
 pub mod BuildLemmas
+pub mod AsciiLemmas
 pub mod PartLemmas
+pub mod LineLemmas
+pub mod LineRowLemmas
 pub mod PartRowLemmas

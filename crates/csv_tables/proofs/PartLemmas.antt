@@ -42,7 +42,7 @@ read_open (suc n) s fields field (c ∷ rest) h =
     (read_open n to [] [] rest (omega (arith, h)))
     (read_open (suc n) to (fields_after a fields field) (field_after a c field) rest (omega (arith, h)))
 
-all_open : (bytes : List ℕ) → records default_config bytes ≡ open_records st.StartRecord [] [] bytes
+pub all_open : (bytes : List ℕ) → records default_config bytes ≡ open_records st.StartRecord [] [] bytes
 unfolding records_from
 all_open bytes = rw (add-one (length bytes)) (read_open (length bytes) st.StartRecord [] [] bytes (omega arith))
 
@@ -227,7 +227,7 @@ plain_line_feed st.AfterQuote h = absurd h
 plain_line_feed st.InEscape h = absurd h
 plain_line_feed st.InComment h = absurd h
 
-is_no_quote : (c : ℕ) → c ≢ quote → (c == 34) ≡ false
+pub is_no_quote : (c : ℕ) → c ≢ quote → (c == 34) ≡ false
 is_no_quote c other = by_test (c == 34) refl
   where
     by_test : (b : Bool) → (c == 34) ≡ b → (c == 34) ≡ false

@@ -43,7 +43,7 @@ pub cells_step : (row n : ℕ) (columns : List Column) (fields : List (List ℕ)
     ≡ first_and_rest (in_place row n (value_of_field (get_or columns i c).kind f)) (cells_from row (n + 1) (drop (i + 1) columns) (drop (i + 1) fields))
 cells_step row n columns fields i c f lt there = rw (column_there columns i c lt, field_there fields i f there) refl
 
-no_fields : (row n : ℕ) (columns : List Column) → cells_from row n columns [] ≡ Ok []
+pub no_fields : (row n : ℕ) (columns : List Column) → cells_from row n columns [] ≡ Ok []
 no_fields row n [] = refl
 no_fields row n (c ∷ columns) = refl
 

@@ -4,7 +4,7 @@ use Rattle.std.specs.Cmp.Lexicographic.{pointwise}
 use Rattle.std.specs.Str.{is_utf8}
 use Rattle.sql_values.specs.Texts.{value_of_text, text_of_value}
 use Rattle.sql_values.specs.declared.types.SqlType.{SqlType}
-use Rattle.sql_values.specs.declared.types.SqlType.TheVariants.{Varchar}
+use Rattle.sql_values.specs.declared.types.SqlType.TheVariants.{Boolean, Varchar}
 use Rattle.sql_values.specs.declared.value.Value.{Value}
 use Rattle.sql_values.specs.declared.value.Value.TheVariants as value
 use Rattle.csv_tables.specs.Places.{not_utf8, malformed}
@@ -54,6 +54,12 @@ value_of_field kind field =
     if not (is_utf8 field) then Err not_utf8
     else if is_null kind field then Ok value.Null
     else value_or_malformed (value_of_text kind (text_in kind field))
+
+-- the number or the day that a field writes
+abbrev pub number_in : SqlType → List ℕ → Option Value
+number_in Boolean field = None
+number_in Varchar field = None
+number_in kind field = value_of_text kind field
 
 -- the field that stands for a cell
 abbrev pub field_text : SqlType → Value → List ℕ

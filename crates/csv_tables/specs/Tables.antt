@@ -1,7 +1,6 @@
 -- The table that a text in CSV stands for.
-use Rattle.std.specs.Prelude.{ℕ, ◌+◌, ◌-◌, ◌^◌, ◌==◌, min, if◌then◌else◌, List, [], ◌∷◌, ◌++◌, length, map, Option, Some, None, Result, Ok, Err, ◌≡◌}
+use Rattle.std.specs.Prelude.{ℕ, ◌+◌, ◌-◌, ◌^◌, ◌==◌, min, if◌then◌else◌, List, [], ◌∷◌, ◌++◌, length, Option, Some, None, Result, Ok, Err, ◌≡◌}
 use Rattle.csv.specs.Reading.{default_config, records, strip_bom}
-use Rattle.sql_values.specs.Columns.{kinds}
 use Rattle.sql_values.specs.ColumnRows.{TypedRows}
 use Rattle.sql_values.specs.declared.types.Column.{Column}
 use Rattle.sql_values.specs.declared.types.SqlType.{SqlType}

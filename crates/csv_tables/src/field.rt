@@ -1,5 +1,5 @@
-ghost use Rattle.std.specs.Prelude.{◌≡◌, MatchResult, option_map};
-ghost use Rattle.csv_tables.specs.Fields.{is_varchar, is_null, unescaped, text_in, value_of_field};
+ghost use Rattle.std.specs.Prelude.{◌≡◌, MatchResult, Ok, Err, option_map};
+ghost use Rattle.csv_tables.specs.Fields.{is_varchar, is_null, null_field, number_in, same_bytes, unescaped, text_in, value_of_field};
 ghost use Rattle.sql_values.specs.Cells.{lent_value};
 ghost use Rattle.sql_values.specs.Texts.{value_of_text};
 
@@ -20,10 +20,16 @@ fn is_varchar_type(kind: SqlType) -> bool
     }
 }
 
+fn is_null_field(field: &[u8]) -> bool
+    ensures { result ≡ same_bytes field.now null_field }
+{
+    field.len() == 2 && field[0] == b'\\' && field[1] == b'N'
+}
+
 fn stands_for_null(kind: SqlType, field: &[u8]) -> bool
     ensures { result ≡ is_null kind field.now }
 {
-    field == NULL_FIELD || (!is_varchar_type(kind) && field.is_empty())
+    is_null_field(field) || (!is_varchar_type(kind) && field.is_empty())
 }
 
 fn without_escape(text: &str) -> &str
@@ -71,9 +77,21 @@ fn parse_lent(kind: SqlType, text: &str) -> Option<ValueRef<'_>>
     })
 }
 
+// The number or the day that a field writes.
+fn written_number(kind: SqlType, field: &[u8]) -> Option<ValueRef<'_>>
+    ensures { option_map lent_value result ≡ number_in kind field.now }
+{
+    Some(match kind {
+        SqlType::Bigint => ValueRef::Bigint(read_bigint(field)?),
+        SqlType::Decimal { p, s } => ValueRef::Decimal(read_decimal(p, s, field)?),
+        SqlType::Date => ValueRef::Date(read_date(field)?),
+        SqlType::Boolean | SqlType::Varchar => return None,
+    })
+}
+
 #[tactic(auto, using(crate::proofs::ValueLemmas::field_values))]
-/// The cell that a field stands for, with a text of the field itself, or why it stands for none.
-pub(crate) fn read_field(kind: SqlType, field: &[u8]) -> Result<ValueRef<'_>, u8>
+// The cell of a field, whatever it writes.
+fn read_any(kind: SqlType, field: &[u8]) -> Result<ValueRef<'_>, u8>
     ensures { MatchResult result
         (λ v. value_of_field kind field.now ≡ Ok (lent_value v))
         (λ why. value_of_field kind field.now ≡ Err why) }
@@ -88,4 +106,16 @@ pub(crate) fn read_field(kind: SqlType, field: &[u8]) -> Result<ValueRef<'_>, u8
         Some(value) => Ok(value),
         None => Err(MALFORMED),
     }
+}
+
+/// The cell that a field stands for, with a text of the field itself, or why it stands for none.
+pub(crate) fn read_field(kind: SqlType, field: &[u8]) -> Result<ValueRef<'_>, u8>
+    ensures { MatchResult result
+        (λ v. value_of_field kind field.now ≡ Ok (lent_value v))
+        (λ why. value_of_field kind field.now ≡ Err why) }
+{
+    if let Some(value) = written_number(kind, field) {
+        return Ok(value);
+    }
+    read_any(kind, field)
 }

@@ -8,6 +8,7 @@
 //! - `fault`: why a text is refused
 //! - `records`: the records of a text, one after the other
 //! - `header`, `field`, `rows`, `table`: the parts of `read_table`, and `read_part`, which reads records behind a header
+//! - `lines`, `line_rows`: a text without quotes, read line by line
 //! - `laws`: what follows from the definitions
 //! - `result_text`: `text_of`
 #![tactic(auto)]
@@ -16,6 +17,8 @@ mod fault;
 mod field;
 mod header;
 mod laws;
+mod line_rows;
+mod lines;
 mod records;
 mod result_text;
 mod rows;

@@ -14,7 +14,8 @@ use csv::ByteRecord;
 use sql_values::{Column, ColumnRows, Memory, SqlType, ValueRef};
 use std::alloc::Global;
 
-fn held_count(fields: usize) -> u32
+/// A number of fields as a column.
+pub(crate) fn held_count(fields: usize) -> u32
     ensures { result ≡ held fields }
 {
     if fields < u32::MAX as usize {
@@ -23,7 +24,13 @@ fn held_count(fields: usize) -> u32
     u32::MAX
 }
 
-fn read_cell(kind: SqlType, field: &[u8], row: u32, column: u32) -> Result<ValueRef<'_>, TableFault>
+/// The cell of a field, or its place.
+pub(crate) fn read_cell(
+    kind: SqlType,
+    field: &[u8],
+    row: u32,
+    column: u32,
+) -> Result<ValueRef<'_>, TableFault>
     ensures { MatchResult result
         (λ v. in_place row column (value_of_field kind field.now) ≡ Ok (lent_value v))
         (IsFaultOf (in_place row column (value_of_field kind field.now))) }
@@ -34,7 +41,8 @@ fn read_cell(kind: SqlType, field: &[u8], row: u32, column: u32) -> Result<Value
     }
 }
 
-fn put_cell(rows: &mut ColumnRows, value: ValueRef<'_>) -> Result<(), Memory>
+/// Puts the next cell of a row.
+pub(crate) fn put_cell(rows: &mut ColumnRows, value: ValueRef<'_>) -> Result<(), Memory>
     requires { fits_at rows.old.types (length rows.old.begun) (lent_value value) ≡ true }
     ensures { OnOk result (rows.new ≡ record rows.old {
       begun = rows.old.begun ++ lent_value value.entry ∷ [];

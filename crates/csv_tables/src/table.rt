@@ -1,10 +1,12 @@
-ghost use Rattle.std.specs.Prelude.{◌≡◌, ◌<◌, ◌-◌, ◌^◌, length, MatchResult, IfOk};
+ghost use Rattle.std.specs.Prelude.{◌≡◌, [], ◌<◌, ◌-◌, ◌^◌, drop, length, MatchResult, IfOk};
 ghost use Rattle.csv_tables.specs.Places.{IsFaultOf};
 ghost use Rattle.sql_values.specs.Columns.{kinds};
 ghost use Rattle.csv_tables.specs.Tables.{IsReadInto, IsTable, TableRefusedFor, records_of, rows_from};
 
 use crate::fault::{TableFault, WRONG_HEADER};
 use crate::header::header_difference;
+use crate::line_rows::read_lines;
+use crate::lines::{lines_behind_first, plain_lines};
 use crate::records::Records;
 use crate::rows::{empty_rows, read_rows};
 use csv::ByteRecord;
@@ -22,6 +24,29 @@ fn copy_columns(alloc: Global, columns: &[Column]) -> Result<Columns, Memory>
         })?;
     }
     Ok(Columns::of(copy))
+}
+
+// The rows behind the first record of a text, of which a reader has read that record.
+fn read_behind(
+    columns: &[Column],
+    limit: u32,
+    bytes: &[u8],
+    records: Records<'_>,
+    line: ByteRecord,
+    rows: ColumnRows,
+) -> Result<ColumnRows, TableFault>
+    requires first { records ≡ drop 1 (records_of bytes.now) }
+    requires empty { rows ≡ record { types = kinds columns.now; rows = []; begun = [] } }
+    requires limit { limit < 2 ^ 32 - 1 }
+    requires columns { length columns.now < 2 ^ 32 }
+    ensures { MatchResult result
+        (λ rows. IsReadInto (rows_from columns.now limit 1 records.entry) (kinds columns.now) rows)
+        (IsFaultOf (rows_from columns.now limit 1 records.entry)) }
+{
+    match lines_behind_first(bytes) {
+        Some(lines) => read_lines(columns, limit, lines, rows),
+        None => read_rows(columns, limit, records, line, rows),
+    }
 }
 
 /// The table of these columns that a text in CSV is. Its first record is the header, row 0, which
@@ -58,7 +83,7 @@ pub fn read_table(
         });
     }
     let empty = empty_rows(alloc, columns)?;
-    let rows = read_rows(columns, limit, records, line, empty)?;
+    let rows = read_behind(columns, limit, bytes, records, line, empty)?;
     Ok(Table {
         columns: copy_columns(alloc, columns)?,
         rows: RowList::of_columns(alloc, rows),
@@ -80,11 +105,14 @@ pub fn read_part(
         (IsFaultOf (rows_from columns.now limit 1 (records_of bytes.now))) }
 {
     let empty = empty_rows(alloc, columns)?;
-    read_rows(
-        columns,
-        limit,
-        Records::of(alloc, bytes),
-        ByteRecord::new(alloc),
-        empty,
-    )
+    match plain_lines(bytes) {
+        Some(lines) => read_lines(columns, limit, lines, empty),
+        None => read_rows(
+            columns,
+            limit,
+            Records::of(alloc, bytes),
+            ByteRecord::new(alloc),
+            empty,
+        ),
+    }
 }

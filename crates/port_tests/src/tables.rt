@@ -92,6 +92,34 @@ fn other_forms_of_a_table_print_plainly(rt: HostRuntime) -> Result<(), TableFaul
     Ok(())
 }
 
+/// Whether a text and the same text with a name in quotes print as another.
+fn both_print(alloc: Global, plain: &str, quoted: &str, want: &str) -> Result<bool, TableFault> {
+    Ok(prints(alloc, 9, plain, want)? && prints(alloc, 9, quoted, want)?)
+}
+
+#[test]
+fn lines_are_read_as_csv_reads_them(rt: HostRuntime) -> Result<(), TableFault> {
+    let alloc = rt.alloc();
+    assert!(rt;
+        both_print(
+            alloc,
+            "a,c\r\n1,x\r\n\n\r2,\r",
+            "\"a\",c\r\n1,x\r\n\n\r2,\r",
+            "a,c\n1,x\n2,\n"
+        )?
+    );
+    assert!(rt;
+        both_print(
+            alloc,
+            "\r\na,c\n\\N,y z",
+            "\r\n\"a\",c\n\\N,y z",
+            "a,c\n\\N,y z\n"
+        )?
+    );
+    assert!(rt; both_print(alloc, "a,c\n\n", "\"a\",c\n\n", "a,c\n")?);
+    Ok(())
+}
+
 fn is_refusal(answer: &Result<Table, TableFault>, want: (u32, u32, u8)) -> bool {
     match answer {
         Err(TableFault::Refused { row, column, why }) => (*row, *column, *why) == want,
@@ -107,6 +135,19 @@ fn refuses_pair(alloc: Global, bytes: &[u8], want: (u32, u32, u8)) -> bool {
     is_refusal(&read_pair(alloc, 9, bytes), want)
 }
 
+/// Whether rows behind other lines are refused so.
+fn refuses_behind(
+    alloc: Global,
+    lines: &str,
+    rows: &[u8],
+    want: (u32, u32, u8),
+) -> Result<bool, Memory> {
+    let mut text = Vec::new(alloc);
+    text.extend_from_slice(lines.as_bytes())?;
+    text.extend_from_slice(rows)?;
+    Ok(refuses_pair(alloc, text.as_slice(), want))
+}
+
 #[test]
 fn refuses_the_first_fault_of_a_number(rt: HostRuntime) {
     let alloc = rt.alloc();
@@ -115,6 +156,17 @@ fn refuses_the_first_fault_of_a_number(rt: HostRuntime) {
     assert!(rt; refuses_number(alloc, 1, b"a\n1x\n", (1, 0, 4)));
     assert!(rt; refuses_number(alloc, 1, b"", (0, 0, 1)));
     assert!(rt; refuses_number(alloc, 0, b"a\nx,y\n", (1, 0, 5)));
+}
+
+#[test]
+fn a_line_is_refused_as_csv_reads_it(rt: HostRuntime) -> Result<(), Memory> {
+    let alloc = rt.alloc();
+    for lines in ["a,c\n1,x\n", "\"a\",c\n1,x\n"] {
+        assert!(rt; refuses_behind(alloc, lines, b"2,y,\n", (2, 3, 2))?);
+        assert!(rt; refuses_behind(alloc, lines, b"y\r", (2, 1, 2))?);
+        assert!(rt; refuses_behind(alloc, lines, b"y,\xff", (2, 0, 4))?);
+    }
+    Ok(())
 }
 
 #[test]

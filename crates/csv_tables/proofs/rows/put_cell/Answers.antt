@@ -1,1 +1,0 @@
-use Rattle.csv_tables.proofs.rows.put_cell.Goals as goal

@@ -21,11 +21,11 @@ use Rattle.relation_laws.specs.Partials.{call_columns, call_from, call_width, ca
 use Rattle.relation_laws.proofs.PartialLemmas.{beyond_most, within_most}
 use Rattle.accumulators.specs.Columns.{columns_of, kind_in}
 use Rattle.accumulators.specs.Kept.{Kept, added_row, kept_of_none, all_columns, calls_of, kinds_of, merged_each, outcome_from, outcome_in}
-use Rattle.accumulators.specs.Limits.{CanAdd, CanMergeEach, IsKept, takes_row, are_all_columns, are_columns, are_null, is_partial, is_row_count}
+use Rattle.accumulators.specs.Limits.{CanAdd, CanMergeEach, CanTake, IsKept, takes_row, are_all_columns, are_columns, are_null, is_partial, is_row_count}
 use Rattle.accumulators.specs.Groups.{Group, IsGroup, all_outcomes, empty_group, group_kept, with_part, with_row}
 use Rattle.accumulators.proofs.ColumnLemmas.{calls-merged, columns-merged, columns_of_row, first, first_two, kinds-merged, rows-merged, width-columns}
 use Rattle.accumulators.proofs.CellLemmas.{behind_first, first_cell}
-use Rattle.accumulators.proofs.KeptLemmas.{columns-can_merge, columns-kept, row-can_add, row-kept}
+use Rattle.accumulators.proofs.KeptLemmas.{columns-can_merge, columns-kept, row-can_add, row-can_take, row-kept}
 
 -- how many rows a group has by its partial row
 pub rows-told : (calls : List Call) (rows : ℕ) (columns : List Value) → rows ≤ 2 ^ 63 → rows_in (with_rows calls rows columns) ≡ rows
@@ -274,6 +274,9 @@ module _ (a : ℕ) (ks now : List Kept) (g : Group) (view : group_kept a ks ≡ 
   pub can-add : (row : List Value) → a + 1 ≤ most_group_rows → IsTrue (takes_row g.calls g.kinds row) → All (CanAdd row) ks
   can-add row few h = row-can_add a row ks few (is.all_kept (omega (arith, few))) (takes-view row h)
 
+  pub can-take : (row : List Value) → a + 1 ≤ most_group_rows → All (CanTake row) ks
+  can-take row few = row-can_take a row ks few (is.all_kept (omega (arith, few)))
+
   pub group-added : (row : List Value) (rows : ℕ) → rows ≡ a + 1 → a + 1 ≤ most_group_rows → IsTrue (takes_row g.calls g.kinds row) → now ≡ map (added_row row) ks → IsGroup rows now
   group-added row rows e few h ok = record {
     few = omega (arith, e, few);
@@ -281,6 +284,9 @@ module _ (a : ℕ) (ks now : List Kept) (g : Group) (view : group_kept a ks ≡ 
     all_kept = λ less. subst (λ (n : ℕ). All (IsKept n) now) (sym e)
         (All-same (IsKept (a + 1)) now (map (added_row row) ks) ok (row-kept a row ks (is.all_kept (omega (arith, few))) (takes-view row h)));
   }
+
+  pub group-taken : (row : List Value) (rows : ℕ) → rows ≡ a + 1 → a + 1 ≤ most_group_rows → IsTrue (takes_row (calls_of ks) (kinds_of ks) row) → now ≡ map (added_row row) ks → IsGroup rows now
+  group-taken row rows e few h ok = group-added row rows e few (ap (λ (x : Group). takes_row x.calls x.kinds row) (sym view) ∙ h) ok
 
   pub view-added : (row : List Value) (rows : ℕ) → rows ≡ a + 1 → a + 1 ≤ most_group_rows → now ≡ map (added_row row) ks → group_kept rows now ≡ with_row g row
   view-added row rows e few ok =

@@ -1,5 +1,5 @@
 -- That there is room in memory for what is added to what is kept of a call.
-use Rattle.std.proofs.Common.{◌≡◌, ℕ, ◌+◌, ◌*◌, ◌^◌, ◌≤◌, ◌<◌, List, [], ◌∷◌, length, ap, sym, subst, ◌∙◌, arith}
+use Rattle.std.proofs.Common.{◌≡◌, ℕ, ◌+◌, ◌*◌, ◌^◌, ◌≤◌, ◌<◌, List, [], ◌∷◌, length, refl, ap, sym, subst, ◌∙◌, arith}
 use Rattle.std.specs.Prelude.{Option, ℤ, pos, filter, IsTrue}
 use Rattle.std.proofs.lemmas.Bool.{and_parts}
 use Rattle.sql_values.specs.declared.types.SqlType.{SqlType}
@@ -16,7 +16,7 @@ use Rattle.accumulators.specs.declared.call_state.Held.TheVariants.{Count, Sum, 
 use Rattle.accumulators.specs.Columns.{HasAverage, columns_of, count_in, magnitude, sum_cell, summand}
 use Rattle.accumulators.specs.Held.{kept}
 use Rattle.accumulators.specs.Kept.{Kept}
-use Rattle.accumulators.specs.Limits.{CanMerge, IsKept, can_add, counts_sum, greatest, is_count, is_short, is_sum}
+use Rattle.accumulators.specs.Limits.{CanMerge, CanTake, IsKept, can_add, counts_sum, greatest, is_count, is_number_of, is_short, is_sum}
 use Rattle.accumulators.proofs.CellLemmas.{one_sum}
 use Rattle.accumulators.proofs.KeptLemmas.{sum_parts}
 use Rattle.accumulators.proofs.LimitLemmas.{count_is, count_within, greatest_small, has_average, room, sum_is, sum_within, summand-cell}
@@ -111,3 +111,24 @@ average_at rows column kind sum count short few m =
     let tied : IsTrue (counts_sum g sum count) = subst (λ (s : Option ℤ). IsTrue (counts_sum g s count)) (summand-cell sum) parts.2 in
     let fewer : count ≤ rows = count_within rows (Bigint (pos count)) parts.0 in
     has_average g count sum tied (omega arith) (greatest_small kind short)
+
+-- where a cell has a number of the type
+pub taken_at_held : (held is : Held) (k : Kept) (row : List Value) → kept held ≡ k → held ≡ is → CanTake row k → CanTake row (kept is)
+taken_at_held held is k row view e m = subst (λ (x : Kept). CanTake row x) (sym view ∙ ap kept e) m
+
+pub count_taken : (column count : ℕ) (row : List Value) (v : Value) → v ≡ cell row column → CanTake row (kept (Count column count)) → count + length (filter is_present (v ∷ [])) ≤ most_group_rows
+count_taken column count row v e m =
+    subst (λ (x : Value). count + length (filter is_present (x ∷ [])) ≤ most_group_rows) (sym e) (count_and_cell column count (cell row column) (m refl))
+
+pub sum_taken : (column : ℕ) (kind : SqlType) (sum : Option ℤ) (row : List Value) (v : Value) → v ≡ cell row column → IsTrue (is_short kind) → CanTake row (kept (Sum column kind sum))
+    → IsTrue (is_number_of kind v) → magnitude sum + magnitude (summand v) < 2 ^ 127
+sum_taken column kind sum row v e short m h =
+    subst (λ (x : Value). magnitude sum + magnitude (summand x) < 2 ^ 127) (sym e)
+    (sum_and_cell column kind sum (cell row column) short (m (ap (is_number_of kind) (sym e) ∙ h)))
+
+pub average_taken : (column : ℕ) (kind : SqlType) (sum : Option ℤ) (count : ℕ) (row : List Value) (v : Value) → v ≡ cell row column → IsTrue (is_short kind)
+    → CanTake row (kept (Avg column kind sum count)) → IsTrue (is_number_of kind v)
+    → (magnitude sum + magnitude (summand v) < 2 ^ 127) × (count + length (filter is_present (v ∷ [])) ≤ most_group_rows)
+average_taken column kind sum count row v e short m h =
+    subst (λ (x : Value). (magnitude sum + magnitude (summand x) < 2 ^ 127) × (count + length (filter is_present (x ∷ [])) ≤ most_group_rows)) (sym e)
+    (average_and_cell column kind sum count (cell row column) short (m (ap (is_number_of kind) (sym e) ∙ h)))

@@ -15,7 +15,7 @@ use Rattle.relation_laws.specs.Equality.{is_present}
 use Rattle.relation_laws.specs.Partials.{added_counts, added_sums, call_width, merged_call}
 use Rattle.accumulators.specs.Columns.{added, column_of, columns_of, count_in, magnitude, sum_cell, summand}
 use Rattle.accumulators.specs.Kept.{Kept, added_row, calls_of, kinds_of, merged_each, merged_kept}
-use Rattle.accumulators.specs.Limits.{CanAdd, CanMerge, CanMergeEach, IsKept, are_all_columns, are_columns, are_sum_and_count, counts_sum, greatest, is_count, is_number_of, is_sum, takes_cell, takes_row}
+use Rattle.accumulators.specs.Limits.{CanAdd, CanMerge, CanMergeEach, CanTake, IsKept, are_all_columns, are_columns, are_sum_and_count, counts_sum, greatest, is_count, is_number_of, is_sum, takes_cell, takes_row}
 use Rattle.accumulators.proofs.LimitLemmas.{count-fits, count_is, count_within, counts_sum-added, magnitude-added, sum_cell-fits, sum_is, sum_within, summand-cell}
 use Rattle.accumulators.proofs.CellLemmas.{counts_added, one_sum, sums_added}
 use Rattle.accumulators.proofs.ColumnLemmas.{width-merged}
@@ -115,6 +115,13 @@ row-can_add rows row (k ∷ ks) few all h =
     let parts = and_parts (takes_cell k.kind k.call v) (takes_row (calls_of ks) (kinds_of ks) row) h in
     let here : CanAdd row k = record { own = rows; others = 1; few = few; is_kept = All-head (IsKept rows) k ks all; is_merged = cell-fits k.kind k.call v parts.0 } in
     All-cons (CanAdd row) k ks here (row-can_add rows row ks few (All-tail (IsKept rows) k ks all) parts.1)
+
+-- and one of which each can take the cell, if its number has the type
+pub row-can_take : (rows : ℕ) (row : List Value) (ks : List Kept) → rows + 1 ≤ most_group_rows → All (IsKept rows) ks → All (CanTake row) ks
+row-can_take rows row [] few all = All-nil (CanTake row)
+row-can_take rows row (k ∷ ks) few all =
+    let here : CanTake row k = λ h. record { own = rows; others = 1; few = few; is_kept = All-head (IsKept rows) k ks all; is_merged = cell-fits k.kind k.call (cell row (column_of k.call)) h } in
+    All-cons (CanTake row) k ks here (row-can_take rows row ks few (All-tail (IsKept rows) k ks all))
 
 pub row-kept : (rows : ℕ) (row : List Value) (ks : List Kept) → All (IsKept rows) ks → IsTrue (takes_row (calls_of ks) (kinds_of ks) row) → All (IsKept (rows + 1)) (map (added_row row) ks)
 row-kept rows row [] all h = All-nil (IsKept (rows + 1))

@@ -1,11 +1,15 @@
 -- Steps over the states of the calls, one by one.
-use Rattle.std.proofs.Common.{◌≡◌, ℕ, ◌<◌, suc, List, [], ◌∷◌, ◌++◌, length, get_or, drop, refl, ap, sym, subst, ◌∙◌, append_assoc, drop-cons}
-use Rattle.std.specs.Prelude.{All, Result, Ok, Err}
-use Rattle.std.proofs.lemmas.List.Elements.{All-head}
+use Rattle.std.proofs.Common.{◌≡◌, ℕ, ◌+◌, ◌<◌, zero, suc, List, [], ◌∷◌, ◌++◌, length, get_or, set, drop, take, map, refl, ap, sym, subst, ◌∙◌, arith, append_assoc, drop-cons}
+use Rattle.std.specs.Prelude.{All, IsTrue, Result, Ok, Err, ◌&&◌}
+use Rattle.std.proofs.lemmas.List.{append-nil, drop_all, length-map, take_all}
+use Rattle.std.proofs.lemmas.List.Elements.{All-head, All-tail}
 use Rattle.sql_values.specs.declared.value.Value.{Value}
 use Rattle.sql_values.specs.declared.fail.Fail.{Fail}
 use Rattle.relation_laws.specs.Aggregates.{with_first}
-use Rattle.accumulators.specs.Kept.{Kept}
+use Rattle.sql_values.specs.Cells.{cell}
+use Rattle.accumulators.specs.Columns.{column_of}
+use Rattle.accumulators.specs.Kept.{Kept, calls_of, kinds_of}
+use Rattle.accumulators.specs.Limits.{takes_cell, takes_row}
 
 -- values, and then those of a row that may have failed
 abbrev pub after : List Value → Result (List Value) Fail → Result (List Value) Fail
@@ -24,3 +28,65 @@ after-none (Err kind) = refl
 pub next-as_before : (P : Kept → Type 0) (now before : List Kept) (i : ℕ) (x : Kept) → drop i now ≡ drop i before → i < length now → All P (drop i before) → P (get_or now i x)
 next-as_before P now before i x same lt all =
     All-head P (get_or now i x) (drop (suc i) now) (subst (λ (ks : List Kept). All P ks) (sym same ∙ drop-cons now i x lt) all)
+
+-- one state that took a row: the first have, the others are as they were
+pub set-stays : {X : Type 0} (f : Kept → X) (items : List Kept) (i : ℕ) (x k : Kept) → f x ≡ f (get_or items i k) → map f (set items i x) ≡ map f items
+set-stays f [] i x k e = refl
+set-stays f (y ∷ ys) zero x k e = ap (λ v. v ∷ map f ys) e
+set-stays f (y ∷ ys) (suc i) x k e = ap (λ vs. f y ∷ vs) (set-stays f ys i x k e)
+
+take-set : (items : List Kept) (i : ℕ) (x : Kept) → i < length items → take (suc i) (set items i x) ≡ take i items ++ x ∷ []
+take-set [] i x lt = absurd (omega (arith, lt))
+take-set (y ∷ ys) zero x lt = refl
+take-set (y ∷ ys) (suc i) x lt = ap (λ ks. y ∷ ks) (take-set ys i x (omega (arith, lt)))
+
+drop-set : (items : List Kept) (i : ℕ) (x : Kept) → drop (suc i) (set items i x) ≡ drop (suc i) items
+drop-set [] i x = refl
+drop-set (y ∷ ys) zero x = refl
+drop-set (y ∷ ys) (suc i) x = drop-set ys i x
+
+module _ (items before : List Kept) (i : ℕ) (x d : Kept) (same : drop i items ≡ drop i before) (lt : i < length items) (level : length items ≡ length before) where
+  one : suc i ≡ i + 1
+  one = omega arith
+
+  heads : (get_or items i d ∷ drop (suc i) items) ≡ (get_or before i d ∷ drop (suc i) before)
+  heads = sym (drop-cons items i d lt) ∙ same ∙ drop-cons before i d (omega (arith, lt, level))
+
+  pub next-same : get_or items i d ≡ get_or before i d
+  next-same = ap (λ ks. get_or ks 0 d) heads
+
+  pub next-others : drop (i + 1) (set items i x) ≡ drop (i + 1) before
+  next-others =
+      ap (λ n. drop n (set items i x)) (sym one) ∙ drop-set items i x ∙ ap (λ ks. drop 1 ks) heads ∙ ap (λ n. drop n before) one
+
+  pub next-added : (f : Kept → Kept) → x ≡ f (get_or items i d) → map f before ≡ take i items ++ map f (drop i before)
+      → map f before ≡ take (i + 1) (set items i x) ++ map f (drop (i + 1) before)
+  next-added f is e =
+      let rest = map f (drop (suc i) before) in
+      let here : map f (drop i before) ≡ x ∷ rest
+      = ap (map f) (drop-cons before i d (omega (arith, lt, level))) ∙ ap (λ k. k ∷ rest) (ap f (sym next-same) ∙ sym is) in
+      e ∙ ap (λ ks. take i items ++ ks) here
+      ∙ sym (append_assoc (take i items) (x ∷ []) rest)
+      ∙ ap (λ ks. ks ++ rest) (sym (take-set items i x lt))
+      ∙ ap (λ n. take n (set items i x) ++ map f (drop n before)) one
+
+  pub next-can : (P : Kept → Type 0) → All P (drop i before) → All P (drop (i + 1) before)
+  next-can P all =
+      subst (λ n. All P (drop n before)) one
+      (All-tail P (get_or before i d) (drop (suc i) before) (subst (λ (ks : List Kept). All P ks) (drop-cons before i d (omega (arith, lt, level))) all))
+
+  pub next-fits : (row : List Value) → IsTrue (takes_cell (get_or items i d).kind (get_or items i d).call (cell row (column_of (get_or items i d).call)))
+      → takes_row (calls_of (drop i before)) (kinds_of (drop i before)) row ≡ takes_row (calls_of (drop (i + 1) before)) (kinds_of (drop (i + 1) before)) row
+  next-fits row fits =
+      let fits-before = subst (λ (k : Kept). IsTrue (takes_cell k.kind k.call (cell row (column_of k.call)))) next-same fits in
+      ap (λ ks. takes_row (calls_of ks) (kinds_of ks) row) (drop-cons before i d (omega (arith, lt, level)))
+      ∙ ap (λ b. b && takes_row (calls_of (drop (suc i) before)) (kinds_of (drop (suc i) before)) row) fits-before
+      ∙ ap (λ n. takes_row (calls_of (drop n before)) (kinds_of (drop n before)) row) one
+
+-- written back in the midst of the walk
+pub written-back : {X : Type 0} (f : Kept → X) (whole now : List Kept) (len : ℕ) → len ≡ length whole → map f now ≡ map f whole → map f (take len (now ++ drop (length now) whole)) ≡ map f whole
+written-back f whole now len e same =
+    let level : length now ≡ length whole = omega (arith, ap length same, length-map now f, length-map whole f) in
+    ap (λ ks. map f (take len (now ++ ks))) (drop_all (length now) whole (omega (arith, level)))
+    ∙ ap (map f) (ap (take len) (append-nil now) ∙ take_all len now (omega (arith, e, level)))
+    ∙ same

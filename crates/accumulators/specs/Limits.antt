@@ -123,3 +123,7 @@ CanMergeEach (kept ∷ rest) columns = CanMerge kept columns × CanMergeEach res
 -- cells of a row can be added
 abbrev pub CanAdd : List Value → Kept → Type 0
 CanAdd row kept = CanMerge kept (columns_of kept.call (cell row (column_of kept.call) ∷ []))
+
+-- and so where the row's cell has a number of the type
+abbrev pub CanTake : List Value → Kept → Type 0
+CanTake row kept = IsTrue (takes_cell kept.kind kept.call (cell row (column_of kept.call))) → CanAdd row kept

@@ -11,7 +11,7 @@ ghost use Rattle.accumulators.specs.Limits.{are_allowed, is_partial, is_row_coun
 use crate::call_state::CallState;
 use crate::call_states::{
     add_each, all_results, are_each_null, begin_each, empty_states, firsts_of_part, firsts_of_row,
-    merge_each, push_all_columns, push_all_nulls, take_row,
+    merge_each, push_all_columns, push_all_nulls, take_each, take_row,
 };
 use crate::limits::MOST_ROWS;
 use sql_exprs::Cells;
@@ -79,6 +79,24 @@ impl Accumulator {
         let firsts = firsts_of_row(self.alloc, &self.states, cells)?;
         self.rows = rows;
         add_each(&mut self.states, cells, firsts);
+        Ok(())
+    }
+
+    /// Takes one more row where it can: where its numbers have the types, and memory does not want. Else the group has
+    /// as many rows as no group may.
+    pub fn take<C: Cells>(&mut self, cells: &C) -> Result<(), Memory>
+        ensures ok { OnOk result (self.new ≡ with_row self.old (C.values cells.now)) }
+        ensures same { (self.new.calls ≡ self.old.calls) × (self.new.kinds ≡ self.old.kinds) }
+    {
+        let rows = self.rows;
+        self.rows = MOST_ROWS + 1;
+        if MOST_ROWS <= rows {
+            return Ok(());
+        }
+        if !take_each(self.alloc, &mut self.states, cells) {
+            return Err(Memory);
+        }
+        self.rows = rows + 1;
         Ok(())
     }
 

@@ -1,15 +1,17 @@
-ghost use Rattle.std.specs.Prelude.{◌≡◌, ◌++◌, ◌∷◌, [], ◌≤◌, IsTrue, OnOk, MatchResult, drop, length, ◌<◌, ◌-◌, ◌^◌};
+ghost use Rattle.std.specs.Prelude.{◌≡◌, ◌++◌, ◌∷◌, [], ◌≤◌, ◌+◌, IsTrue, OnOk, MatchResult, drop, filter, length, pos, ◌<◌, ◌-◌, ◌^◌};
+ghost use Rattle.sql_values.specs.declared.value.Value.TheVariants as value_is;
 ghost use Rattle.sql_values.specs.Cells.{cell, lent_value};
 ghost use Rattle.sql_functions.specs.CallTypes.{type_at as type_of};
 ghost use Rattle.sql_functions.specs.Outcomes.{FailsBy};
-ghost use Rattle.relation_laws.specs.Aggregates.{most_group_rows};
-ghost use Rattle.relation_laws.specs.Partials.{call_width};
-ghost use Rattle.accumulators.specs.Columns.{column_of, columns_of};
+ghost use Rattle.relation_laws.specs.Aggregates.{count_of, most_group_rows};
+ghost use Rattle.relation_laws.specs.Equality.{is_present};
+ghost use Rattle.relation_laws.specs.Partials.{added_counts, added_sums, call_width, partial_sum};
+ghost use Rattle.accumulators.specs.Columns.{column_of, columns_of, magnitude, sum_cell, summand};
 ghost use Rattle.accumulators.specs.Firsts.{BeginWith, kept_first};
-ghost use Rattle.accumulators.specs.Kept.{added_cell, kept_of_none, merged_kept, outcome_from, outcome_in};
-ghost use Rattle.accumulators.specs.Limits.{CanMerge, IsKept, are_columns, can_add, takes_cell};
+ghost use Rattle.accumulators.specs.Kept.{added_cell, added_row, kept_of_none, merged_kept, outcome_from, outcome_in};
+ghost use Rattle.accumulators.specs.Limits.{CanMerge, CanTake, IsKept, are_columns, can_add, is_number_of as is_number_of_type, is_short, takes_cell};
 
-use crate::firsts::{keep_first, push_first};
+use crate::firsts::{keep_copy, keep_first, push_first};
 use crate::limits::{MOST_ROWS, are_sum_and_count, greatest, is_count, is_number_of, is_sum};
 use crate::sums::{
     add_cell, add_count, add_sum, average_result, count_cell, sum_result, sum_value,
@@ -209,6 +211,38 @@ impl CallState {
         }
     }
 
+    /// Takes a row's cell where it can, and answers whether it did. It can not where the cell is no number of the
+    /// call's type, or where memory is wanting for its copy.
+    #[tactic(auto, using(crate::proofs::HeldRules::adding))]
+    pub fn take<C: Cells>(&mut self, alloc: Global, cells: &C) -> bool
+        requires { CanTake (C.values cells.now) self.old }
+        ensures value { IsTrue result → self.new ≡ added_row (C.values cells.now) self.old }
+        ensures fits { IsTrue result → IsTrue (takes_cell self.old.kind self.old.call
+            (cell (C.values cells.now) (column_of self.old.call))) }
+        ensures same { (self.new.call ≡ self.old.call) × (self.new.kind ≡ self.old.kind) }
+    {
+        match &mut self.held {
+            Held::CountAll => true,
+            Held::Count { column, count } => {
+                count_cell(count, cells.cell(*column));
+                true
+            }
+            Held::Sum { column, kind, sum } => add_number(*kind, sum, cells.cell(*column)),
+            Held::Min { column, least } => {
+                keep_copy(alloc, Order::Ascending, least, cells.cell(*column)).is_ok()
+            }
+            Held::Max { column, most } => {
+                keep_copy(alloc, Order::Descending, most, cells.cell(*column)).is_ok()
+            }
+            Held::Avg {
+                column,
+                kind,
+                sum,
+                count,
+            } => add_counted(*kind, sum, count, cells.cell(*column)),
+        }
+    }
+
     /// Merges the columns in that a row has from a place on. What becomes the least or greatest is taken from the
     /// front.
     #[tactic(auto, using(crate::proofs::CellRules::from_place))]
@@ -279,6 +313,43 @@ impl CallState {
             Held::Avg { sum, count, .. } => Ok(average_result(*sum, *count)),
         }
     }
+}
+
+/// Adds the number of a cell, where it is one of the type, and answers whether it is.
+fn add_number(kind: SqlType, sum: &mut Option<i128>, cell: ValueRef<'_>) -> bool
+    requires short { IsTrue (is_short kind) }
+    requires room { IsTrue (is_number_of_type kind (lent_value cell))
+        → magnitude sum.old + magnitude (summand (lent_value cell)) < 2 ^ 127 }
+    ensures number { result ≡ is_number_of_type kind (lent_value cell.entry) }
+    ensures value { IsTrue result → sum_cell sum.new
+        ≡ added_sums (sum_cell sum.old) (partial_sum (filter is_present (lent_value cell.entry ∷ []))) }
+{
+    let taken = is_number_of(kind, cell);
+    if taken {
+        add_cell(sum, cell);
+    }
+    taken
+}
+
+/// The same beside a count of the numbers.
+fn add_counted(kind: SqlType, sum: &mut Option<i128>, count: &mut u64, cell: ValueRef<'_>) -> bool
+    requires short { IsTrue (is_short kind) }
+    requires room { IsTrue (is_number_of_type kind (lent_value cell))
+        → (magnitude sum.old + magnitude (summand (lent_value cell)) < 2 ^ 127)
+        × (count.old + length (filter is_present (lent_value cell ∷ [])) ≤ most_group_rows) }
+    requires few { count.old ≤ most_group_rows }
+    ensures number { result ≡ is_number_of_type kind (lent_value cell.entry) }
+    ensures sum { IsTrue result → sum_cell sum.new
+        ≡ added_sums (sum_cell sum.old) (partial_sum (filter is_present (lent_value cell.entry ∷ []))) }
+    ensures count { IsTrue result → value_is.Bigint (pos count.new)
+        ≡ added_counts (value_is.Bigint (pos count.old)) (count_of (filter is_present (lent_value cell.entry ∷ []))) }
+    ensures few { count.new ≤ most_group_rows }
+{
+    let taken = add_number(kind, sum, cell);
+    if taken {
+        count_cell(count, cell);
+    }
+    taken
 }
 
 /// The type of the column at a place: boolean where there is none.

@@ -6,7 +6,7 @@ ghost use Rattle.relation_laws.specs.Aggregates.{most_group_rows};
 ghost use Rattle.relation_laws.specs.Partials.{call_width};
 ghost use Rattle.accumulators.specs.Firsts.{part_firsts, row_firsts};
 ghost use Rattle.accumulators.specs.Kept.{added_row, all_columns, calls_of, kept_of_none, kinds_of, merged_each, outcome_in};
-ghost use Rattle.accumulators.specs.Limits.{CanAdd, CanMergeEach, IsKept, are_all_columns, are_allowed, are_null, takes_row};
+ghost use Rattle.accumulators.specs.Limits.{CanAdd, CanMergeEach, CanTake, IsKept, are_all_columns, are_allowed, are_null, takes_row};
 ghost use Rattle.accumulators.specs.Groups.{AllAnswer, all_outcomes};
 
 use crate::call_state::CallState;
@@ -69,6 +69,23 @@ pub fn add_each<C: Cells>(states: &mut Vec<CallState>, cells: &C, firsts: VecDeq
     for state in states.iter_mut() {
         state.add(cells.cell(state.column()), &mut left);
     }
+}
+
+/// Takes a row into each where all can, and answers whether they did.
+pub fn take_each<C: Cells>(alloc: Global, states: &mut Vec<CallState>, cells: &C) -> bool
+    requires { All (CanTake (C.values cells.now)) states.old.items }
+    ensures value { IsTrue result → states.new.items ≡ map (added_row (C.values cells.now)) states.old.items }
+    ensures fits { IsTrue result
+        → IsTrue (takes_row (calls_of states.old.items) (kinds_of states.old.items) (C.values cells.now)) }
+    ensures same { (calls_of states.new.items ≡ calls_of states.old.items)
+        × (kinds_of states.new.items ≡ kinds_of states.old.items) }
+{
+    for state in states.iter_mut() {
+        if !state.take(alloc, cells) {
+            return false;
+        }
+    }
+    true
 }
 
 /// Copies of the columns that become a call's least or greatest, of those that stand from a place on.

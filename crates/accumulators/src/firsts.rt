@@ -38,3 +38,19 @@ pub fn keep_first(order: Order, held: &mut Value, cell: ValueRef<'_>, firsts: &m
         *held = first;
     }
 }
+
+/// Keeps the one of the two that stands first in the order: a copy of it, where that is the cell.
+pub fn keep_copy(
+    alloc: Global,
+    order: Order,
+    first: &mut Value,
+    cell: ValueRef<'_>,
+) -> Result<(), Memory>
+    ensures { OnOk result (first.new ≡ earlier order first.old (lent_value cell.entry)) }
+{
+    if compare_cells(order, first.as_ref(), cell).is_le() {
+        return Ok(());
+    }
+    *first = cell.to_value(alloc)?;
+    Ok(())
+}

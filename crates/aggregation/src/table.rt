@@ -186,12 +186,9 @@ impl GroupTable {
         }) }
     {
         let group = &mut self.groups[place];
-        if !group.takes(cells) {
-            return Err(Memory);
-        }
-        let added = group.add(cells);
+        let taken = group.take(cells);
         group.none_adds_nothing();
-        added
+        taken
     }
 
     /// Keeps keys in columns of the types that a page's have, where there is none yet.

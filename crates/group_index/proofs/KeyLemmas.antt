@@ -1,15 +1,17 @@
 -- Where a key stands, by the places of its hash.
 use Rattle.std.proofs.Common.{◌≡◌, ◌≢◌, ℕ, ◌+◌, ◌<◌, ◌≤◌, zero, suc, List, [], ◌∷◌, ◌++◌, Bool, ◌&&◌, length, get_or, drop, refl, ap, sym, subst, ◌∙◌, arith, true, false, ◌⊎◌, inl, inr}
-use Rattle.std.specs.Prelude.{All, Option, Some, None, IfSome}
+use Rattle.std.specs.Prelude.{bytes_eq, All, Option, Some, None, IfSome}
 use Rattle.std.proofs.lemmas.Bool.{cases_lt, eq-eqb, eqb-true}
 use Rattle.std.proofs.lemmas.List.{get_or-map, get_or_default, length-map}
 use Rattle.std.proofs.lemmas.List.Elements.{All-append, All-cons, All-from_get_or, All-get_or, All-nil}
 use Rattle.std.proofs.lemmas.Option.{unwrap_or-slice_get}
+use Rattle.std.proofs.lemmas.Slice.Eq.{slice_eq-Decides}
 use Rattle.sql_values.specs.declared.value.Value.{Value}
 use Rattle.sql_values.specs.declared.value.Value.TheVariants as value
 use Rattle.sql_values.specs.Cells.{cell}
+use Rattle.sql_values.specs.Order.{text_in}
 use Rattle.relation_laws.specs.Equality.{same_row, same_value}
-use Rattle.relation_laws.proofs.EqualityLemmas.{same_row_decides}
+use Rattle.relation_laws.proofs.EqualityLemmas.{same_row_decides, same_value_decides}
 use Rattle.group_index.specs.Places.{last_below, place_before}
 use Rattle.group_index.specs.Chains.{has_hash, hash_at, last_of_hash}
 use Rattle.cell_hashes.specs.Hashes.{hash_of}
@@ -124,6 +126,29 @@ lengths-differ (x ∷ key) (y ∷ other) ne = and_right (same_value x y) (same_r
     and_right : (a b : Bool) → b ≡ false → (a && b) ≡ false
     and_right true b e = e
     and_right false b e = refl
+
+-- a key of one cell
+and_true : (b : Bool) → b ≡ (b && true)
+and_true true = refl
+and_true false = refl
+
+pub one-cell : (key : List Value) (v w : Value) (same : Bool) → length key ≡ 1 → v ≡ cell key 0 → same ≡ same_value v w → same ≡ same_row key (w ∷ [])
+one-cell [] v w same long is e = absurd (omega (arith, long))
+one-cell (x ∷ []) v w same long is e = e ∙ ap (λ u. same_value u w) is ∙ and_true (same_value x w)
+one-cell (x ∷ y ∷ key) v w same long is e = absurd (omega (arith, long))
+
+-- texts are the same where their bytes are
+decided : (a b : Bool) → (a ≡ true → b ≡ true) → (b ≡ true → a ≡ true) → a ≡ b
+decided true b f g = sym (f refl)
+decided false true f g = g refl
+decided false false f g = refl
+
+pub texts-same : (bytes others : List ℕ) (v w : Value) → v ≡ value.Varchar bytes → w ≡ value.Varchar others → bytes_eq bytes others ≡ same_value v w
+texts-same bytes others v w e f =
+    let exact = slice_eq-Decides (λ a b. (eqb-true a b, eq-eqb a b)) bytes others (bytes_eq bytes others) refl in
+    let same = same_value_decides (value.Varchar bytes) (value.Varchar others) in
+    decided (bytes_eq bytes others) (same_value (value.Varchar bytes) (value.Varchar others)) (λ h. same.1 (ap value.Varchar (exact.0 h))) (λ h. exact.1 (ap text_in (same.0 h)))
+    ∙ (λ i. same_value (sym e i) (sym f i))
 
 -- a key that stands nowhere, and one that stands at a place
 none-at : (test : ℕ → Bool) (n k : ℕ) (b : Bool) → test n ≡ b → last_below test (suc n) ≡ 0 → (last_below test n ≡ 0 → k < n → test k ≡ false) → k < suc n → (k < n) ⊎ (n ≤ k) → test k ≡ false

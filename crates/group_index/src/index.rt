@@ -1,10 +1,11 @@
-ghost use Rattle.std.specs.Prelude.{◌≡◌, ◌<◌, ◌++◌, ◌∷◌, [], length, slice_index_or, IfOk, OnOk, OnErr};
+ghost use Rattle.std.specs.Prelude.{◌≡◌, ◌<◌, ◌++◌, ◌∷◌, [], bytes_eq, length, slice_index_or, IfOk, OnOk, OnErr};
 ghost use Rattle.sql_values.specs.Cells.{cell, cut, lent_value};
 ghost use Rattle.relation_laws.specs.Equality.{same_row, same_value};
 ghost use Rattle.group_index.specs.Keys.{AreWide, key_at, place_of};
 
 use crate::chains::HashChains;
 use crate::hashes::hash_cells;
+use cell_hashes::{NO_VALUE, hash_value};
 use sql_exprs::Cells;
 use sql_values::{Memory, Row, RowList, SqlType, ValueRef, compare_values};
 use std::alloc::Global;
@@ -71,6 +72,38 @@ impl GroupIndex {
 
     /// The last place at which the key of a row stands.
     pub fn find<C: Cells>(&self, columns: &[u32], cells: &C) -> Option<usize>
+        ensures { result ≡ place_of self.now (cut columns.now (C.values cells.now)) }
+    {
+        if let [column] = columns {
+            return self.find_cell(cells.cell(*column));
+        }
+        self.find_cells(columns, cells)
+    }
+
+    /// The same of a key of one cell, which is read once.
+    fn find_cell(&self, key: ValueRef<'_>) -> Option<usize>
+        ensures { result ≡ place_of self.now (lent_value key.entry ∷ []) }
+    {
+        let mut found = self.chains.last_of(hash_value(NO_VALUE, key));
+        while let Some(place) = found {
+            if self.is_key(place, key) {
+                return Some(place);
+            }
+            found = self.chains.before(place);
+        }
+        None
+    }
+
+    /// Whether the key at a place is this cell alone.
+    fn is_key(&self, place: usize, key: ValueRef<'_>) -> bool
+        requires { place < length self.now }
+        ensures { result ≡ same_row (key_at self.now place) (lent_value key.entry ∷ []) }
+    {
+        self.width == 1 && is_same(self.keys.cell(place, 0), key)
+    }
+
+    /// The same of a key of any number of cells.
+    fn find_cells<C: Cells>(&self, columns: &[u32], cells: &C) -> Option<usize>
         ensures { result ≡ place_of self.now (cut columns.now (C.values cells.now)) }
     {
         let mut found = self.chains.last_of(hash_cells(columns, cells));
@@ -150,5 +183,23 @@ fn key_of<C: Cells>(alloc: Global, columns: &[u32], cells: &C) -> Result<Row, Me
 fn is_same(a: ValueRef<'_>, b: ValueRef<'_>) -> bool
     ensures { result ≡ same_value (lent_value a.entry) (lent_value b.entry) }
 {
+    if let (ValueRef::Varchar(text), ValueRef::Varchar(other)) = (a, b) {
+        return are_same_bytes(text.as_bytes(), other.as_bytes());
+    }
     compare_values(a, b).is_eq()
+}
+
+/// Byte by byte, since most texts are short.
+fn are_same_bytes(bytes: &[u8], others: &[u8]) -> bool
+    ensures { result ≡ bytes_eq bytes.now others.now }
+{
+    if bytes.len() != others.len() {
+        return false;
+    }
+    for place in 0..bytes.len() {
+        if bytes[place] != others[place] {
+            return false;
+        }
+    }
+    true
 }

@@ -9,7 +9,8 @@ three places. It has to answer in time, with status 0, 4 or 5:
       path; any other code at a place that the damaged document has
   5   at a row and a column that the damaged table has, by a reader of its own. Reason 1 is at the header, 2 at the number of
       fields of a record that has another one than there are columns, 3 at a field that is no UTF-8
-  0   where each record has as many fields as there are columns, and all of them are UTF-8
+  0   where each record has as many fields as there are columns, and all of them are UTF-8; then the lines of `--counts` stand
+      on standard error where the run asks for them, and nothing else
 What breaks this is told, with --keep its files are kept, and the exit status is then 1. The same seed damages the same."""
 import argparse
 import collections
@@ -170,8 +171,8 @@ def is_good(table, columns):
     return records[:1] == [columns] and all(len(it) == len(columns) and all(map(is_text, it)) for it in records)
 
 
-def is_right(plan, tables, status, out, err):
-    """Whether a run over this plan and these tables may end so."""
+def is_right(plan, tables, words, status, out, err):
+    """Whether a run with these options over this plan and these tables may end so."""
     found = document_of(plan)
     refused = re.fullmatch(rb"trinorun: plan refused (\d) at (.*)\n", err, re.S)
     if status == 4 and refused and not out:
@@ -184,7 +185,8 @@ def is_right(plan, tables, status, out, err):
     if status == 5 and refused and not out:
         name = refused[1].decode()
         return name in names and is_refusal(tables[name], columns_of(found[0], name), *map(int, refused.groups()[1:]))
-    return status == 0 and not err and all(is_good(tables[name], columns_of(found[0], name)) for name in names)
+    lines = rb"(filter \d+ passed \d+\n)*" if "--counts" in words else b""
+    return status == 0 and re.fullmatch(lines, err) and all(is_good(tables[name], columns_of(found[0], name)) for name in names)
 
 
 def main():
@@ -221,7 +223,7 @@ def main():
             code = err.split(b" refused ")[1][:1].decode() if status in (4, 5) and b" refused " in err else ""
             came[f"{status} {code}".strip()] += 1
             try:
-                is_bad = took > given.seconds or not is_right(plan, tables, status, out, err)
+                is_bad = took > given.seconds or not is_right(plan, tables, work.words, status, out, err)
             except (KeyError, TypeError, StopIteration, IndexError) as error:
                 is_bad, err = True, err + repr(error).encode()
             if is_bad:

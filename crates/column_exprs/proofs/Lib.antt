@@ -1,3 +1,2 @@
 pub mod OperandLemmas
 pub mod PlaceLemmas
-pub mod CompareLemmas

@@ -3,8 +3,8 @@
 //! Contracts see a page as its types and its list of rows, and a list of pages as that list. Each
 //! call is that of lists of rows: `slice` is `take` and `drop`, `select` takes the rows at the
 //! places in the places' order, `copy` equals its source. A page's columns are the blocks of
-//! `sql_values`, which keep the cells of a type in one vector with their nulls; they go in and out
-//! of a page without a copy, and a table that keeps columns gives pages column by column.
+//! `sql_values`: plain, runs or dictionaries; they go in and out of a page without a copy, and a
+//! table that keeps columns gives pages column by column, a column of one value as a run.
 //!
 //! - `page`: `Page`
 //! - `page_builder`: `PageBuilder`
@@ -18,4 +18,4 @@ mod page_list;
 pub use page::{MOST_ROWS, Page};
 pub use page_builder::PageBuilder;
 pub use page_list::PageList;
-pub use sql_values::Block;
+pub use sql_values::{Block, Dictionary, Form, PlainBlock};

@@ -176,6 +176,15 @@ impl Page {
         })
     }
 
+    /// The same rows, with each plain column as a dictionary: what is selected from it shares its cells.
+    pub fn into_dictionaries(self, alloc: Global) -> Result<Page, Memory>
+        ensures { IfOk result (λ p. p ≡ self) }
+    {
+        Ok(Page {
+            held: self.held.into_dictionaries(alloc)?,
+        })
+    }
+
     /// The rows from one place up to, and without, another.
     pub fn slice(&self, alloc: Global, from: u32, to: u32) -> Result<Page, Memory>
         requires order { from ≤ to }
@@ -189,6 +198,7 @@ impl Page {
     }
 }
 
+/// The columns; one whose cells are all the same is a run.
 fn blocks(
     alloc: Global,
     rows: &RowList,
@@ -206,7 +216,8 @@ fn blocks(
 {
     let mut blocks = Vec::with_capacity(alloc, columns.len())?;
     for (place, column) in columns.iter().enumerate() {
-        blocks.push(rows.block(alloc, types[place], *column, low, high)?)?;
+        let block = rows.block(alloc, types[place], *column, low, high)?;
+        blocks.push(block.into_run())?;
     }
     Ok(blocks)
 }

@@ -1,5 +1,5 @@
 -- One buffer that holds texts end to end, with the place where each ends.
-use Rattle.std.specs.Prelude.{◌≡◌, ℕ, ◌-◌, ◌≤◌, Bool, List, [], ◌∷◌, length, take, drop}
+use Rattle.std.specs.Prelude.{◌≡◌, ℕ, ◌-◌, ◌≤◌, Bool, List, [], ◌∷◌, Option, Some, None, length, take, drop}
 use Rattle.std.specs.Str.{IsUtf8}
 
 -- the bytes up to each end, from the end before it: the first piece begins at `start`
@@ -21,3 +21,8 @@ pub record AreTexts (bytes : List ℕ) (ends : List ℕ) (nulls : List Bool) : T
   pub rise : EndsRise 0 ends (length bytes)
   pub marked : length ends ≡ length nulls
   pub utf8 : EachUtf8 (pieces 0 ends bytes)
+
+-- how many bytes a text has, none where it is missing
+abbrev pub bytes_of : Option (List ℕ) → ℕ
+bytes_of None = 0
+bytes_of (Some text) = length text

@@ -13,5 +13,6 @@ mod gather;
 mod nullable;
 mod texts;
 
+pub use gather::items_at;
 pub use nullable::Nullable;
 pub use texts::Texts;

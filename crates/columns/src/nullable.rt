@@ -64,6 +64,11 @@ impl<T: Copy + Default + Drop> Nullable<T> {
         self.len() == 0
     }
 
+    /// Where the vectors lie.
+    pub fn allocator(&self) -> Global {
+        *self.items.allocator()
+    }
+
     /// The items; one that is missing reads as some value of its type.
     #[tactic(auto, using(crate::proofs::PresentLemmas::presents))]
     pub fn items(&self) -> &[T]

@@ -1,6 +1,8 @@
-ghost use Rattle.std.specs.Prelude.{◌≡◌, ◌+◌, ◌-◌, ◌^◌, ◌<◌, ◌≤◌, ◌↔◌, List, [], ◌∷◌, ◌++◌, Option, None, length, take, drop, map, slice_index, slice_index_or, IsTrue, IfOk, OnOk, OnErr, All, vec_len, vec_capacity};
+ghost use Rattle.std.specs.List.{sum_by};
+ghost use Rattle.std.specs.Prelude.{◌≡◌, ◌+◌, ◌-◌, ◌^◌, ◌<◌, ◌≤◌, ◌↔◌, List, [], ◌∷◌, ◌++◌, Option, None, length, take, drop, map, min, slice_index, slice_index_or, IsTrue, IfOk, OnOk, OnErr, All, vec_len, vec_capacity};
 ghost use Rattle.std.specs.Option.{option_copied};
 ghost use Rattle.columns.specs.Present.{unless, gather};
+ghost use Rattle.columns.specs.Pieces.{bytes_of};
 
 use std::alloc::{AllocError, Global};
 use std::marker::Model;
@@ -92,6 +94,11 @@ impl Texts {
         self.len() == 0
     }
 
+    /// Where the vectors lie.
+    pub fn allocator(&self) -> Global {
+        *self.nulls.allocator()
+    }
+
     #[tactic(auto, using(crate::proofs::TextLemmas::reads))]
     pub fn get(&self, place: usize) -> Option<&str>
         requires { place < length self.now }
@@ -170,11 +177,45 @@ impl Texts {
         requires { All (λ p. p < length self.now) places.now }
         ensures { IfOk result (λ t. t ≡ gather self.now None places.now) }
     {
-        let mut chosen = Texts::with_capacity(alloc, places.len())?;
+        let mut chosen = Texts::with_room(alloc, places.len(), self.bytes_of(places))?;
         for place in places {
             chosen.push(self.get(*place as usize))?;
         }
         Ok(chosen)
+    }
+
+    /// No texts, with room for as many as `capacity` that have so many bytes together.
+    fn with_room(alloc: Global, capacity: usize, bytes: usize) -> Result<Texts, AllocError>
+        ensures { IfOk result (λ t. t ≡ []) }
+    {
+        Ok(Texts {
+            bytes: Vec::with_capacity(alloc, bytes)?,
+            ends: Vec::with_capacity(alloc, capacity)?,
+            nulls: Vec::with_capacity(alloc, capacity)?,
+        })
+    }
+
+    /// How many bytes the texts at the places have together, or the most that can be counted.
+    fn bytes_of(&self, places: &[u32]) -> usize
+        requires { All (λ p. p < length self.now) places.now }
+        ensures { result ≡ min (sum_by (λ p. bytes_of (slice_index_or self.now p None)) places.now) (2 ^ 64 - 1) }
+    {
+        let mut sum: usize = 0;
+        for place in places {
+            sum = sum.saturating_add(self.bytes_at(*place as usize));
+        }
+        sum
+    }
+
+    /// How many bytes the text at a place has.
+    fn bytes_at(&self, place: usize) -> usize
+        requires { place < length self.now }
+        ensures { result ≡ bytes_of (slice_index_or self.now place None) }
+    {
+        match self.get(place) {
+            Some(text) => text.len(),
+            None => 0,
+        }
     }
 
     pub fn copy(&self, alloc: Global) -> Result<Texts, AllocError>

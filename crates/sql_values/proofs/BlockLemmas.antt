@@ -8,7 +8,7 @@ use Rattle.sql_values.specs.declared.value.Value.TheVariants as value
 use Rattle.sql_values.specs.declared.types.SqlType.{SqlType}
 use Rattle.sql_values.specs.declared.types.SqlType.TheVariants.{Boolean, Bigint, Decimal, Varchar, Date}
 use Rattle.sql_values.specs.Types.{has_type}
-use Rattle.sql_values.specs.declared.block.Held.{Held}
+use Rattle.sql_values.specs.declared.plain_block.Held.{Held}
 use Rattle.sql_values.specs.Blocks.{TypedCells, fits, offered, or_null, with_cells}
 use Rattle.sql_values.specs.Held.{typed}
 

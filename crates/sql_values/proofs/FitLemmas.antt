@@ -1,5 +1,5 @@
 -- The cells of a block have its type, and so rows have the types of their columns.
-use Rattle.std.proofs.Common.{◌≡◌, ℕ, ◌<◌, ◌≤◌, ◌+◌, Bool, true, List, [], ◌∷◌, Option, Some, None, length, get_or, take, map, refl, sym, subst}
+use Rattle.std.proofs.Common.{◌≡◌, ℕ, ◌<◌, ◌≤◌, ◌+◌, Bool, true, List, [], ◌∷◌, Option, Some, None, length, get_or, take, map, refl, sym, subst, zero, suc}
 use Rattle.std.specs.Prelude.{All, IsTrue, replicate, ◌&&◌}
 use Rattle.std.proofs.lemmas.List.{take_all}
 use Rattle.std.proofs.lemmas.List.Elements.{All-nil, All-cons, All-head, All-tail, All-replicate, All-more, All-same}
@@ -7,9 +7,10 @@ use Rattle.sql_values.specs.declared.types.SqlType.{SqlType}
 use Rattle.sql_values.specs.declared.types.SqlType.TheVariants as kind
 use Rattle.sql_values.specs.declared.value.Value.{Value}
 use Rattle.sql_values.specs.declared.value.Value.TheVariants as value
-use Rattle.sql_values.specs.declared.block.Held.{Held}
-use Rattle.sql_values.specs.declared.block.Held.TheVariants.{Boolean, Bigint, Decimal, Varchar, Date}
-use Rattle.sql_values.specs.Blocks.{TypedCells, fits, or_null}
+use Rattle.sql_values.specs.declared.plain_block.Held.{Held}
+use Rattle.sql_values.specs.declared.plain_block.Held.TheVariants.{Boolean, Bigint, Decimal, Varchar, Date}
+use Rattle.columns.specs.Present.{gather}
+use Rattle.sql_values.specs.Blocks.{TypedCells, fits, or_null, chosen}
 use Rattle.sql_values.specs.Held.{typed}
 use Rattle.sql_values.specs.ColumnRows.{cons_each, rows_of, kinds_of, fits_row}
 
@@ -69,3 +70,16 @@ columns_more columns i c l e all here =
 
 pub columns_all : (columns : List TypedCells) (i : ℕ) → length columns ≤ i → All (λ c. Fit c.kind c.cells) (take i columns) → All (λ c. Fit c.kind c.cells) columns
 columns_all columns i l all = All-same (λ (c : TypedCells). Fit c.kind c.cells) columns (take i columns) (sym (take_all i columns l)) all
+
+fit_at : (k : SqlType) (cells : List Value) (i : ℕ) → Fit k cells → IsTrue (fits k (get_or cells i value.Null))
+fit_at k [] i h = null k
+fit_at k (c ∷ cells) zero h = All-head (λ v. IsTrue (fits k v)) c cells h
+fit_at k (c ∷ cells) (suc i) h = fit_at k cells i (All-tail (λ v. IsTrue (fits k v)) c cells h)
+
+gathered_fit : (k : SqlType) (cells : List Value) (ps : List ℕ) → Fit k cells → Fit k (gather cells value.Null ps)
+gathered_fit k cells [] h = All-nil (λ v. IsTrue (fits k v))
+gathered_fit k cells (p ∷ ps) h = All-cons (λ v. IsTrue (fits k v)) (get_or cells p value.Null) (gather cells value.Null ps) (fit_at k cells p h) (gathered_fit k cells ps h)
+
+-- chosen cells fit as those that they are chosen from
+pub chosen_fit : (block shown : TypedCells) (ps : List ℕ) → chosen block ps ≡ shown → Fit block.kind block.cells → Fit shown.kind shown.cells
+chosen_fit block shown ps e h = subst (λ (b : TypedCells). Fit b.kind b.cells) e (gathered_fit block.kind block.cells ps h)

@@ -5,3 +5,4 @@ pub mod ColumnRowsLemmas
 pub mod HashLemmas
 pub mod TypeTextLemmas
 pub mod FitLemmas
+pub mod SharedLemmas

@@ -1,5 +1,6 @@
 -- Cells of one type, and which values may stand among them.
-use Rattle.std.specs.Prelude.{List, [], ◌∷◌, ◌++◌, Bool, true, false, Option, Some, None}
+use Rattle.std.specs.Prelude.{List, [], ◌∷◌, ◌++◌, ℕ, ◌≡◌, All, Bool, true, false, Option, Some, None}
+use Rattle.columns.specs.Present.{gather}
 use Rattle.sql_values.specs.declared.types.SqlType.{SqlType}
 use Rattle.sql_values.specs.declared.types.SqlType.TheVariants.{Boolean, Bigint, Decimal, Varchar, Date}
 use Rattle.sql_values.specs.declared.value.Value.{Value}
@@ -41,3 +42,10 @@ with_cells block cells = record { kind = block.kind; cells = cells }
 abbrev pub or_null : {A : Type 0} → (A → Value) → Option A → Value
 or_null f None = value.Null
 or_null f (Some item) = f item
+
+-- the cells at the places, in the places' order
+abbrev pub chosen : TypedCells → List ℕ → TypedCells
+chosen block places = with_cells block (gather block.cells value.Null places)
+
+abbrev pub AreAll : Value → List Value → Type 0
+AreAll v cells = All (λ cell. cell ≡ v) cells

@@ -1,11 +1,11 @@
--- The cells that a block keeps in the vector of its type.
+-- The cells that a plain block keeps in the vector of its type.
 use Rattle.std.specs.Prelude.{List, map}
 use Rattle.sql_values.specs.declared.types.SqlType.{SqlType}
 use Rattle.sql_values.specs.declared.types.SqlType.TheVariants as kind
 use Rattle.sql_values.specs.declared.value.Value.{Value}
 use Rattle.sql_values.specs.declared.value.Value.TheVariants as value
-use Rattle.sql_values.specs.declared.block.Held.{Held}
-use Rattle.sql_values.specs.declared.block.Held.TheVariants.{Boolean, Bigint, Decimal, Varchar, Date}
+use Rattle.sql_values.specs.declared.plain_block.Held.{Held}
+use Rattle.sql_values.specs.declared.plain_block.Held.TheVariants.{Boolean, Bigint, Decimal, Varchar, Date}
 use Rattle.sql_values.specs.Blocks.{TypedCells, or_null}
 
 abbrev pub kind_of : Held → SqlType

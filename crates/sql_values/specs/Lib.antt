@@ -1,6 +1,7 @@
 pub mod Cells
 pub mod Blocks
 pub mod Held
+pub mod Shared
 pub mod Bags
 pub mod Texts
 pub mod Types

@@ -6,7 +6,9 @@
 //! - `text`, `types`, `value`, `items`, `row`, `row_list`, `table`: the types. `specs/Cells.antt`
 //!   says what stands in a column of a row, `specs/Types.antt` which values have a type,
 //!   `specs/Bags.antt` what it means that two lists hold the same rows
-//! - `block`, `column_rows`: cells of one type in one vector with their nulls, and columns of one
+//! - `plain_block`, `dictionary`, `block`, `column_rows`: cells of one type in one vector with their
+//!   nulls; such cells shared by many; a column of cells, which is plain, a run of one cell or a
+//!   dictionary (`specs/Shared.antt`), and nothing but its time tells which; and columns of one
 //!   length seen as their rows, by `specs/Blocks.antt` and `specs/ColumnRows.antt`. A list of rows
 //!   of known types keeps such columns (`RowList::of_types`, `RowBuilder`), and falls back to rows
 //!   where a row does not fit; nothing above can tell the two apart, but by their time
@@ -20,11 +22,13 @@
 mod block;
 mod block_cells;
 mod column_rows;
+mod dictionary;
 mod fail;
 mod hash;
 mod items;
 mod memory;
 mod order;
+mod plain_block;
 mod relational;
 mod row;
 mod row_builder;
@@ -36,9 +40,10 @@ mod types;
 mod value;
 mod value_texts;
 
-pub use block::{Block, typed_values_fit_blocks};
+pub use block::{Block, Form, typed_values_fit_blocks};
 pub use column_rows::ColumnRows;
 pub use decimals::{Decimal, OutOfRange};
+pub use dictionary::Dictionary;
 pub use fail::{EvalFault, Fail};
 pub use hash::{EMPTY_HASH, bucket};
 pub use items::Items;
@@ -47,6 +52,7 @@ pub use order::{
     KeySpec, Order, compare_cells, compare_rows, compare_values, equal_values_are_the_same,
     rows_are_ordered,
 };
+pub use plain_block::PlainBlock;
 pub use relational::{Call, JoinKind};
 pub use row::Row;
 pub use row_builder::RowBuilder;

@@ -73,6 +73,21 @@ impl Value {
 }
 
 impl ValueRef<'_> {
+    /// Whether variant and content agree; NULL is the same as NULL.
+    pub fn same(self, other: ValueRef<'_>) -> bool
+        ensures { IsTrue result ↔ (lent_value self.entry ≡ lent_value other.entry) }
+    {
+        match (self, other) {
+            (ValueRef::Null, ValueRef::Null) => true,
+            (ValueRef::Boolean(a), ValueRef::Boolean(b)) => a == b,
+            (ValueRef::Bigint(a), ValueRef::Bigint(b)) => a == b,
+            (ValueRef::Decimal(a), ValueRef::Decimal(b)) => a == b,
+            (ValueRef::Varchar(a), ValueRef::Varchar(b)) => a == b,
+            (ValueRef::Date(a), ValueRef::Date(b)) => a == b,
+            _ => false,
+        }
+    }
+
     pub fn to_value(self, alloc: Global) -> Result<Value, Memory>
         ensures { IfOk result (λ v. v ≡ lent_value self.entry) }
     {

@@ -1,7 +1,7 @@
 //! Tests of the crates of values and of expressions, a module for each, and more for `sql_values` and for `sql_exprs`. What
 //! they want is what PostgreSQL and Trino document, or was computed outside or by hand.
 //!
-//! - `column_tests`, `decimal_tests`, `scalar_tests`, `list_tests`, `block_tests`, `value_tests`, `page_tests`: `columns`,
+//! - `column_tests`, `decimal_tests`, `scalar_tests`, `list_tests`, `block_tests`, `form_tests`, `value_tests`, `page_tests`: `columns`,
 //!   `decimals`, `scalar_texts`, `sql_values` and `col_pages`
 //! - `function_tests`: `sql_functions`
 //! - `expr_tests`, with its `expr_cases`, and `typing_tests`: `sql_exprs`
@@ -20,6 +20,8 @@ mod decimal_tests;
 mod expr_cases;
 #[cfg(test)]
 mod expr_tests;
+#[cfg(test)]
+mod form_tests;
 #[cfg(test)]
 mod function_tests;
 #[cfg(test)]

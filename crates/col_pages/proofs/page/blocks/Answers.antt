@@ -12,5 +12,5 @@ block-requires-clause-fits c =
 pub loop-place-preserved : goal.loop-place-preserved
 loop-place-preserved c =
     let within : c.loop-place.place < length c.args.types.now = omega (arith, c.requires.beside) in
-    rw (c.in_ok-push.ensures.items, c.loop-place.invariant, c.in_ok-block.ensures)
+    rw (c.in_ok-push.ensures.items, c.loop-place.invariant, c.into_run.ensures, c.in_ok-block.ensures)
     (blocks-more c.args.types.now c.args.columns.now _ c.loop-place.place _ _ c.requires.beside c.loop-place-test.true (get_or_default _ _ _ _ within) (get_or_default _ _ _ _ c.loop-place-test.true))

@@ -1,6 +1,6 @@
 use Rattle.std.proofs.Common.{arith}
 use Rattle.sql_values.proofs.BlockLemmas.{of_values-more}
-use Rattle.sql_values.proofs.block.Block.of_values.Goals as goal
+use Rattle.sql_values.proofs.plain_block.PlainBlock.of_values.Goals as goal
 
 pub loop-value-preserved : goal.loop-value-preserved
 loop-value-preserved c =

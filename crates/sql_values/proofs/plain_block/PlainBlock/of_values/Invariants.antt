@@ -1,5 +1,5 @@
 use Rattle.std.proofs.Common.{◌≡◌, take}
-use Rattle.sql_values.proofs.block.Block.of_values.Given as goal
+use Rattle.sql_values.proofs.plain_block.PlainBlock.of_values.Given as goal
 
 -- the values so far
 abbrev pub invariant-loop-value : goal.invariant-loop-value

@@ -41,17 +41,49 @@ fn numbers(alloc: Global, count: u32) -> Result<RowList, Memory>
     Ok(rows)
 }
 
-/// A table of one column with the numbers from 0 up.
-pub fn number_table(alloc: Global, count: u32) -> Result<Table, Memory>
-    ensures len { IfOk result (λ t. length t.rows ≡ count) }
-    ensures columns { IfOk result (λ t. length t.columns ≡ 1) }
-    ensures fits { IfOk result (λ t. AreReadable t.columns (0 ∷ []) t.rows) }
+/// Rows of the number 7.
+fn sevens(alloc: Global, count: u32) -> Result<RowList, Memory>
+    ensures len { IfOk result (λ rows. length rows ≡ count) }
+    ensures fits { IfOk result (λ rows. All (λ row. IsTrue (fits_row (Bigint ∷ []) (cut (0 ∷ []) row))) rows) }
+{
+    let mut rows = RowList::new(alloc);
+    for _number in 0..count {
+        rows.push(number_row(alloc, 7)?)?;
+    }
+    Ok(rows)
+}
+
+/// The columns of a table of numbers.
+fn columns(alloc: Global) -> Result<Items<Column>, Memory>
+    ensures len { IfOk result (λ c. length c ≡ 1) }
+    ensures fits { IfOk result (λ c. AreNumbers c) }
 {
     let mut columns = Items::new(alloc);
     columns.push(Column {
         name: Text::copy_of(alloc, "n")?,
         kind: SqlType::Bigint,
     })?;
+    Ok(columns)
+}
+
+/// A table of one column with the numbers from 0 up.
+pub fn number_table(alloc: Global, count: u32) -> Result<Table, Memory>
+    ensures len { IfOk result (λ t. length t.rows ≡ count) }
+    ensures columns { IfOk result (λ t. length t.columns ≡ 1) }
+    ensures fits { IfOk result (λ t. AreReadable t.columns (0 ∷ []) t.rows) }
+{
+    let columns = columns(alloc)?;
     let rows = numbers(alloc, count)?;
+    Ok(Table { columns, rows })
+}
+
+/// A table of one column with the number 7 in every row.
+pub fn seven_table(alloc: Global, count: u32) -> Result<Table, Memory>
+    ensures len { IfOk result (λ t. length t.rows ≡ count) }
+    ensures columns { IfOk result (λ t. length t.columns ≡ 1) }
+    ensures fits { IfOk result (λ t. AreReadable t.columns (0 ∷ []) t.rows) }
+{
+    let columns = columns(alloc)?;
+    let rows = sevens(alloc, count)?;
     Ok(Table { columns, rows })
 }

@@ -1,11 +1,12 @@
 #!/usr/bin/env python3
 """Makes the program that `rt try` compiles, without its checks, or with ThreadSanitizer in their place.
 
-usage: python3 docs/native.py OUT [--races]
+usage: python3 docs/native.py OUT [--crate NAME] [--races]
 
 Run at the top of the repository. OUT is the program, which no one has proved: docs/worked.py, docs/refused.py,
 docs/long_runs.py, docs/damage.py and docs/stress.py take it. `rt try` is started in crates/trinorun and ended again once it
-has handed its LLVM module to the kit's clang; that compiles the module again, and `cc` links it with the kit's C parts.
+has handed its LLVM module to the kit's clang; that compiles the module again, and `cc` links it with the kit's C parts. With
+--crate it is the program of another crate.
 
 With --races each function of the module is marked for ThreadSanitizer (a mark that a compiler's front end sets; without it
 only atomic operations are looked at), and `cc` links its runtime. A race is then told on standard error of a run, which
@@ -33,13 +34,13 @@ void *__tsan_memset(void *to, int byte, size_t n) { return memset(to, byte, n); 
 def module_in(folder):
     """The module that clang compiles by now, if any: the largest, beside which its object file begins to stand."""
     found = [it for it in glob.glob(f"{folder}/**/module.bc", recursive=True) if glob.glob(f"{os.path.dirname(it)}/module*.o*")]
-    found = [it for it in found if os.path.getsize(it) > 1_000_000]
+    found = [it for it in found if os.path.getsize(it) > 100_000]
     return max(found, key=os.path.getsize, default=None)
 
 
-def take_module(folder):
-    """Copies the module of the program into a folder."""
-    tried = subprocess.Popen(["rt", "try", "--", "--demo", "0"], cwd="crates/trinorun", env={**os.environ, "TMPDIR": folder},
+def take_module(folder, crate):
+    """Copies the module of the crate's program into a folder."""
+    tried = subprocess.Popen(["rt", "try", "--", "--demo", "0"], cwd=f"crates/{crate}", env={**os.environ, "TMPDIR": folder},
                              stdout=subprocess.DEVNULL, stderr=subprocess.DEVNULL)
     try:
         while tried.poll() is None:
@@ -66,10 +67,11 @@ def marked(module):
 def main():
     options = argparse.ArgumentParser(usage=__doc__)
     options.add_argument("out")
+    options.add_argument("--crate", default="trinorun")
     options.add_argument("--races", action="store_true")
     given = options.parse_args()
     with tempfile.TemporaryDirectory() as folder:
-        module, races = take_module(folder), ["-fsanitize=thread"] if given.races else []
+        module, races = take_module(folder, given.crate), ["-fsanitize=thread"] if given.races else []
         if given.races:
             module = marked(module)
         subprocess.run([*CLANG, "-O1", "-fPIE", *races, "-c", "-o", f"{folder}/program.o", module], check=True)

@@ -4,7 +4,7 @@ ghost use Rattle.split_source.specs.Scans.{AreReadable};
 ghost use Rattle.split_source.specs.Seats.{AreAll};
 ghost use Rattle.split_source.specs.Splits.{split_count};
 
-use col_pages::Page;
+use col_pages::{Form, Page};
 use split_source::{
     ClaimSeat, Claims, ScanSource, settle_claims, split_count, split_range, stop_claims,
 };
@@ -12,7 +12,7 @@ use sql_values::{Memory, Table, ValueRef};
 use std::alloc::Global;
 use std::test::Fail;
 use std::thread;
-use test_fixtures::number_table;
+use test_fixtures::{number_table, seven_table};
 
 /// The count, where each seat met the end.
 fn settle_if_ended(seats: Vec<ClaimSeat<'_>>) -> Option<u32>
@@ -176,6 +176,33 @@ fn a_scan_gives_each_row_once(rt: HostRuntime) -> Result<(), Memory> {
             assert!(rt; scan_alone(rt.alloc(), &table, size, page)? == 10);
         }
     }
+    Ok(())
+}
+
+/// How the first page of a scan by one seat keeps its column.
+fn first_form(alloc: Global, table: &Table) -> Result<Option<Form>, Memory>
+    requires few { length table.now.rows < 2 ^ 32 }
+    requires columns { length table.now.columns ≡ 1 }
+    requires fits { AreReadable table.now.columns (0 ∷ []) table.now.rows }
+{
+    let columns = first_column(alloc)?;
+    let mut claims = Claims::new(alloc, split_count(table.rows.len() as u32, 8), 1)?;
+    let mut seats = claims.seats()?;
+    let Some(seat) = seats.pop() else {
+        return Ok(None);
+    };
+    let mut scan = ScanSource::new(alloc, table, columns, 8, 8, seat);
+    match scan.next()? {
+        Some(page) => Ok(page.block(0).map(|block| block.form())),
+        None => Ok(None),
+    }
+}
+
+#[test]
+fn a_column_of_one_value_is_scanned_as_a_run(rt: HostRuntime) -> Result<(), Memory> {
+    let alloc = rt.alloc();
+    assert!(rt; first_form(alloc, &seven_table(alloc, 5)?)? == Some(Form::Run));
+    assert!(rt; first_form(alloc, &number_table(alloc, 5)?)? == Some(Form::Plain));
     Ok(())
 }
 

@@ -1,9 +1,9 @@
-//! Rows and a table of one column of whole numbers.
+//! Rows and tables of one column of whole numbers.
 ghost use Rattle.std.specs.Prelude.{◌≡◌, [], ◌∷◌, All, IsTrue, IsOk, IfOk, length};
 ghost use Rattle.sql_values.specs.Cells.{cut};
 ghost use Rattle.sql_values.specs.ColumnRows.{fits_row};
 ghost use Rattle.sql_values.specs.declared.types.SqlType.TheVariants.{Bigint};
-ghost use Rattle.split_source.specs.Scans.{AreReadable};
+ghost use Rattle.split_source.specs.Scans.{AreReadable, types_at};
 
 use sql_values::{Column, Items, Memory, Row, RowList, SqlType, Table, Text, Value};
 use std::alloc::Global;
@@ -56,7 +56,7 @@ fn sevens(alloc: Global, count: u32) -> Result<RowList, Memory>
 /// The columns of a table of numbers.
 fn columns(alloc: Global) -> Result<Items<Column>, Memory>
     ensures len { IfOk result (λ c. length c ≡ 1) }
-    ensures fits { IfOk result (λ c. AreNumbers c) }
+    ensures types { IfOk result (λ c. types_at c (0 ∷ []) ≡ Bigint ∷ []) }
 {
     let mut columns = Items::new(alloc);
     columns.push(Column {

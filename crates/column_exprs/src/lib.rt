@@ -11,9 +11,11 @@
 //! - `rows`, `operand`: rows at positions, and operands
 //! - `made`: the operand of a call or a cast, by those of its arguments
 //! - `strict`: the values of a call or a cast, at one place after the other
+//! - `compare`: comparisons of a column of numbers or days with a literal
 //! - `decimal_cells`, `decimal`: sums, differences and products of decimals, with the powers of ten taken once
 #![tactic(auto)]
 
+mod compare;
 mod decimal;
 mod decimal_cells;
 mod eval;

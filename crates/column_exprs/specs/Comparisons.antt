@@ -1,5 +1,6 @@
 -- Comparisons, beside the calls that they are.
-use Rattle.std.specs.Prelude.{Bool}
+use Rattle.std.specs.Prelude.{ℤ, Bool, Option, Some, None}
+use Rattle.std.specs.Ordering.{int_cmp}
 use Rattle.std.specs.declared.cmp.Ordering.{Ordering}
 use Rattle.sql_functions.specs.declared.name.CallName.{CallName}
 use Rattle.sql_functions.specs.declared.name.CallName.TheVariants as call
@@ -18,3 +19,9 @@ name_of GreaterEqual = call.GreaterEqual
 -- whether two values in this order make the comparison true
 abbrev pub holds : Compare → Ordering → Bool
 holds op o = ordering_meets (name_of op) o
+
+-- whether the comparison of two numbers holds; missing where one of them is
+abbrev pub both : Compare → Option ℤ → Option ℤ → Option Bool
+both op None p = None
+both op (Some x) None = None
+both op (Some x) (Some y) = Some (holds op (int_cmp x y))

@@ -1,11 +1,14 @@
-ghost use Rattle.std.specs.Prelude.{◌≡◌, map, option_map, IfOk, IfSome};
+ghost use Rattle.std.specs.Prelude.{◌≡◌, ◌||◌, length, map, option_map, IfOk, IfSome};
+ghost use Rattle.std.specs.Ordering.{int_cmp};
+ghost use Rattle.std.specs.Simd.Lanes.{zip2};
 ghost use Rattle.sql_values.specs.declared.types.SqlType.TheVariants as kind_is;
 ghost use Rattle.sql_values.specs.declared.value.Value.TheVariants as value_is;
 ghost use Rattle.sql_values.specs.Cells.{lent_value};
 ghost use Rattle.sql_functions.specs.Comparison.{compared};
-ghost use Rattle.column_exprs.specs.Comparisons.{holds, name_of};
+ghost use Rattle.column_exprs.specs.Comparisons.{both, holds, name_of};
 ghost use Rattle.column_exprs.specs.Operands.{AreOutcomes, HasCells, binary_at};
 
+use crate::lanes::{Numbers, number_truths};
 use crate::operand::Operand;
 use columns::Nullable;
 use sql_functions::CallName;
@@ -41,7 +44,7 @@ impl Compare {
     }
 
     /// Whether two values in this order make it true.
-    fn holds(self, ordering: Ordering) -> bool
+    pub(crate) fn holds(self, ordering: Ordering) -> bool
         ensures { result ≡ holds self ordering }
     {
         match self {
@@ -55,9 +58,29 @@ impl Compare {
     }
 }
 
-/// The truths of a comparison of a column of numbers or days with one value at so many places, or
-/// none where it is another call.
+/// The truths of a comparison of two columns of numbers, or of a column of numbers or days with one
+/// value, at so many places, or none where it is another call.
 pub fn compare_cells(
+    alloc: Global,
+    name: CallName,
+    left: &Operand<'_>,
+    right: &Operand<'_>,
+    count: usize,
+) -> Result<Option<Block>, Memory>
+    requires left { HasCells left.now count }
+    requires right { HasCells right.now count }
+    ensures kind { IfOk result (λ o. IfSome o (λ b. b.kind ≡ kind_is.Boolean)) }
+    ensures values { IfOk result (λ o. IfSome o (λ b.
+        AreOutcomes (binary_at name left.now right.now) count b.cells)) }
+{
+    match compare_with_value(alloc, name, left, right, count)? {
+        Some(block) => Ok(Some(block)),
+        None => compare_columns(alloc, name, left, right, count),
+    }
+}
+
+/// The truths of a comparison of a column with one value.
+fn compare_with_value(
     alloc: Global,
     name: CallName,
     left: &Operand<'_>,
@@ -79,6 +102,88 @@ pub fn compare_cells(
         return Ok(None);
     };
     against(alloc, op, block, value)
+}
+
+/// The truths of a comparison of two columns.
+fn compare_columns(
+    alloc: Global,
+    name: CallName,
+    left: &Operand<'_>,
+    right: &Operand<'_>,
+    count: usize,
+) -> Result<Option<Block>, Memory>
+    requires left { HasCells left.now count }
+    requires right { HasCells right.now count }
+    ensures kind { IfOk result (λ o. IfSome o (λ b. b.kind ≡ kind_is.Boolean)) }
+    ensures values { IfOk result (λ o. IfSome o (λ b.
+        AreOutcomes (binary_at name left.now right.now) count b.cells)) }
+{
+    let Some(op) = Compare::of(name) else {
+        return Ok(None);
+    };
+    let Some(first) = left.block() else {
+        return Ok(None);
+    };
+    let Some(second) = right.block() else {
+        return Ok(None);
+    };
+    beside(alloc, op, first, second)
+}
+
+/// The truths of a comparison of each cell with the one beside it, where these are numbers.
+#[tactic(auto, using(crate::proofs::CompareLemmas::as_many))]
+fn beside(
+    alloc: Global,
+    op: Compare,
+    first: &Block,
+    second: &Block,
+) -> Result<Option<Block>, Memory>
+    requires { length second.now.cells ≡ length first.now.cells }
+    ensures kind { IfOk result (λ o. IfSome o (λ b. b.kind ≡ kind_is.Boolean)) }
+    ensures cells { IfOk result (λ o. IfSome o (λ b. b.cells
+        ≡ zip2 (compared (name_of op)) first.now.cells second.now.cells)) }
+{
+    let Some(numbers) = first.bigints() else {
+        return Ok(None);
+    };
+    let Some(others) = second.bigints() else {
+        return Ok(None);
+    };
+    let truths = column_truths(alloc, op, numbers, others)?;
+    Ok(Some(Block::of_booleans(truths)))
+}
+
+/// For each two numbers whether the comparison holds; missing where one of them is.
+#[tactic(auto, using(crate::proofs::CompareLemmas::held_beside))]
+fn column_truths(
+    alloc: Global,
+    op: Compare,
+    numbers: &Nullable<i64>,
+    others: &Nullable<i64>,
+) -> Result<Nullable<bool>, AllocError>
+    requires { length others.now ≡ length numbers.now }
+    ensures { IfOk result (λ v. v ≡ zip2 (both op) numbers.now others.now) }
+{
+    let truths = number_truths(alloc, op, numbers.items(), Numbers::Column(others.items()))?;
+    Ok(Nullable::of(truths, either(alloc, numbers.nulls(), others.nulls())?))
+}
+
+/// For each two marks whether one of them is set.
+fn either(alloc: Global, a: &[bool], b: &[bool]) -> Result<Vec<bool>, AllocError>
+    requires { length b.now ≡ length a.now }
+    ensures { IfOk result (λ v. v.items ≡ zip2 ◌||◌ a.now b.now) }
+{
+    let mut marks = Vec::with_capacity(alloc, a.len())?;
+    for place in 0..a.len() {
+        marks.push_reserved(is_either(a[place], b[place]));
+    }
+    Ok(marks)
+}
+
+fn is_either(a: bool, b: bool) -> bool
+    ensures { result ≡ (a || b) }
+{
+    a || b
 }
 
 /// The truths of a comparison of each cell with a value, where these are numbers or days.
@@ -112,7 +217,7 @@ fn against_number(
 {
     match block.bigints() {
         Some(numbers) => {
-            let truths = truths_of(alloc, op, numbers, number)?;
+            let truths = value_truths(alloc, op, numbers, number)?;
             Ok(Some(Block::of_booleans(truths)))
         }
         None => Ok(None),
@@ -132,6 +237,20 @@ fn against_day(alloc: Global, op: Compare, block: &Block, day: i32) -> Result<Op
         }
         None => Ok(None),
     }
+}
+
+/// For each number whether the comparison with one holds; missing where the number is.
+#[tactic(auto, using(crate::proofs::CompareLemmas::held_single))]
+fn value_truths(
+    alloc: Global,
+    op: Compare,
+    numbers: &Nullable<i64>,
+    number: i64,
+) -> Result<Nullable<bool>, AllocError>
+    ensures { IfOk result (λ v. v ≡ map (option_map (λ x. holds op (int_cmp x number))) numbers.now) }
+{
+    let truths = number_truths(alloc, op, numbers.items(), Numbers::Single(number))?;
+    Ok(Nullable::of(truths, Vec::from_slice(alloc, numbers.nulls())?))
 }
 
 /// For each number whether the comparison with a value holds; missing where the number is.

@@ -73,7 +73,7 @@ pub fn binary_made<'a>(
     }
 }
 
-/// The values of a call of two arguments: decimals and comparisons with a literal have loops of their own.
+/// The values of a call of two arguments: decimals and comparisons of columns have loops of their own.
 fn two_cells(
     alloc: Global,
     name: CallName,

@@ -1,6 +1,6 @@
 use Rattle.sql_values.specs.Cells.{lent_value}
 use Rattle.column_exprs.proofs.CompareLemmas.{compared_found}
-use Rattle.column_exprs.proofs.compare.compare_cells.Goals as goal
+use Rattle.column_exprs.proofs.compare.compare_with_value.Goals as goal
 
 pub returns-clause-values : goal.returns-clause-values
 returns-clause-values c =

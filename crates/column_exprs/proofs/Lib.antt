@@ -1,2 +1,5 @@
 pub mod OperandLemmas
 pub mod PlaceLemmas
+pub mod CompareLemmas
+pub mod LaneLemmas
+pub mod MarkLemmas

@@ -1,1 +1,3 @@
 pub mod Operands
+pub mod Comparisons
+pub mod Lanes

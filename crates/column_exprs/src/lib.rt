@@ -11,16 +11,22 @@
 //! - `rows`, `operand`: rows at positions, and operands
 //! - `made`: the operand of a call or a cast, by those of its arguments
 //! - `strict`: the values of a call or a cast, at one place after the other
+//! - `compare`: comparisons of two columns of numbers, and of a column of numbers or days with a literal
+//! - `lanes`: numbers compared eight at a time, and the places whose mark is set
 //! - `decimal_cells`, `decimal`: sums, differences and products of decimals, with the powers of ten taken once
 #![tactic(auto)]
 
+mod compare;
 mod decimal;
 mod decimal_cells;
 mod eval;
+mod lanes;
 mod made;
 mod operand;
 mod parts;
 mod rows;
 mod strict;
 
+pub use compare::Compare;
 pub use eval::eval_columns;
+pub use lanes::{compare_lanes, is_marked, places_of};

@@ -1,7 +1,9 @@
 ghost use Rattle.std.specs.Prelude.{◌≡◌, length, IfOk, IfSome, IsTrue};
+ghost use Rattle.sql_values.specs.declared.types.SqlType.TheVariants as kind_is;
 ghost use Rattle.sql_exprs.specs.Forms.{Form, call, cast, more, none};
 ghost use Rattle.column_exprs.specs.Operands.{AreOutcomes, HasCells, IsOperand, binary_at, is_strict};
 
+use crate::compare::compare_cells;
 use crate::decimal_cells::decimal_cells;
 use crate::operand::Operand;
 use crate::rows::Rows;
@@ -71,7 +73,7 @@ pub fn binary_made<'a>(
     }
 }
 
-/// The values of a call of two arguments: those of decimals by their own loop.
+/// The values of a call of two arguments: decimals and comparisons of columns have loops of their own.
 fn two_cells(
     alloc: Global,
     name: CallName,
@@ -88,6 +90,27 @@ fn two_cells(
 {
     match kind {
         SqlType::Decimal { .. } => decimal_cells(alloc, name, left, right, kind, count),
+        SqlType::Boolean => boolean_cells(alloc, name, left, right, count),
         _ => binary_cells(alloc, name, left, right, kind, count),
+    }
+}
+
+/// The truths of a call of two arguments.
+fn boolean_cells(
+    alloc: Global,
+    name: CallName,
+    left: &Operand<'_>,
+    right: &Operand<'_>,
+    count: usize,
+) -> Result<Option<Block>, Memory>
+    requires left { HasCells left.now count }
+    requires right { HasCells right.now count }
+    ensures kind { IfOk result (λ o. IfSome o (λ b. b.kind ≡ kind_is.Boolean)) }
+    ensures values { IfOk result (λ o. IfSome o (λ b.
+        AreOutcomes (binary_at name left.now right.now) count b.cells)) }
+{
+    match compare_cells(alloc, name, left, right, count)? {
+        Some(block) => Ok(Some(block)),
+        None => binary_cells(alloc, name, left, right, SqlType::Boolean, count),
     }
 }

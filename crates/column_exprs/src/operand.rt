@@ -1,6 +1,7 @@
-ghost use Rattle.std.specs.Prelude.{◌≡◌};
+ghost use Rattle.std.specs.Prelude.{◌≡◌, ℕ, length, slice_index_or, IfSome};
+ghost use Rattle.sql_values.specs.declared.value.Value.TheVariants as value_is;
 ghost use Rattle.sql_values.specs.Cells.{lent_value};
-ghost use Rattle.column_exprs.specs.Operands.{HasPlace, operand_cell, operand_kind};
+ghost use Rattle.column_exprs.specs.Operands.{HasCells, HasPlace, operand_cell, operand_kind};
 
 use sql_values::{Block, SqlType, ValueRef};
 
@@ -33,6 +34,30 @@ impl Operand<'_> {
             Operand::Lent(block) => block.cell(place),
             Operand::Made(block) => block.cell(place),
             Operand::Constant { value, .. } => *value,
+        }
+    }
+
+    /// The cells, where there is one for each place.
+    pub fn block(&self) -> Option<&Block>
+        ensures cells { IfSome result (λ b. (k : ℕ)
+            → operand_cell self.now k ≡ slice_index_or b.now.cells k value_is.Null) }
+        ensures len { IfSome result (λ b. (count : ℕ) → HasCells self.now count
+            → length b.now.cells ≡ count) }
+    {
+        match self {
+            Operand::Lent(block) => Some(block),
+            Operand::Made(block) => Some(block),
+            Operand::Constant { .. } => None,
+        }
+    }
+
+    /// The value, where one stands at each place.
+    pub fn constant(&self) -> Option<ValueRef<'_>>
+        ensures { IfSome result (λ v. (k : ℕ) → operand_cell self.now k ≡ lent_value v) }
+    {
+        match self {
+            Operand::Constant { value, .. } => Some(*value),
+            Operand::Lent(_) | Operand::Made(_) => None,
         }
     }
 }

@@ -6,8 +6,9 @@
 //! - `buffer`: `SortBuffer`, the rows of either, in typed columns. No row is moved while they are put in
 //!   order: their places are, and pages are gathered by these
 //! - `places`: places of rows by the order of keys
-//! - `numbers`: the same where the first key is a whole number or a date: what its cells rank by stands beside the
+//! - `numbers`: the same where the first key is a number, a date or a truth: what its cells rank by stands beside the
 //!   places, so that most pairs are compared without a look at the rows
+//! - `words`: the same where it is the only key and its ranks fit in 32 bits: a place and its rank are one word
 //!
 //! `specs/Sorting.antt` says what the operators may give. NULL is last, ascending and descending, and rows
 //! that the keys do not tell apart stand in any order.
@@ -18,6 +19,7 @@ mod numbers;
 mod places;
 mod sort;
 mod topn;
+mod words;
 
 pub use buffer::SortBuffer;
 pub use sort::{SortOp, sort_op};

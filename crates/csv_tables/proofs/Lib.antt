@@ -2,8 +2,8 @@ pub mod RecordsLemmas
 pub mod FieldLemmas
 pub mod ValueLemmas
 pub mod RowLemmas
-pub mod WriterLemmas
-pub mod CellLemmas
+pub mod PlainLemmas
+pub mod TextLemmas
 pub mod ReadBackLemmas
 pub mod FitLemmas
 pub mod BuildLemmas

@@ -4,5 +4,4 @@ pub mod Records
 pub mod Lines
 pub mod Tables
 pub mod ResultTexts
-pub mod Writers
 pub mod Parts

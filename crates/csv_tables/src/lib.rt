@@ -10,11 +10,13 @@
 //! - `header`, `field`, `rows`, `table`: the parts of `read_table`, and `read_part`, which reads records behind a header
 //! - `lines`, `line_rows`: a text without quotes, read line by line
 //! - `laws`: what follows from the definitions
+//! - `field_texts`: the records of a result, appended to a text
 //! - `result_text`: `text_of`
 #![tactic(auto)]
 
 mod fault;
 mod field;
+mod field_texts;
 mod header;
 mod laws;
 mod line_rows;
@@ -25,6 +27,7 @@ mod rows;
 mod table;
 
 pub use fault::{MALFORMED, NOT_UTF8, TOO_MANY_ROWS, TableFault, WRONG_HEADER, WRONG_WIDTH};
+pub use field_texts::{append_header, append_rows};
 pub use laws::{
     field_reads_back, line_feeds_cut, records_are_one, records_of_parts, rows_of_a_table_are_few,
     rows_of_a_table_fit, rows_of_a_table_have_types, rows_of_parts,

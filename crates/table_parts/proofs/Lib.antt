@@ -2,3 +2,4 @@ pub mod CutLemmas
 pub mod FaultLemmas
 pub mod PlaceLemmas
 pub mod JoinLemmas
+pub mod PrintLemmas

@@ -5,7 +5,7 @@
 //!   `decimals`, `scalar_texts`, `sql_values` and `col_pages`
 //! - `function_tests`: `sql_functions`
 //! - `expr_tests`, with its `expr_cases`, and `typing_tests`: `sql_exprs`
-//! - `column_expr_tests`: `column_exprs`
+//! - `column_expr_tests`, `lane_tests`: `column_exprs`
 #![tactic(auto)]
 
 #[cfg(test)]
@@ -24,6 +24,8 @@ mod expr_tests;
 mod form_tests;
 #[cfg(test)]
 mod function_tests;
+#[cfg(test)]
+mod lane_tests;
 #[cfg(test)]
 mod list_tests;
 #[cfg(test)]

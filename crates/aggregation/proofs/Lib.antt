@@ -4,6 +4,7 @@ pub mod PartLemmas
 pub mod HeldLemmas
 pub mod TableLemmas
 pub mod RowLemmas
+pub mod NearLemmas
 pub mod ResultLemmas
 pub mod LeftLemmas
 pub mod SingleLemmas

@@ -42,6 +42,10 @@ pub record IsTable (columns : List ℕ) (calls : List Call) (types : List SqlTyp
 abbrev pub IsKeyAt : List (List Value) → ℕ → List Value → Type 0
 IsKeyAt keys place key = (place < length keys) × (slice_index_or keys place [] ≡ key)
 
+-- each key stands where it stood
+abbrev pub AreKept : List (List Value) → List (List Value) → Type 0
+AreKept old new = (place : ℕ) (key : List Value) → IsKeyAt old place key → IsKeyAt new place key
+
 -- as it was, or with a group of no row for the key
 abbrev pub HasGroupFor : TableState → List Value → TableState → Type 0
 HasGroupFor old key new = (new ≡ old) ⊎ (new ≡ record old { keys = old.keys ++ key ∷ []; partials = old.partials ++ partial_of old.calls [] ∷ [] })

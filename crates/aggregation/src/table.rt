@@ -1,4 +1,4 @@
-ghost use Rattle.std.specs.Prelude.{◌≡◌, ◌<◌, ◌≤◌, ◌^◌, [], ◌∷◌, ◌++◌, drop, length, map, IfOk, IsTrue, MatchResult, OnErr, OnOk, None, slice_index_or, slice_set};
+ghost use Rattle.std.specs.Prelude.{◌≡◌, ◌<◌, ◌≤◌, ◌^◌, [], ◌∷◌, ◌++◌, drop, length, map, IfOk, IfSome, IsTrue, MatchResult, OnErr, OnOk, None, slice_index_or, slice_set};
 ghost use Rattle.sql_values.specs.Cells.{cut};
 ghost use Rattle.relation_laws.specs.Partials.{merged, partial_of};
 ghost use Rattle.group_index.specs.Keys.{place_of};
@@ -6,7 +6,7 @@ ghost use Rattle.accumulators.specs.Limits.{are_allowed};
 ghost use Rattle.aggregation.specs.Alike.{TellAlike, held_row, part_row, part_rows};
 ghost use Rattle.aggregation.specs.Held.{first_keys, first_partials};
 ghost use Rattle.aggregation.specs.Giving.{has_verdict, parts_with, verdicts_with};
-ghost use Rattle.aggregation.specs.Tables.{AreResults, GroupFailsBy, IsKeyAt, HasGroupFor, IsPut, OneFailsBy, held_in, verdict_at, verdicts_of};
+ghost use Rattle.aggregation.specs.Tables.{AreKept, AreResults, GroupFailsBy, IsKeyAt, HasGroupFor, IsPut, OneFailsBy, held_in, verdict_at, verdicts_of};
 
 use accumulators::Accumulator;
 use col_pages::Page;
@@ -16,6 +16,9 @@ use sql_exprs::{Cells, PageRow};
 use sql_values::{Call, ColumnRows, EvalFault, Memory, Row, SqlType, Types, Value};
 use std::alloc::Global;
 use std::marker::Model;
+
+/// From so many groups on the keys of a page are sought together: most of what is read for them is then far away.
+const MANY_GROUPS: usize = 4_096;
 
 /// The groups of the rows that came: a key and an accumulator each.
 #[derive(Drop)]
@@ -140,9 +143,7 @@ impl GroupTable {
         ensures ok { OnOk result (TellAlike (length self.old.columns) self.old.calls (held_in self.new)
             (held_in self.old ++ part_row self.old.columns self.old.calls (C.values cells.now) ∷ [])) }
     {
-        let _ = &self.alloc;
-        let place = self.open(cells)?;
-        self.add_at(place, cells)
+        self.add_near(None, cells)
     }
 
     /// The place of the group of a row, which is made where there is none.
@@ -210,10 +211,62 @@ impl GroupTable {
             (held_in self.old ++ part_rows self.old.columns self.old.calls page.now.rows)) }
     {
         self.keep_keys_as(page)?;
+        if self.index.len() < MANY_GROUPS {
+            return self.add_rows(page);
+        }
+        self.add_rows_near(page)
+    }
+
+    /// Takes the rows of a page, each of which seeks its group.
+    fn add_rows(&mut self, page: &Page) -> Result<(), Memory>
+        ensures same { record self.new { keys = self.old.keys; partials = self.old.partials } ≡ self.old }
+        ensures ok { OnOk result (TellAlike (length self.old.columns) self.old.calls (held_in self.new)
+            (held_in self.old ++ part_rows self.old.columns self.old.calls page.now.rows)) }
+    {
         for position in 0..page.len() {
             self.add(&PageRow { page, position })?;
         }
         Ok(())
+    }
+
+    /// Takes the rows of a page, whose groups are sought together before the first is taken.
+    fn add_rows_near(&mut self, page: &Page) -> Result<(), Memory>
+        ensures same { record self.new { keys = self.old.keys; partials = self.old.partials } ≡ self.old }
+        ensures ok { OnOk result (TellAlike (length self.old.columns) self.old.calls (held_in self.new)
+            (held_in self.old ++ part_rows self.old.columns self.old.calls page.now.rows)) }
+    {
+        let found = self.index.seek_rows(&self.columns, page)?;
+        for position in 0..page.len() {
+            self.add_near(found[position as usize], &PageRow { page, position })?;
+        }
+        Ok(())
+    }
+
+    /// Takes a row, whose group may stand at a place that was found before.
+    fn add_near<C: Cells>(&mut self, near: Option<usize>, cells: &C) -> Result<(), Memory>
+        requires { IfSome near (λ place. IsKeyAt self.old.keys place (cut self.old.columns (C.values cells.now))) }
+        ensures same { record self.new { keys = self.old.keys; partials = self.old.partials } ≡ self.old }
+        ensures kept { OnOk result (AreKept self.old.keys self.new.keys) }
+        ensures ok { OnOk result (TellAlike (length self.old.columns) self.old.calls (held_in self.new)
+            (held_in self.old ++ part_row self.old.columns self.old.calls (C.values cells.now) ∷ [])) }
+    {
+        let _ = &self.alloc;
+        let place = self.open_near(near, cells)?;
+        self.add_at(place, cells)
+    }
+
+    /// The place of the group of a row: where it was found before, or else where `open` finds or makes it, since a
+    /// row of the same key may have come in between.
+    fn open_near<C: Cells>(&mut self, near: Option<usize>, cells: &C) -> Result<usize, Memory>
+        requires { IfSome near (λ place. IsKeyAt self.old.keys place (cut self.old.columns (C.values cells.now))) }
+        ensures same { record self.new { keys = self.old.keys; partials = self.old.partials } ≡ self.old }
+        ensures ok { OnOk result (HasGroupFor self.old (cut self.old.columns (C.values cells.now)) self.new) }
+        ensures place { IfOk result (λ place. IsKeyAt self.new.keys place (cut self.old.columns (C.values cells.now))) }
+    {
+        match near {
+            Some(there) => Ok(there),
+            None => self.open(cells),
+        }
     }
 
     /// Takes what a row has behind its key as a partial row of the key's group. What is no partial row is refused
@@ -223,9 +276,7 @@ impl GroupTable {
         ensures ok { OnOk result (TellAlike (length self.old.columns) self.old.calls (held_in self.new)
             (held_in self.old ++ held_row self.old.columns (C.values cells.now) ∷ [])) }
     {
-        let _ = &self.alloc;
-        let place = self.open(cells)?;
-        self.merge_at(place, cells)
+        self.merge_near(None, cells)
     }
 
     /// Takes what a row has behind its key into the group at a place.
@@ -255,10 +306,48 @@ impl GroupTable {
             (held_in self.old ++ map (held_row self.old.columns) page.now.rows)) }
     {
         self.keep_keys_as(page)?;
+        if self.index.len() < MANY_GROUPS {
+            return self.merge_rows(page);
+        }
+        self.merge_rows_near(page)
+    }
+
+    /// Takes the partial rows of a page, each of which seeks its group.
+    fn merge_rows(&mut self, page: &Page) -> Result<(), Memory>
+        ensures same { record self.new { keys = self.old.keys; partials = self.old.partials } ≡ self.old }
+        ensures ok { OnOk result (TellAlike (length self.old.columns) self.old.calls (held_in self.new)
+            (held_in self.old ++ map (held_row self.old.columns) page.now.rows)) }
+    {
         for position in 0..page.len() {
             self.merge(&PageRow { page, position })?;
         }
         Ok(())
+    }
+
+    /// Takes the partial rows of a page, whose groups are sought together before the first is taken.
+    fn merge_rows_near(&mut self, page: &Page) -> Result<(), Memory>
+        ensures same { record self.new { keys = self.old.keys; partials = self.old.partials } ≡ self.old }
+        ensures ok { OnOk result (TellAlike (length self.old.columns) self.old.calls (held_in self.new)
+            (held_in self.old ++ map (held_row self.old.columns) page.now.rows)) }
+    {
+        let found = self.index.seek_rows(&self.columns, page)?;
+        for position in 0..page.len() {
+            self.merge_near(found[position as usize], &PageRow { page, position })?;
+        }
+        Ok(())
+    }
+
+    /// Takes what a row has behind its key, where its group may stand at a place that was found before.
+    fn merge_near<C: Cells>(&mut self, near: Option<usize>, cells: &C) -> Result<(), Memory>
+        requires { IfSome near (λ place. IsKeyAt self.old.keys place (cut self.old.columns (C.values cells.now))) }
+        ensures same { record self.new { keys = self.old.keys; partials = self.old.partials } ≡ self.old }
+        ensures kept { OnOk result (AreKept self.old.keys self.new.keys) }
+        ensures ok { OnOk result (TellAlike (length self.old.columns) self.old.calls (held_in self.new)
+            (held_in self.old ++ held_row self.old.columns (C.values cells.now) ∷ [])) }
+    {
+        let _ = &self.alloc;
+        let place = self.open_near(near, cells)?;
+        self.merge_at(place, cells)
     }
 
     /// The law that what is said of the groups follows from their partial rows.

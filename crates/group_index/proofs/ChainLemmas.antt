@@ -1,14 +1,15 @@
 -- Chains with one more link, and steps along one.
-use Rattle.std.proofs.Common.{◌≡◌, ◌≢◌, ℕ, ◌+◌, ◌<◌, ◌≤◌, ◌^◌, zero, suc, List, [], ◌∷◌, ◌++◌, length, set, refl, ap, sym, ◌∙◌, arith, true, false, ◌⊎◌, inl, inr}
+use Rattle.std.proofs.Common.{◌≡◌, ◌≢◌, ℕ, ◌+◌, ◌<◌, ◌≤◌, ◌^◌, zero, suc, List, [], ◌∷◌, ◌++◌, length, map, set, refl, ap, sym, ◌∙◌, arith, true, false, ◌⊎◌, inl, inr}
 use Rattle.std.specs.Prelude.{nat_eq, bit_and, slice_index_or}
 use Rattle.std.proofs.lemmas.Bool.{cases_lt, eqb-true, eq-eqb, ne_eqb}
 use Rattle.std.proofs.lemmas.Bool.Decides.{eqb_tells}
-use Rattle.std.proofs.lemmas.List.{get_or-set_same, get_or-set_other, length-append, length-set, length-map, map-append}
+use Rattle.std.proofs.lemmas.List.{get_or-map, get_or-set_same, get_or-set_other, length-append, length-set, length-map, map-append}
+use Rattle.std.proofs.lemmas.Nat.{and_le_r}
 use Rattle.std.proofs.Math.ListN.{get_or-append}
 use Rattle.std.proofs.Math.Seq.{get_or-append_seam}
 use Rattle.group_index.specs.declared.chains.Link.{Link}
-use Rattle.group_index.specs.Places.{last_below}
-use Rattle.group_index.specs.Chains.{AreChains, AreHeads, AreLinked, IsOnChain, has_hash, hash_at, hashes_of, link_at, sits}
+use Rattle.group_index.specs.Places.{last_below, place_before}
+use Rattle.group_index.specs.Chains.{AreChains, AreHeads, AreLinked, IsOnChain, has_hash, hash_at, hashes_of, head_of, last_of_hash, link_at, sits}
 use Rattle.group_index.proofs.PlaceLemmas.{last_below-at, last_below-over, last_below-passes, last_below-same, last_below-skip, last_below-within}
 
 -- the hashes of links
@@ -126,14 +127,16 @@ pub found-at : (links : List Link) (hash m : ℕ) → (link_at links m).hash ≡
 found-at links hash m same = last_below-at (has_hash (hashes_of links) hash) m (eq-eqb (hash_at (hashes_of links) m) hash (hash-link links m ∙ same))
 
 -- where a chain begins
-pub head-on : (mask : ℕ) (heads : List ℕ) (links : List Link) (hash : ℕ) → AreChains mask heads links → bit_and hash mask < length heads
-    → IsOnChain links hash (slice_index_or heads (bit_and hash mask) 0)
-head-on mask heads links hash c lt = record {
+bucket-there : (mask : ℕ) (heads : List ℕ) (links : List Link) (hash : ℕ) → AreChains mask heads links → bit_and hash mask < length heads
+bucket-there mask heads links hash c = omega (arith, c.buckets, and_le_r hash mask)
+
+pub head-on : (mask : ℕ) (heads : List ℕ) (links : List Link) (hash : ℕ) → AreChains mask heads links → IsOnChain links hash (head_of mask heads hash)
+head-on mask heads links hash c = record {
   mask = mask;
   below = length links;
   few = c.few;
   within = omega arith;
-  is = c.headed (bit_and hash mask) lt;
+  is = c.headed (bit_and hash mask) (bucket-there mask heads links hash c);
   linked = c.linked;
 }
 
@@ -157,9 +160,16 @@ from-start links hash mask below start is =
     (λ k lt at. eq-eqb (bit_and (hash_at hs k) mask) (bit_and hash mask) (ap (λ h. bit_and h mask) (eqb-true (hash_at hs k) hash at)))
     ∙ ap (last_below (has_hash hs hash)) (sym is)
 
-pub from-head : (mask : ℕ) (heads : List ℕ) (links : List Link) (hash : ℕ) → AreChains mask heads links → bit_and hash mask < length heads
-    → last_below (has_hash (hashes_of links) hash) (length links) ≡ last_below (has_hash (hashes_of links) hash) (slice_index_or heads (bit_and hash mask) 0)
-from-head mask heads links hash c lt = from-start links hash mask (length links) (slice_index_or heads (bit_and hash mask) 0) (c.headed (bit_and hash mask) lt)
+pub from-head : (mask : ℕ) (heads : List ℕ) (links : List Link) (hash : ℕ) → AreChains mask heads links
+    → last_of_hash (hashes_of links) hash (head_of mask heads hash) ≡ last_of_hash (hashes_of links) hash (length (hashes_of links))
+from-head mask heads links hash c =
+    sym (ap place_before (from-start links hash mask (length links) (head_of mask heads hash) (c.headed (bit_and hash mask) (bucket-there mask heads links hash c))))
+    ∙ ap (last_of_hash (hashes_of links) hash) (sym (length-map links (λ (l : Link). l.hash)))
+
+-- one of the heads of some hashes
+pub head-of_each : (mask : ℕ) (heads hashes found : List ℕ) (i : ℕ) → found ≡ map (head_of mask heads) hashes → i < length hashes
+    → slice_index_or found i 0 ≡ head_of mask heads (slice_index_or hashes i 0)
+head-of_each mask heads hashes found i is lt = ap (λ fs. slice_index_or fs i 0) is ∙ get_or-map (head_of mask heads) hashes i 0 0 lt
 
 pub from-link : (mask : ℕ) (heads : List ℕ) (links : List Link) (place : ℕ) → AreChains mask heads links → place < length links
     → last_below (has_hash (hashes_of links) (link_at links place).hash) place ≡ last_below (has_hash (hashes_of links) (link_at links place).hash) (link_at links place).before

@@ -1,8 +1,8 @@
 -- Where a key stands, by the places of its hash.
-use Rattle.std.proofs.Common.{◌≡◌, ◌≢◌, ℕ, ◌+◌, ◌<◌, ◌≤◌, zero, suc, List, [], ◌∷◌, ◌++◌, Bool, ◌&&◌, length, get_or, drop, refl, ap, sym, subst, ◌∙◌, arith, true, false, ◌⊎◌, inl, inr}
-use Rattle.std.specs.Prelude.{bytes_eq, All, Option, Some, None, IfSome}
+use Rattle.std.proofs.Common.{◌≡◌, ◌≢◌, ℕ, ◌+◌, ◌<◌, ◌≤◌, zero, suc, List, [], ◌∷◌, ◌++◌, Bool, ◌&&◌, length, get_or, drop, map, take, refl, ap, sym, subst, ◌∙◌, arith, true, false, ◌⊎◌, inl, inr}
+use Rattle.std.specs.Prelude.{bytes_eq, slice_index_or, All, Option, Some, None, IfSome}
 use Rattle.std.proofs.lemmas.Bool.{cases_lt, eq-eqb, eqb-true}
-use Rattle.std.proofs.lemmas.List.{get_or-map, get_or_default, length-map}
+use Rattle.std.proofs.lemmas.List.{get_or-map, get_or_default, length-map, map-append, map_more}
 use Rattle.std.proofs.lemmas.List.Elements.{All-append, All-cons, All-from_get_or, All-get_or, All-nil}
 use Rattle.std.proofs.lemmas.Option.{unwrap_or-slice_get}
 use Rattle.std.proofs.lemmas.Slice.Eq.{slice_eq-Decides}
@@ -15,7 +15,7 @@ use Rattle.relation_laws.proofs.EqualityLemmas.{same_row_decides, same_value_dec
 use Rattle.group_index.specs.Places.{last_below, place_before}
 use Rattle.group_index.specs.Chains.{has_hash, hash_at, last_of_hash}
 use Rattle.cell_hashes.specs.Hashes.{hash_of}
-use Rattle.group_index.specs.Keys.{AreHashed, AreWide, stands_at, key_at, place_of}
+use Rattle.group_index.specs.Keys.{AreHashed, AreWide, StandsAt, first_guess, stands_at, key_at, place_of}
 use Rattle.group_index.proofs.PlaceLemmas.{last_below-at, last_below-over, last_below-passes, last_below-skip, last_below-within}
 
 -- one more than a place, 0 for none
@@ -68,11 +68,8 @@ module _ (keys : List (List Value)) (hashes : List ℕ) (key : List Value) (hash
     at = place-at n (last_below (has_hash hashes (hash_of key)) n) refl le;
   }
 
-  pub begins-at : IsAt keys hashes key (last_of_hash hashes (hash_of key) (length hashes))
-  begins-at = ap-at (sym long)
-    where
-      ap-at : length keys ≡ length hashes → IsAt keys hashes key (last_of_hash hashes (hash_of key) (length hashes))
-      ap-at e = subst (λ (n : ℕ). IsAt keys hashes key (last_of_hash hashes (hash_of key) n)) e (is-at (length keys) (omega arith) refl)
+  pub begins-at : IsAt keys hashes key (last_of_hash hashes (hash_of key) (length keys))
+  begins-at = is-at (length keys) (omega arith) refl
 
   pub goes-on : (place : ℕ) → IsAt keys hashes key (Some place) → same_row (key_at keys place) key ≡ false
       → IsAt keys hashes key (last_of_hash hashes (hash_at hashes place) place)
@@ -179,3 +176,37 @@ stands-there keys key place is =
       omega (arith, e, last_below-within (stands_at keys key) (length keys)),
       (same_row_decides (key_at keys place) key).0 (last_below-passes (stands_at keys key) (length keys) place e),
     )
+
+-- the first guess of a key by the hashes of the keys
+pub guess-by_hash : (keys : List (List Value)) (hashes : List ℕ) (key : List Value) (hash : ℕ) → AreHashed keys hashes → hash ≡ hash_of key
+    → last_of_hash hashes hash (length hashes) ≡ first_guess keys key
+guess-by_hash keys hashes key hash hashed is =
+    (λ i. last_of_hash (hashed i) (is i) (length (hashed i)))
+    ∙ ap (last_of_hash (map hash_of keys) (hash_of key)) (length-map keys hash_of)
+
+-- the same of one of some rows
+pub guess-of_each : (make : List Value → List Value) (keys rows : List (List Value)) (hashes wanted : List ℕ) (guesses : List (Option ℕ)) (i : ℕ) (d : Option ℕ)
+    → AreHashed keys hashes → wanted ≡ map (λ row. hash_of (make row)) rows → guesses ≡ map (λ hash. last_of_hash hashes hash (length hashes)) wanted → i < length rows
+    → get_or guesses i d ≡ first_guess keys (make (slice_index_or rows i []))
+guess-of_each make keys rows hashes wanted guesses i d hashed wants guess lt =
+    let hash = λ (row : List Value). hash_of (make row) in
+    let last = λ (h : ℕ). last_of_hash hashes h (length hashes) in
+    ap (λ gs. get_or gs i d) (guess ∙ ap (map last) wants)
+    ∙ get_or-map last (map hash rows) i 0 d (omega (arith, lt, length-map rows hash))
+    ∙ guess-by_hash keys hashes (make (slice_index_or rows i [])) (get_or (map hash rows) i 0) hashed (get_or-map hash rows i [] 0 lt)
+
+-- where the keys of some rows stand: with one more, and one of them
+pub stands-more : (make : List Value → List Value) (keys rows : List (List Value)) (found : List (Option ℕ)) (i : ℕ) (place : Option ℕ)
+    → i < length rows → StandsAt keys (map make (take i rows)) found → place ≡ place_of keys (make (slice_index_or rows i []))
+    → StandsAt keys (map make (take (i + 1) rows)) (found ++ place ∷ [])
+stands-more make keys rows found i place lt so_far is =
+    ap (λ fs. fs ++ place ∷ []) so_far
+    ∙ ap (λ (o : Option ℕ). map (place_of keys) (map make (take i rows)) ++ o ∷ []) is
+    ∙ sym (ap (map (place_of keys)) (map_more make rows i [] lt) ∙ map-append (place_of keys) (map make (take i rows)) (make (slice_index_or rows i []) ∷ []))
+
+pub stands-each : (make : List Value → List Value) (keys rows : List (List Value)) (found : List (Option ℕ)) (i : ℕ) (d : Option ℕ)
+    → StandsAt keys (map make rows) found → i < length rows → get_or found i d ≡ place_of keys (make (slice_index_or rows i []))
+stands-each make keys rows found i d stands lt =
+    ap (λ fs. get_or fs i d) stands
+    ∙ get_or-map (place_of keys) (map make rows) i [] d (omega (arith, lt, length-map rows make))
+    ∙ ap (place_of keys) (get_or-map make rows i [] [] lt)

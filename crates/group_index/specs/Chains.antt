@@ -30,6 +30,10 @@ AreLinked mask links =
     (place : ℕ) → place < length links
     → (link_at links place).before ≡ last_below (sits mask (hashes_of links) (bit_and (hash_at (hashes_of links) place) mask)) place
 
+-- the head of a hash's bucket
+abbrev pub head_of : ℕ → List ℕ → ℕ → ℕ
+head_of mask heads hash = slice_index_or heads (bit_and hash mask) 0
+
 -- and each head the last place of its bucket
 abbrev pub AreHeads : ℕ → List ℕ → List Link → Type 0
 AreHeads mask heads links =

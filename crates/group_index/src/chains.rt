@@ -1,5 +1,5 @@
-ghost use Rattle.std.specs.Prelude.{◌≡◌, ◌<◌, ◌≤◌, ◌++◌, ◌∷◌, [], ◌^◌, length, IfOk, OnOk, OnErr};
-ghost use Rattle.group_index.specs.Chains.{IsOnChain, hash_at, hashes_of, last_of_hash};
+ghost use Rattle.std.specs.Prelude.{◌≡◌, ◌<◌, ◌≤◌, ◌++◌, ◌∷◌, [], ◌^◌, length, map, IfOk, OnOk, OnErr};
+ghost use Rattle.group_index.specs.Chains.{IsOnChain, hash_at, hashes_of, head_of, last_of_hash};
 
 use sql_values::{Memory, Row, RowList};
 use std::alloc::Global;
@@ -64,8 +64,21 @@ impl HashChains {
     pub fn last_of(&self, hash: u64) -> Option<usize>
         ensures { result ≡ last_of_hash self.now hash (length self.now) }
     {
-        let head = self.heads[(hash & self.mask) as usize];
+        let head = head_of(self.mask, &self.heads, hash);
         go_along(&self.links, hash, head)
+    }
+
+    /// The last place of each of some hashes.
+    pub fn last_of_each(&self, hashes: &[u64]) -> Result<Vec<Option<usize>>, Memory>
+        ensures { IfOk result (λ lasts. lasts.items
+            ≡ map (λ hash. last_of_hash self.now hash (length self.now)) hashes.now) }
+    {
+        let heads = heads_of(self.alloc, self.mask, &self.heads, hashes)?;
+        let mut lasts = Vec::with_capacity(self.alloc, hashes.len())?;
+        for place in 0..hashes.len() {
+            lasts.push(go_along(&self.links, hashes[place], heads[place]))?;
+        }
+        Ok(lasts)
     }
 
     /// The last place before this one that has its hash.
@@ -134,6 +147,26 @@ impl HashChains {
         self.heads[bucket] = self.links.len() as u32;
         Ok(())
     }
+}
+
+/// The heads of the buckets of hashes. They are read one behind the other, so that none waits for another's chain.
+fn heads_of(alloc: Global, mask: u64, heads: &[u32], hashes: &[u64]) -> Result<Vec<u32>, Memory>
+    requires { mask < length heads.now }
+    ensures { IfOk result (λ found. found.items ≡ map (head_of mask heads.now) hashes.now) }
+{
+    let mut found = Vec::with_capacity(alloc, hashes.len())?;
+    for hash in hashes {
+        found.push(head_of(mask, heads, *hash))?;
+    }
+    Ok(found)
+}
+
+/// The head of a hash's bucket.
+fn head_of(mask: u64, heads: &[u32], hash: u64) -> u32
+    requires { mask < length heads.now }
+    ensures { result ≡ head_of mask heads.now hash }
+{
+    heads[(hash & mask) as usize]
 }
 
 /// Goes along a chain to the last place of a hash.

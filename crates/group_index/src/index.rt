@@ -1,12 +1,13 @@
-ghost use Rattle.std.specs.Prelude.{◌≡◌, ◌<◌, ◌++◌, ◌∷◌, [], bytes_eq, length, slice_index_or, IfOk, OnOk, OnErr};
+ghost use Rattle.std.specs.Prelude.{◌≡◌, ◌<◌, ◌++◌, ◌∷◌, [], bytes_eq, length, map, slice_index_or, IfOk, OnOk, OnErr};
 ghost use Rattle.sql_values.specs.Cells.{cell, cut, lent_value};
 ghost use Rattle.relation_laws.specs.Equality.{same_row, same_value};
-ghost use Rattle.group_index.specs.Keys.{AreWide, key_at, place_of};
+ghost use Rattle.group_index.specs.Keys.{AreWide, StandsAt, first_guess, key_at, place_of};
 
 use crate::chains::HashChains;
-use crate::hashes::hash_cells;
+use crate::hashes::{hash_cells, hash_rows};
 use cell_hashes::{NO_VALUE, hash_value};
-use sql_exprs::Cells;
+use col_pages::Page;
+use sql_exprs::{Cells, PageRow};
 use sql_values::{Memory, Row, RowList, SqlType, ValueRef, compare_values};
 use std::alloc::Global;
 use std::marker::Model;
@@ -80,11 +81,46 @@ impl GroupIndex {
         self.find_cells(columns, cells)
     }
 
-    /// The same of a key of one cell, which is read once.
+    /// The last place at which the key of each row of a page stands. What is read of memory for one row waits for
+    /// no other row, so that it takes less time than to find them one by one where there are many keys.
+    pub fn seek_rows(&self, columns: &[u32], page: &Page) -> Result<Vec<Option<usize>>, Memory>
+        ensures { IfOk result (λ found. StandsAt self.now (map (cut columns.now) page.now.rows) found.items) }
+    {
+        let hashes = hash_rows(self.alloc, columns, page)?;
+        let guesses = self.chains.last_of_each(&hashes)?;
+        let mut found = Vec::with_capacity(self.alloc, guesses.len())?;
+        for position in 0..page.len() {
+            let row = PageRow { page, position };
+            found.push(self.find_from(guesses[position as usize], columns, &row))?;
+        }
+        Ok(found)
+    }
+
+    /// The last place at which the key of a row stands, sought from its first guess on.
+    fn find_from<C: Cells>(&self, guess: Option<usize>, columns: &[u32], cells: &C) -> Option<usize>
+        requires { guess ≡ first_guess self.now (cut columns.now (C.values cells.now)) }
+        ensures { result ≡ place_of self.now (cut columns.now (C.values cells.now)) }
+    {
+        if let [column] = columns {
+            return self.find_cell_from(guess, cells.cell(*column));
+        }
+        self.find_cells_from(guess, columns, cells)
+    }
+
+    /// The last place of a key of one cell, which is read once.
     fn find_cell(&self, key: ValueRef<'_>) -> Option<usize>
         ensures { result ≡ place_of self.now (lent_value key.entry ∷ []) }
     {
-        let mut found = self.chains.last_of(hash_value(NO_VALUE, key));
+        let guess = self.chains.last_of(hash_value(NO_VALUE, key));
+        self.find_cell_from(guess, key)
+    }
+
+    /// The same, from its first guess on.
+    fn find_cell_from(&self, guess: Option<usize>, key: ValueRef<'_>) -> Option<usize>
+        requires { guess ≡ first_guess self.now (lent_value key ∷ []) }
+        ensures { result ≡ place_of self.now (lent_value key.entry ∷ []) }
+    {
+        let mut found = guess;
         while let Some(place) = found {
             if self.is_key(place, key) {
                 return Some(place);
@@ -102,11 +138,25 @@ impl GroupIndex {
         self.width == 1 && is_same(self.keys.cell(place, 0), key)
     }
 
-    /// The same of a key of any number of cells.
+    /// The last place of a key of any number of cells.
     fn find_cells<C: Cells>(&self, columns: &[u32], cells: &C) -> Option<usize>
         ensures { result ≡ place_of self.now (cut columns.now (C.values cells.now)) }
     {
-        let mut found = self.chains.last_of(hash_cells(columns, cells));
+        let guess = self.chains.last_of(hash_cells(columns, cells));
+        self.find_cells_from(guess, columns, cells)
+    }
+
+    /// The same, from its first guess on.
+    fn find_cells_from<C: Cells>(
+        &self,
+        guess: Option<usize>,
+        columns: &[u32],
+        cells: &C,
+    ) -> Option<usize>
+        requires { guess ≡ first_guess self.now (cut columns.now (C.values cells.now)) }
+        ensures { result ≡ place_of self.now (cut columns.now (C.values cells.now)) }
+    {
+        let mut found = guess;
         while let Some(place) = found {
             if self.is_key_of(place, columns, cells) {
                 return Some(place);

@@ -3,9 +3,10 @@
 //!
 //! - `index`: `GroupIndex`, the keys
 //! - `chains`: `HashChains`, places of one hash behind one another, from the last to the first
-//! - `hashes`: hashes of the cells of a row
+//! - `hashes`: hashes of the cells of a row, and of each row of a page
 //!
 //! No row is made and no text is copied to find a key; a key that is new is copied. Keys can stand in columns.
+//! `seek_rows` finds the keys of a page together, for indexes that are larger than what is near the processor.
 #![tactic(auto)]
 
 mod chains;

@@ -1,12 +1,13 @@
 use Rattle.std.proofs.Common.{◌≡◌, ◌++◌, length, take}
 use Rattle.aggregation.specs.Alike.{TellAlike, part_rows}
-use Rattle.aggregation.specs.Tables.{held_in}
-use Rattle.aggregation.proofs.table.GroupTable.add_page.Given as goal
+use Rattle.aggregation.specs.Tables.{AreKept, held_in}
+use Rattle.aggregation.proofs.table.GroupTable.add_rows_near.Given as goal
 
--- the first rows were taken
+-- the first rows were taken, and each key stands where it stood
 abbrev pub invariant-loop-position : goal.invariant-loop-position
 invariant-loop-position l = record {
   same : record l.self { keys = l.initial.self.keys; partials = l.initial.self.partials } ≡ l.initial.self;
   alike : TellAlike (length l.initial.self.columns) l.initial.self.calls (held_in l.self)
       (held_in l.initial.self ++ part_rows l.initial.self.columns l.initial.self.calls (take l.position l.page.rows));
+  kept : AreKept l.initial.self.keys l.self.keys;
 }

@@ -1,7 +1,7 @@
 use Rattle.std.proofs.Common.{◌≡◌, ◌++◌, length, map, take}
 use Rattle.aggregation.specs.Alike.{TellAlike, held_row}
 use Rattle.aggregation.specs.Tables.{held_in}
-use Rattle.aggregation.proofs.table.GroupTable.merge_page.Given as goal
+use Rattle.aggregation.proofs.table.GroupTable.merge_rows.Given as goal
 
 -- the first rows were taken
 abbrev pub invariant-loop-position : goal.invariant-loop-position

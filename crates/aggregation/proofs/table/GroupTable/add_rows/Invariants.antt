@@ -1,0 +1,12 @@
+use Rattle.std.proofs.Common.{◌≡◌, ◌++◌, length, take}
+use Rattle.aggregation.specs.Alike.{TellAlike, part_rows}
+use Rattle.aggregation.specs.Tables.{held_in}
+use Rattle.aggregation.proofs.table.GroupTable.add_rows.Given as goal
+
+-- the first rows were taken
+abbrev pub invariant-loop-position : goal.invariant-loop-position
+invariant-loop-position l = record {
+  same : record l.self { keys = l.initial.self.keys; partials = l.initial.self.partials } ≡ l.initial.self;
+  alike : TellAlike (length l.initial.self.columns) l.initial.self.calls (held_in l.self)
+      (held_in l.initial.self ++ part_rows l.initial.self.columns l.initial.self.calls (take l.position l.page.rows));
+}

@@ -15,6 +15,7 @@
 //! - `filters`: its cells of two parts, and what its operator lets through
 //! - `trees`: small trees over constants, by `tree_evaluator`
 //! - `cell_texts`: values as texts, and two results as one
+//! - `sorts`: rows by one key, through `topn_sort`
 //! - `exprs`: expressions over a column of whole numbers
 #![tactic(auto)]
 
@@ -42,6 +43,8 @@ mod page_texts;
 mod python_groups;
 #[cfg(test)]
 mod rows;
+#[cfg(test)]
+mod sorts;
 #[cfg(test)]
 mod states;
 #[cfg(test)]

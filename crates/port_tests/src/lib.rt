@@ -4,6 +4,7 @@
 //! - `words`: the arguments of `command_line`, and what they ask for
 //! - `tables`: texts in CSV, read and printed by `csv_tables`
 //! - `parts`: the same texts, read as parts by `table_parts`
+//! - `texts`: results, printed by `csv_tables` and as parts by `table_parts`
 //! - `demo`: the documents of `demo_documents`
 #![tactic(auto)]
 
@@ -15,5 +16,7 @@ mod parts;
 mod ports;
 #[cfg(test)]
 mod tables;
+#[cfg(test)]
+mod texts;
 #[cfg(test)]
 mod words;

@@ -14,7 +14,7 @@ pub(crate) fn push_column(
 }
 
 /// A number in `a`.
-fn number(alloc: Global) -> Result<Vec<Column>, Memory> {
+pub(crate) fn number(alloc: Global) -> Result<Vec<Column>, Memory> {
     let mut columns = Vec::new(alloc);
     push_column(alloc, &mut columns, "a", SqlType::Bigint)?;
     Ok(columns)
@@ -37,7 +37,7 @@ fn read_pair(alloc: Global, limit: u16, bytes: &[u8]) -> Result<Table, TableFaul
     read_table(alloc, columns.as_slice(), u32::from(limit), bytes)
 }
 
-fn names_of(alloc: Global, columns: &[Column]) -> Result<Vec<Text>, Memory> {
+pub(crate) fn names_of(alloc: Global, columns: &[Column]) -> Result<Vec<Text>, Memory> {
     let mut names = Vec::new(alloc);
     for column in columns {
         names.push(column.name.copy(alloc)?)?;
@@ -45,7 +45,7 @@ fn names_of(alloc: Global, columns: &[Column]) -> Result<Vec<Text>, Memory> {
     Ok(names)
 }
 
-fn types_of(alloc: Global, columns: &[Column]) -> Result<Vec<SqlType>, Memory> {
+pub(crate) fn types_of(alloc: Global, columns: &[Column]) -> Result<Vec<SqlType>, Memory> {
     let mut types = Vec::new(alloc);
     for column in columns {
         types.push(column.kind)?;

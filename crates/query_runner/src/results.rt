@@ -12,7 +12,6 @@ ghost use Rattle.query_runner.specs.Answers.{IsTextOf, RunFails};
 ghost use Rattle.tree_evaluator.specs.Stops.{rows_of_table};
 
 use crate::status::Status;
-use csv_tables::text_of;
 use plan_link_laws::read_plans_are_consistent;
 use plan_reader::{Plan, tree};
 use plan_trees::types_of_tree;
@@ -23,6 +22,7 @@ use std::marker::PhantomData;
 use std::random::RandomSource;
 use std::sync::Wait;
 use std::thread::Threads;
+use table_parts::text_in_parts;
 use task_executor::{
     Net, PassedList, RunDone, RunFault, Shape, Wiring, counts_are_allowed, run_alone, run_workers,
 };
@@ -60,7 +60,7 @@ where
         (RunFails (plan_view plan.now) (map rows_of_table tables.now)) }
 {
     let done = run_of(rt, alloc, shape, plan, tables, courier, meet);
-    text_of_run(alloc, plan, tables, done)
+    text_of_run(rt, alloc, shape.workers, plan, tables, done)
 }
 
 /// The text of what the plan gives over its tables, on this thread, under these picks of drivers.
@@ -87,12 +87,14 @@ where
         (RunFails (plan_view plan.now) (map rows_of_table tables.now)) }
 {
     let done = run_alone_of(rt, alloc, shape, plan, tables, courier, picks);
-    text_of_run(alloc, plan, tables, done)
+    text_of_run(rt, alloc, 1, plan, tables, done)
 }
 
-/// The text of what a run gave, with its counts.
-fn text_of_run(
+/// The text of what a run gave, printed by at most so many workers, with its counts.
+fn text_of_run<R: Threads + Sync>(
+    rt: &R,
     alloc: Global,
+    workers: u32,
     plan: &Plan,
     tables: &[Table],
     done: Result<RunDone, RunFault>,
@@ -112,7 +114,14 @@ fn text_of_run(
     match done {
         Ok(done) => {
             let types = types_of_tree(alloc, &tree(alloc, plan)?)?;
-            let text = text_of(alloc, plan.output.as_slice(), types.as_slice(), &done.rows)?;
+            let text = text_in_parts(
+                rt,
+                alloc,
+                workers,
+                plan.output.as_slice(),
+                types.as_slice(),
+                &done.rows,
+            )?;
             Ok(PlanResult {
                 text,
                 passed: done.passed,

@@ -7,6 +7,7 @@
 //! - `values`: its rows of the plan
 //! - `states`: the groups of `accumulators`
 //! - `keys`: the index of `group_index`
+//! - `many_groups`: the groups of `aggregation`, below and past the number from which keys are sought together
 //! - `halves`: the operators of `aggregation`, in one and by the halves of `stage_meanings`; `page_texts` makes pages of texts
 //!   and texts of pages, and `python_groups` has rows and their groups
 //! - `lookups`: the index of `join_index`
@@ -35,6 +36,8 @@ mod joins;
 mod keys;
 #[cfg(test)]
 mod lookups;
+#[cfg(test)]
+mod many_groups;
 #[cfg(test)]
 mod operators;
 #[cfg(test)]

@@ -1,5 +1,5 @@
 -- Pages and their builders, as they are seen.
-use Rattle.std.specs.Prelude.{◌≡◌, ℕ, ◌≤◌, List, [], ◌∷◌, length, map}
+use Rattle.std.specs.Prelude.{◌≡◌, ℕ, ◌≤◌, List, [], ◌∷◌, ◌++◌, length, map}
 use Rattle.sql_values.specs.declared.types.SqlType.{SqlType}
 use Rattle.sql_values.specs.declared.value.Value.{Value}
 use Rattle.sql_values.specs.Cells.{cell}
@@ -14,6 +14,11 @@ pub record TypedPage : Type 0 where
 -- the most rows of a page
 abbrev pub most_rows : ℕ
 most_rows = 8192
+
+-- the rows of pages, in order
+abbrev pub rows_in : List TypedPage → List (List Value)
+rows_in [] = []
+rows_in (page ∷ pages) = page.rows ++ rows_in pages
 
 abbrev pub page_of : TypedRows → TypedPage
 page_of held = record { types = held.types; rows = held.rows }

@@ -1,9 +1,9 @@
 -- The rows of pages that each have a row.
 use Rattle.std.proofs.Common.{◌≡◌, ◌<◌, List, [], ◌∷◌, ◌++◌, length, refl, append_assoc, append-nil, sym, arith}
 use Rattle.std.specs.Prelude.{◌↔◌}
-use Rattle.col_pages.specs.Pages.{TypedPage}
+use Rattle.col_pages.specs.Pages.{TypedPage, rows_in}
 use Rattle.operator_core.specs.Rows.{Row}
-use Rattle.operator_core.specs.Held.{rows_in, AllFull}
+use Rattle.operator_core.specs.Held.{AllFull}
 
 pub not_empty : (rows more : List Row) → 0 < length rows → rows ++ more ≡ [] → ⊥
 not_empty [] more h e = absurd (omega arith)

@@ -18,7 +18,8 @@ impl Model for HeldPages {
 
     ghost Value = { List (List Cell) };
 
-    ghost use Rattle.operator_core.specs.Held.{rows_in, AllFull};
+    ghost use Rattle.col_pages.specs.Pages.{rows_in};
+    ghost use Rattle.operator_core.specs.Held.{AllFull};
 
     ghost view = { λ h. rows_in h.pages };
 

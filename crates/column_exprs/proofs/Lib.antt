@@ -3,3 +3,5 @@ pub mod PlaceLemmas
 pub mod CompareLemmas
 pub mod LaneLemmas
 pub mod MarkLemmas
+pub mod KeptLemmas
+pub mod ChainLemmas

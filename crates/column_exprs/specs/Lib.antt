@@ -1,3 +1,5 @@
 pub mod Operands
 pub mod Comparisons
 pub mod Lanes
+pub mod Kept
+pub mod Chains

@@ -3,6 +3,7 @@ ghost use Rattle.std.specs.Ordering.{int_cmp};
 ghost use Rattle.std.specs.Simd.Lanes.{zip2};
 ghost use Rattle.sql_values.specs.declared.types.SqlType.TheVariants as kind_is;
 ghost use Rattle.sql_values.specs.declared.value.Value.TheVariants as value_is;
+ghost use Rattle.sql_values.specs.Blocks.{or_null};
 ghost use Rattle.sql_values.specs.Cells.{lent_value};
 ghost use Rattle.sql_functions.specs.Comparison.{compared};
 ghost use Rattle.column_exprs.specs.Comparisons.{both, holds, name_of};
@@ -143,14 +144,28 @@ fn beside(
     ensures cells { IfOk result (λ o. IfSome o (λ b. b.cells
         ≡ zip2 (compared (name_of op)) first.now.cells second.now.cells)) }
 {
-    let Some(numbers) = first.bigints() else {
+    let Some(numbers) = bigints_of(first) else {
         return Ok(None);
     };
-    let Some(others) = second.bigints() else {
+    let Some(others) = bigints_of(second) else {
         return Ok(None);
     };
     let truths = column_truths(alloc, op, numbers, others)?;
     Ok(Some(Block::of_booleans(truths)))
+}
+
+/// The numbers of a block, where it is plain and they are bigints.
+fn bigints_of(block: &Block) -> Option<&Nullable<i64>>
+    ensures { IfSome result (λ c. block.now.cells ≡ map (or_null value_is.Bigint) c.now) }
+{
+    block.plain()?.bigints()
+}
+
+/// The days of a block, where it is plain and they are dates.
+fn dates_of(block: &Block) -> Option<&Nullable<i32>>
+    ensures { IfSome result (λ c. block.now.cells ≡ map (or_null value_is.Date) c.now) }
+{
+    block.plain()?.dates()
 }
 
 /// For each two numbers whether the comparison holds; missing where one of them is.
@@ -215,7 +230,7 @@ fn against_number(
     ensures cells { IfOk result (λ o. IfSome o (λ b. b.cells
         ≡ map (λ v. compared (name_of op) v (value_is.Bigint number)) block.now.cells)) }
 {
-    match block.bigints() {
+    match bigints_of(block) {
         Some(numbers) => {
             let truths = value_truths(alloc, op, numbers, number)?;
             Ok(Some(Block::of_booleans(truths)))
@@ -230,7 +245,7 @@ fn against_day(alloc: Global, op: Compare, block: &Block, day: i32) -> Result<Op
     ensures cells { IfOk result (λ o. IfSome o (λ b. b.cells
         ≡ map (λ v. compared (name_of op) v (value_is.Date day)) block.now.cells)) }
 {
-    match block.dates() {
+    match dates_of(block) {
         Some(days) => {
             let truths = truths_of(alloc, op, days, day)?;
             Ok(Some(Block::of_booleans(truths)))

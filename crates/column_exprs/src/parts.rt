@@ -1,11 +1,15 @@
 ghost use Rattle.std.specs.Prelude.{◌≡◌, length, map, IfOk, IfSome, IsTrue};
 ghost use Rattle.sql_exprs.specs.Forms.{Form, call, cast, column, form_view, forms_of, more, none};
+ghost use Rattle.sql_exprs.specs.Meaning.{kind_of};
+ghost use Rattle.column_exprs.specs.Chains.{GoesOn, chain_name};
 ghost use Rattle.column_exprs.specs.Operands.{AreRows, HasCells, IsOperand, is_strict};
 
+use crate::chain::{Chain, joined_made};
+use crate::kept::{kept_positions, part_at};
 use crate::made::{binary_made, cast_made, unary_made};
 use crate::operand::Operand;
 use crate::rows::Rows;
-use sql_exprs::Expr;
+use sql_exprs::{Expr, kind_of};
 use sql_functions::CallName;
 use sql_values::{Memory, SqlType, ValueRef};
 use std::alloc::Global;
@@ -30,7 +34,10 @@ pub fn operand_of<'a>(
             kind: *kind,
             value: ValueRef::Null,
         })),
-        Expr::Call { name, args } => call_operand(alloc, *name, args.as_slice(), rows),
+        Expr::Call { name, args } => {
+            let kind = kind_of(rows.page.types(), expr);
+            call_operand(alloc, *name, kind, args.as_slice(), rows)
+        }
         Expr::Cast { arg, kind } => cast_operand(alloc, arg, *kind, rows),
         Expr::Case { .. } => Ok(None),
     }
@@ -74,17 +81,71 @@ fn cast_operand<'a>(
 fn call_operand<'a>(
     alloc: Global,
     name: CallName,
+    kind: SqlType,
     args: &'a [Expr],
     rows: Rows<'a>,
 ) -> Result<Option<Operand<'a>>, Memory>
-    requires { AreRows rows }
+    requires rows { AreRows rows }
+    requires kind { kind ≡ kind_of rows.page.now.types
+        (call name (forms_of (map form_view args.now))) }
     ensures { IfOk result (λ o. IfSome o
         (IsOperand (call name (forms_of (map form_view args.now))) rows.entry)) }
 {
-    if !is_strict(name) {
-        return Ok(None);
+    match Chain::of(name) {
+        Some(chain) => chain_operand(alloc, chain, kind, args, rows),
+        None => strict_operand(alloc, name, args, rows),
     }
-    strict_operand(alloc, name, args, rows)
+}
+
+/// AND, OR or COALESCE: the value that settles nothing, and then one argument after the other.
+#[cycle(parts)]
+fn chain_operand<'a>(
+    alloc: Global,
+    chain: Chain,
+    kind: SqlType,
+    args: &'a [Expr],
+    rows: Rows<'a>,
+) -> Result<Option<Operand<'a>>, Memory>
+    requires rows { AreRows rows }
+    requires kind { kind ≡ kind_of rows.page.now.types
+        (call (chain_name chain) (forms_of (map form_view args.now))) }
+    ensures { IfOk result (λ o. IfSome o
+        (IsOperand (call (chain_name chain) (forms_of (map form_view args.now))) rows.entry)) }
+{
+    let mut so_far = Operand::Constant {
+        kind,
+        value: chain.start(),
+    };
+    for arg in args {
+        match part_joined(alloc, chain, kind, &so_far, arg, rows)? {
+            Some(next) => so_far = next,
+            None => return Ok(None),
+        }
+    }
+    Ok(Some(so_far))
+}
+
+/// The values so far with one more argument, which is evaluated at the rows that need it.
+#[cycle(parts)]
+fn part_joined<'a>(
+    alloc: Global,
+    chain: Chain,
+    kind: SqlType,
+    so_far: &Operand<'_>,
+    arg: &'a Expr,
+    rows: Rows<'a>,
+) -> Result<Option<Operand<'a>>, Memory>
+    requires rows { AreRows rows }
+    requires cells { HasCells so_far.now (length rows.positions.now) }
+    ensures { IfOk result (λ o. IfSome o
+        (GoesOn chain kind (more (form_view arg.now) none) rows.entry so_far.now)) }
+{
+    let kept = kept_positions(alloc, chain.test(), so_far, rows.positions)?;
+    let part = part_at(chain.test(), so_far, rows, kept.as_slice());
+    match operand_of(alloc, arg, part)? {
+        Some(later) => joined_made(alloc, chain, kind, so_far, &later, rows, part),
+        None => Ok(None),
+    }
 }
 
 /// A call that takes the values of all its arguments.
@@ -148,15 +209,5 @@ fn second_operand<'a>(
     match operand_of(alloc, right, rows)? {
         Some(second) => binary_made(alloc, name, first, &second, rows),
         None => Ok(None),
-    }
-}
-
-/// Whether a call takes the values of all its arguments.
-fn is_strict(name: CallName) -> bool
-    ensures { result ≡ is_strict name }
-{
-    match name {
-        CallName::And | CallName::Or | CallName::Coalesce => false,
-        _ => true,
     }
 }

@@ -1,10 +1,10 @@
 ghost use Rattle.std.specs.List.{range_with_len};
-ghost use Rattle.std.specs.Prelude.{◌≡◌, ◌-◌, ◌<◌, ◌≤◌, ◌↔◌, ◌++◌, [], if◌then◌else◌, length, map, take, drop, replicate, slice_index_or, IsTrue, IfOk, IfSome, IsSome, OnErr, All};
+ghost use Rattle.std.specs.Prelude.{◌≡◌, ◌-◌, ◌<◌, ◌≤◌, ◌↔◌, ◌++◌, [], if◌then◌else◌, length, map, take, drop, replicate, slice_index_or, IsTrue, IfOk, IfSome, OnErr, All};
 ghost use Rattle.columns.specs.Present.{gather};
 ghost use Rattle.sql_values.specs.declared.types.SqlType.TheVariants as kind_is;
 ghost use Rattle.sql_values.specs.declared.value.Value.TheVariants as value_is;
 ghost use Rattle.sql_values.specs.Cells.{lent_value};
-ghost use Rattle.sql_values.specs.Blocks.{fits, has_decimals, offered, or_null, with_cells, chosen, AreAll};
+ghost use Rattle.sql_values.specs.Blocks.{fits, offered, or_null, with_cells, chosen, AreAll};
 ghost use Rattle.sql_values.specs.Buckets.{GoOnBy};
 ghost use Rattle.sql_values.specs.Types.{has_type};
 
@@ -14,7 +14,7 @@ use crate::memory::Memory;
 use crate::plain_block::PlainBlock;
 use crate::types::SqlType;
 use crate::value::{Value, ValueRef};
-use columns::{Nullable, Texts, items_at};
+use columns::{Nullable, items_at};
 use std::alloc::Global;
 use std::marker::Model;
 
@@ -148,46 +148,6 @@ impl Block {
             Stored::Plain(block) => Some(block),
             _ => None,
         }
-    }
-
-    /// The truths, where the block is plain and has the type boolean.
-    pub fn booleans(&self) -> Option<&Nullable<bool>>
-        ensures kind { IsSome result → (self.now.kind ≡ kind_is.Boolean) }
-        ensures cells { IfSome result (λ c. self.now.cells ≡ map (or_null value_is.Boolean) c.now) }
-    {
-        self.plain()?.booleans()
-    }
-
-    /// The numbers, where the block is plain and has the type bigint.
-    pub fn bigints(&self) -> Option<&Nullable<i64>>
-        ensures kind { IsSome result → (self.now.kind ≡ kind_is.Bigint) }
-        ensures cells { IfSome result (λ c. self.now.cells ≡ map (or_null value_is.Bigint) c.now) }
-    {
-        self.plain()?.bigints()
-    }
-
-    /// The numbers without their points, where the block is plain and has a decimal type.
-    pub fn decimals(&self) -> Option<&Nullable<i128>>
-        ensures kind { IsSome result → IsTrue (has_decimals self.now.kind) }
-        ensures cells { IfSome result (λ c. self.now.cells ≡ map (or_null value_is.Decimal) c.now) }
-    {
-        self.plain()?.decimals()
-    }
-
-    /// The texts, where the block is plain and has the type varchar.
-    pub fn texts(&self) -> Option<&Texts>
-        ensures kind { IsSome result → (self.now.kind ≡ kind_is.Varchar) }
-        ensures cells { IfSome result (λ c. self.now.cells ≡ map (or_null value_is.Varchar) c.now) }
-    {
-        self.plain()?.texts()
-    }
-
-    /// The days, where the block is plain and has the type date.
-    pub fn dates(&self) -> Option<&Nullable<i32>>
-        ensures kind { IsSome result → (self.now.kind ≡ kind_is.Date) }
-        ensures cells { IfSome result (λ c. self.now.cells ≡ map (or_null value_is.Date) c.now) }
-    {
-        self.plain()?.dates()
     }
 
     /// The law that each cell has the variant of the block's type, or is NULL.

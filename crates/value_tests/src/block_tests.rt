@@ -2,7 +2,7 @@
 ghost use Rattle.std.specs.Prelude.{◌≡◌, IfOk, length};
 
 use crate::page_tests::second_column;
-use columns::Nullable;
+use columns::{Nullable, Texts};
 use sql_values::{Block, Memory, SqlType, ValueRef};
 use std::alloc::Global;
 
@@ -17,6 +17,26 @@ fn with_null<T: Copy + Default + Drop>(alloc: Global, item: T) -> Result<Nullabl
 /// Whether a block has two cells, the second of which is NULL.
 fn ends_with_null(block: &Block) -> bool {
     block.len() == 2 && matches!(block.cell(1), ValueRef::Null)
+}
+
+fn bigints_of(block: &Block) -> Option<&Nullable<i64>> {
+    block.plain()?.bigints()
+}
+
+fn dates_of(block: &Block) -> Option<&Nullable<i32>> {
+    block.plain()?.dates()
+}
+
+fn decimals_of(block: &Block) -> Option<&Nullable<i128>> {
+    block.plain()?.decimals()
+}
+
+fn booleans_of(block: &Block) -> Option<&Nullable<bool>> {
+    block.plain()?.booleans()
+}
+
+fn texts_of(block: &Block) -> Option<&Texts> {
+    block.plain()?.texts()
 }
 
 fn is_seven(numbers: Option<&Nullable<i64>>) -> bool {
@@ -52,8 +72,8 @@ fn a_block_lends_its_bigints(rt: HostRuntime) -> Result<(), Memory> {
     let block = Block::of_bigints(with_null(rt.alloc(), 7)?);
     assert!(rt; block.kind() == SqlType::Bigint);
     assert!(rt; ends_with_null(&block));
-    assert!(rt; is_seven(block.bigints()));
-    assert!(rt; block.dates().is_none());
+    assert!(rt; is_seven(bigints_of(&block)));
+    assert!(rt; dates_of(&block).is_none());
     Ok(())
 }
 
@@ -62,8 +82,8 @@ fn a_block_lends_its_days(rt: HostRuntime) -> Result<(), Memory> {
     let block = Block::of_dates(with_null(rt.alloc(), 7)?);
     assert!(rt; block.kind() == SqlType::Date);
     assert!(rt; ends_with_null(&block));
-    assert!(rt; is_day_seven(block.dates()));
-    assert!(rt; block.bigints().is_none());
+    assert!(rt; is_day_seven(dates_of(&block)));
+    assert!(rt; bigints_of(&block).is_none());
     Ok(())
 }
 
@@ -72,8 +92,8 @@ fn a_block_lends_its_decimals(rt: HostRuntime) -> Result<(), Memory> {
     let block = Block::of_decimals(3, 2, with_null(rt.alloc(), 7)?);
     assert!(rt; block.kind() == SqlType::Decimal { p: 3, s: 2 });
     assert!(rt; ends_with_null(&block));
-    assert!(rt; is_seven_hundredths(block.decimals()));
-    assert!(rt; block.texts().is_none());
+    assert!(rt; is_seven_hundredths(decimals_of(&block)));
+    assert!(rt; texts_of(&block).is_none());
     Ok(())
 }
 
@@ -82,8 +102,8 @@ fn a_block_lends_its_truths(rt: HostRuntime) -> Result<(), Memory> {
     let block = Block::of_booleans(with_null(rt.alloc(), true)?);
     assert!(rt; block.kind() == SqlType::Boolean);
     assert!(rt; ends_with_null(&block));
-    assert!(rt; is_true(block.booleans()));
-    assert!(rt; block.decimals().is_none());
+    assert!(rt; is_true(booleans_of(&block)));
+    assert!(rt; decimals_of(&block).is_none());
     Ok(())
 }
 
@@ -96,8 +116,8 @@ fn one_text(alloc: Global) -> Result<Block, Memory> {
 #[test]
 fn a_block_lends_its_texts(rt: HostRuntime) -> Result<(), Memory> {
     let block = one_text(rt.alloc())?;
-    assert!(rt; matches!(block.texts(), Some(texts) if texts.len() == 1));
-    assert!(rt; block.booleans().is_none());
+    assert!(rt; matches!(texts_of(&block), Some(texts) if texts.len() == 1));
+    assert!(rt; booleans_of(&block).is_none());
     Ok(())
 }
 

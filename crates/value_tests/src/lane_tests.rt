@@ -82,7 +82,7 @@ fn put_lines(builder: &mut PageBuilder, lines: &str) -> Result<(), Memory> {
     Ok(())
 }
 
-fn page_of(alloc: Global, lines: &str) -> Result<Page, Memory> {
+pub(crate) fn page_of(alloc: Global, lines: &str) -> Result<Page, Memory> {
     let mut builder = PageBuilder::new(alloc, &[WHOLE, WHOLE], 32)?;
     put_lines(&mut builder, lines)?;
     builder.build()
@@ -98,7 +98,10 @@ fn letter_of(cell: ValueRef<'_>) -> &'static str {
 }
 
 /// A letter for each truth, or the position of a failure.
-fn show_truths(text: &mut String, values: Result<Block, PageFault>) -> Result<(), Memory> {
+pub(crate) fn show_truths(
+    text: &mut String,
+    values: Result<Block, PageFault>,
+) -> Result<(), Memory> {
     match values {
         Ok(block) => {
             for place in 0..block.len() {

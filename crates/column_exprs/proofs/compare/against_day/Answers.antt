@@ -14,4 +14,4 @@ returns-in_ok-truths-in-Some-clause-cells c =
     let fits : FitsSigned w32 c.args.day = c.ranges.day in
     let truths : c.in_ok-truths-in-Some.truths ≡ map (option_map (λ x. holds c.args.op (int_cmp x c.args.day))) c.in-Some.days.now = simp to_z-of_z at c.in_ok-truths-in-Some.ensures in
     ap (λ (b : TypedCells). b.cells) c.of_booleans.ensures ∙ ap (map (or_null Boolean)) truths
-    ∙ against_days c.args.op c.args.day c.in-Some.days.now c.args.block.now.cells c.in-Some.ensures.cells
+    ∙ against_days c.args.op c.args.day c.in-Some.days.now c.args.block.now.cells c.in-Some.ensures

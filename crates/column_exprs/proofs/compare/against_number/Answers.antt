@@ -14,4 +14,4 @@ returns-in_ok-truths-in-Some-clause-cells c =
     let fits : FitsSigned w64 c.args.number = c.ranges.number in
     let truths : c.in_ok-truths-in-Some.truths ≡ map (option_map (λ x. holds c.args.op (int_cmp x c.args.number))) c.in-Some.numbers.now = simp to_z-of_z at c.in_ok-truths-in-Some.ensures in
     ap (λ (b : TypedCells). b.cells) c.of_booleans.ensures ∙ ap (map (or_null Boolean)) truths
-    ∙ against_numbers c.args.op c.args.number c.in-Some.numbers.now c.args.block.now.cells c.in-Some.ensures.cells
+    ∙ against_numbers c.args.op c.args.number c.in-Some.numbers.now c.args.block.now.cells c.in-Some.ensures

@@ -7,4 +7,4 @@ use Rattle.column_exprs.proofs.compare.beside.Goals as goal
 pub returns-clause-cells : goal.returns-clause-cells
 returns-clause-cells c =
     ap (λ (b : TypedCells). b.cells) c.of_booleans.ensures ∙ ap (map (or_null Boolean)) c.in_ok-truths.ensures
-    ∙ beside_numbers c.args.op c.in-Some.numbers.now c.in-Some-bigints.others.now c.args.first.now.cells c.args.second.now.cells c.in-Some.ensures.cells c.in-Some-bigints.ensures.cells
+    ∙ beside_numbers c.args.op c.in-Some.numbers.now c.in-Some-bigints_of.others.now c.args.first.now.cells c.args.second.now.cells c.in-Some.ensures c.in-Some-bigints_of.ensures

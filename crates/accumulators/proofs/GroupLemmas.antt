@@ -14,6 +14,7 @@ use Rattle.sql_values.specs.declared.relational.Call.{Call}
 use Rattle.sql_values.specs.declared.relational.Call.TheVariants.{CountAll, Count, Sum, Min, Max, Avg}
 use Rattle.sql_values.specs.Cells.{cell}
 use Rattle.sql_values.specs.Order.{number_in}
+use Rattle.sql_values.specs.ColumnRows.{TypedRows}
 use Rattle.sql_functions.specs.Outcomes.{Outcome}
 use Rattle.sql_functions.specs.Truth.{is_null}
 use Rattle.relation_laws.specs.Aggregates.{all_values, most_group_rows, within_rows}
@@ -337,3 +338,13 @@ nulls-more before now ks i k width lt is e h =
     ∙ append_assoc before (replicate n Null) (replicate width Null)
     ∙ ap (λ xs. before ++ xs) (replicate-append-replicate n width Null)
     ∙ ap (λ m. before ++ replicate m Null) (sym sum)
+
+-- the same of cells that are put into a row
+pub nulls-put : (before now next : TypedRows) (ks : List Kept) (i : ℕ) (k : Kept) (width : ℕ) → i < length ks → k ≡ get_or ks i k → width ≡ call_width k.call
+    → now ≡ record before { begun = before.begun ++ replicate (sum_by call_width (calls_of (take i ks))) Null }
+    → next ≡ record now { begun = now.begun ++ replicate width Null }
+    → next ≡ record before { begun = before.begun ++ replicate (sum_by call_width (calls_of (take (i + 1) ks))) Null }
+nulls-put before now next ks i k width lt is e h put =
+    put
+    ∙ ap (λ (r : TypedRows). record r { begun = r.begun ++ replicate width Null }) h
+    ∙ ap (λ (vs : List Value). record before { begun = vs }) (nulls-more before.begun (before.begun ++ replicate (sum_by call_width (calls_of (take i ks))) Null) ks i k width lt is e refl)

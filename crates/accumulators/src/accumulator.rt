@@ -11,11 +11,13 @@ ghost use Rattle.accumulators.specs.Limits.{are_allowed, is_partial, is_row_coun
 use crate::call_state::CallState;
 use crate::call_states::{
     add_each, all_results, are_each_null, begin_each, empty_states, firsts_of_part, firsts_of_row,
-    merge_each, push_all_columns, push_all_nulls, take_each, take_row,
+    merge_each, push_all_columns, push_all_nulls, put_all_columns, put_all_nulls, take_each,
+    take_row,
 };
 use crate::limits::MOST_ROWS;
+use crate::puts::put_cell;
 use sql_exprs::Cells;
-use sql_values::{Call, EvalFault, Memory, Row, RowList, SqlType, Value, ValueRef};
+use sql_values::{Call, ColumnRows, EvalFault, Memory, Row, RowList, SqlType, Value, ValueRef};
 use std::alloc::Global;
 use std::marker::Model;
 
@@ -160,6 +162,18 @@ impl Accumulator {
         }
         push_all_columns(self.alloc, &self.states, &mut values)?;
         Ok(Row::of(values))
+    }
+
+    /// Puts the group's partial row behind the first cells of a row. A cell that is not of its column's type is
+    /// answered as want of memory.
+    pub fn put_part(&self, rows: &mut ColumnRows) -> Result<(), Memory>
+        ensures { OnOk result (rows.new ≡ record rows.old { begun = rows.old.begun ++ self.now.partial }) }
+    {
+        put_cell(rows, ValueRef::Decimal(i128::from(self.rows)))?;
+        if MOST_ROWS < self.rows {
+            return put_all_nulls(&self.states, rows);
+        }
+        put_all_columns(&self.states, rows)
     }
 
     /// The law that another group of these calls can take the group's partial row.

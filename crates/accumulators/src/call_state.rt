@@ -13,11 +13,12 @@ ghost use Rattle.accumulators.specs.Limits.{CanMerge, CanTake, IsKept, are_colum
 
 use crate::firsts::{keep_copy, keep_first, push_first};
 use crate::limits::{MOST_ROWS, are_sum_and_count, greatest, is_count, is_number_of, is_sum};
+use crate::puts::{put_cell, put_sum};
 use crate::sums::{
     add_cell, add_count, add_sum, average_result, count_cell, sum_result, sum_value,
 };
 use sql_exprs::Cells;
-use sql_values::{Call, EvalFault, Fail, Memory, Order, SqlType, Value, ValueRef};
+use sql_values::{Call, ColumnRows, EvalFault, Fail, Memory, Order, SqlType, Value, ValueRef};
 use std::alloc::Global;
 use std::collections::VecDeque;
 use std::marker::Model;
@@ -284,6 +285,23 @@ impl CallState {
             }
         }
         Ok(())
+    }
+
+    /// Puts the call's columns into a row.
+    pub fn put_columns(&self, rows: &mut ColumnRows) -> Result<(), Memory>
+        ensures { OnOk result (rows.new ≡ record rows.old { begun = rows.old.begun ++ self.now.columns }) }
+    {
+        match &self.held {
+            Held::CountAll => Ok(()),
+            Held::Count { count, .. } => put_cell(rows, ValueRef::Bigint(*count as i64)),
+            Held::Sum { sum, .. } => put_sum(rows, *sum),
+            Held::Min { least, .. } => put_cell(rows, least.as_ref()),
+            Held::Max { most, .. } => put_cell(rows, most.as_ref()),
+            Held::Avg { sum, count, .. } => {
+                put_sum(rows, *sum)?;
+                put_cell(rows, ValueRef::Bigint(*count as i64))
+            }
+        }
     }
 
     /// The call's result in a group of so many rows.

@@ -10,9 +10,10 @@ ghost use Rattle.accumulators.specs.Limits.{CanAdd, CanMergeEach, CanTake, IsKep
 ghost use Rattle.accumulators.specs.Groups.{AllAnswer, all_outcomes};
 
 use crate::call_state::CallState;
+use crate::puts::put_nulls;
 use sql_exprs::Cells;
 use sql_functions::is_null;
-use sql_values::{Call, EvalFault, Memory, SqlType, Value};
+use sql_values::{Call, ColumnRows, EvalFault, Memory, SqlType, Value};
 use std::alloc::Global;
 use std::collections::VecDeque;
 
@@ -185,6 +186,28 @@ pub fn push_all_columns(
 {
     for state in states {
         state.push_columns(alloc, values)?;
+    }
+    Ok(())
+}
+
+/// Puts the columns of all into a row.
+pub fn put_all_columns(states: &[CallState], rows: &mut ColumnRows) -> Result<(), Memory>
+    ensures { OnOk result (rows.new ≡ record rows.old { begun = rows.old.begun ++ all_columns states.now }) }
+{
+    for state in states {
+        state.put_columns(rows)?;
+    }
+    Ok(())
+}
+
+/// Puts a NULL in place of each column into a row.
+pub fn put_all_nulls(states: &[CallState], rows: &mut ColumnRows) -> Result<(), Memory>
+    ensures { OnOk result (rows.new ≡ record rows.old {
+      begun = rows.old.begun ++ replicate (sum_by call_width (calls_of states.now)) value_is.Null;
+    }) }
+{
+    for state in states {
+        put_nulls(rows, state.width() as usize)?;
     }
     Ok(())
 }

@@ -15,6 +15,7 @@
 //! - `call_state`, `call_states`: what a group keeps of one call, and of all. `specs/Columns.antt` says which
 //!   columns the cells of a group make, `specs/Kept.antt` how cells and columns are merged in
 //! - `sums`, `firsts`: sums, counts and averages, and the first of some values
+//! - `puts`: cells of a row that is written into columns
 //! - `limits`: which cells and which columns a state can take, by `specs/Limits.antt`
 #![tactic(auto)]
 
@@ -23,6 +24,7 @@ mod call_state;
 mod call_states;
 mod firsts;
 mod limits;
+mod puts;
 mod sums;
 
 pub use accumulator::Accumulator;

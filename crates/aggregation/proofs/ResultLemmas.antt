@@ -129,20 +129,20 @@ module _ (columns : List ℕ) (calls : List Call) (types : List SqlType) (keys :
       ap length parts-told ∙ each-long (λ key partial. keeps (key ++ partial)) state.keys state.partials level
       ∙ sym level ∙ ap (λ (x : TableState). length x.partials) (sym view) ∙ length-map groups (λ (x : Group). x.partial)
 
-  part-there : (place : ℕ) (g : Group) (key part : List Value) → place < length groups → g ≡ get_or groups place g → key ≡ get_or keys place [] → part ≡ g.partial
-      → get_or (parts_with state []) place (keeps (key ++ part)) ≡ keeps (key ++ part)
-  part-there place g key part lt is at e =
-      let here : get_or state.keys place [] ≡ key = ap (λ (x : TableState). get_or x.keys place []) (sym view) ∙ sym at in
-      let told : get_or state.partials place [] ≡ part
-      = ap (λ (x : TableState). get_or x.partials place []) (sym view) ∙ get_or-map (λ (x : Group). x.partial) groups place g [] lt ∙ ap (λ (x : Group). x.partial) (sym is) ∙ sym e in
-      ap (λ vs. get_or vs place (keeps (key ++ part))) parts-told
-      ∙ each-at (λ k p. keeps (k ++ p)) state.keys state.partials place (keeps (key ++ part)) (omega (arith, inside place lt, ap (λ (x : TableState). length x.keys) view)) level
-      ∙ (λ i. keeps (here i ++ told i))
+  pub partial-there : (place : ℕ) (g : Group) → place < length groups → g ≡ get_or groups place g → get_or state.partials place [] ≡ g.partial
+  partial-there place g lt is =
+      ap (λ (x : TableState). get_or x.partials place []) (sym view) ∙ get_or-map (λ (x : Group). x.partial) groups place g [] lt ∙ ap (λ (x : Group). x.partial) (sym is)
 
-  pub part-more : (kinds : List SqlType) (place : ℕ) (g : Group) (key part : List Value) (old new : TypedRows) → place < length groups → g ≡ get_or groups place g → key ≡ get_or keys place [] → part ≡ g.partial
-      → AreResults kinds (take place (parts_with state [])) old → new ≡ record old { rows = old.rows ++ (key ++ part) ∷ [] } → AreResults kinds (take (place + 1) (parts_with state [])) new
-  part-more kinds place g key part old new lt is at e so_far put =
-      put-at (parts_with state []) kinds place old new (keeps (key ++ part)) (part-there place g key part lt is at e) (omega (arith, lt, parts-long)) so_far put
+  part-there : (place : ℕ) (d : Verdict) → place < length groups → get_or (parts_with state []) place d ≡ keeps (get_or state.keys place [] ++ get_or state.partials place [])
+  part-there place d lt =
+      ap (λ vs. get_or vs place d) parts-told
+      ∙ each-at (λ key partial. keeps (key ++ partial)) state.keys state.partials place d (omega (arith, inside place lt, ap (λ (x : TableState). length x.keys) view)) level
+
+  pub part-more : (kinds : List SqlType) (place : ℕ) (old new : TypedRows) → place < length groups → AreResults kinds (take place (parts_with state [])) old
+      → new ≡ record old { rows = old.rows ++ (get_or state.keys place [] ++ get_or state.partials place []) ∷ [] } → AreResults kinds (take (place + 1) (parts_with state [])) new
+  part-more kinds place old new lt so_far put =
+      let row = get_or state.keys place [] ++ get_or state.partials place [] in
+      put-at (parts_with state []) kinds place old new (keeps row) (part-there place (keeps row) lt) (omega (arith, lt, parts-long)) so_far put
 
   pub all-parts : (kinds : List SqlType) (place : ℕ) (rows : TypedRows) → length groups ≤ place → AreResults kinds (take place (parts_with state [])) rows → AreResults kinds (parts_with state []) rows
   all-parts kinds place rows le so_far =

@@ -387,10 +387,29 @@ impl GroupTable {
     {
         let mut rows = ColumnRows::new(self.alloc, kinds)?;
         for place in 0..self.groups.len() {
-            let part = self.groups[place].part()?;
-            self.put_group(&mut rows, place, &part)?;
+            self.put_part(place, &mut rows)?;
         }
         Ok(rows)
+    }
+
+    /// Appends the row of a group: its key, and its partial row.
+    fn put_part(&self, place: usize, rows: &mut ColumnRows) -> Result<(), Memory>
+        requires within { place < length self.now.keys }
+        requires whole { rows.old.begun ≡ [] }
+        ensures { OnOk result (rows.new ≡ record rows.old {
+          rows = rows.old.rows ++ (slice_index_or self.now.keys place [] ++ slice_index_or self.now.partials place []) ∷ [];
+        }) }
+    {
+        self.put_key(rows, place)?;
+        self.put_partial(place, rows)?;
+        if rows.end_row() { Ok(()) } else { Err(Memory) }
+    }
+
+    fn put_partial(&self, place: usize, rows: &mut ColumnRows) -> Result<(), Memory>
+        requires { place < length self.now.keys }
+        ensures { OnOk result (rows.new ≡ record rows.old { begun = rows.old.begun ++ slice_index_or self.now.partials place [] }) }
+    {
+        self.groups[place].put_part(rows)
     }
 
     /// Appends the row of a group.

@@ -1,5 +1,4 @@
-use Rattle.std.proofs.Common.{◌<◌, ◌≤◌, [], ap, get_or, length, sym, arith}
-use Rattle.aggregation.specs.Tables.{TableState}
+use Rattle.std.proofs.Common.{◌<◌, ◌≤◌, length, arith}
 use Rattle.aggregation.proofs.ResultLemmas.{all-parts, part-more}
 use Rattle.aggregation.proofs.table.GroupTable.parts.Goals as goal
 
@@ -8,8 +7,7 @@ loop-place-preserved c =
     let s = c.self.inside in
     let within : c.loop-place.place < length s.groups.items = omega (arith, c.loop-place-test.true, c.len-place-end.ensures, s.groups.ok.0) in
     part-more s.columns.items s.calls.items s.types.items s.index s.groups.items c.self.invariant c.args.self.now c.self.view_is c.args.kinds.now c.loop-place.place
-    c.index.result.now (get_or c.args.self.now.keys c.loop-place.place []) c.in_ok-part.part c.loop-place.rows c.put_group.new.rows within c.index.ensures
-    (ap (λ (t : TableState). get_or t.keys c.loop-place.place []) (sym c.self.view_is)) c.in_ok-part.ensures c.loop-place.invariant c.in_ok-put_group.ensures
+    c.loop-place.rows c.put_part.new.rows within c.loop-place.invariant c.in_ok-put_part.ensures
 
 pub returns : goal.returns
 returns c =

@@ -1,0 +1,33 @@
+ghost use Rattle.std.specs.Prelude.{◌≡◌, ◌++◌, ◌∷◌, [], OnOk, replicate};
+ghost use Rattle.sql_values.specs.declared.value.Value.TheVariants as value_is;
+ghost use Rattle.sql_values.specs.Cells.{lent_value};
+ghost use Rattle.accumulators.specs.Columns.{sum_cell};
+
+use sql_values::{ColumnRows, Memory, ValueRef};
+
+/// Puts a cell into a row. One that is not of the column's type is answered as want of memory.
+pub fn put_cell(rows: &mut ColumnRows, cell: ValueRef<'_>) -> Result<(), Memory>
+    ensures { OnOk result (rows.new ≡ record rows.old { begun = rows.old.begun ++ lent_value cell.entry ∷ [] }) }
+{
+    if rows.put(cell)? { Ok(()) } else { Err(Memory) }
+}
+
+/// Puts a sum into a row: NULL where nothing was added.
+pub fn put_sum(rows: &mut ColumnRows, sum: Option<i128>) -> Result<(), Memory>
+    ensures { OnOk result (rows.new ≡ record rows.old { begun = rows.old.begun ++ sum_cell sum ∷ [] }) }
+{
+    match sum {
+        None => put_cell(rows, ValueRef::Null),
+        Some(total) => put_cell(rows, ValueRef::Decimal(total)),
+    }
+}
+
+/// Puts so many NULLs into a row.
+pub fn put_nulls(rows: &mut ColumnRows, count: usize) -> Result<(), Memory>
+    ensures { OnOk result (rows.new ≡ record rows.old { begun = rows.old.begun ++ replicate count value_is.Null }) }
+{
+    for _place in 0..count {
+        put_cell(rows, ValueRef::Null)?;
+    }
+    Ok(())
+}

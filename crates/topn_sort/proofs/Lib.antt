@@ -1,5 +1,6 @@
 pub mod PlaceLemmas
 pub mod NumberLemmas
 pub mod WordLemmas
+pub mod BucketLemmas
 pub mod TopLemmas
 pub mod BufferLemmas

@@ -1,3 +1,4 @@
 pub mod Sorting
 pub mod SortingLaws
 pub mod Numbers
+pub mod Buckets

@@ -1,8 +1,9 @@
-ghost use Rattle.std.specs.Prelude.{◌≡◌, ◌<◌, ◌≤◌, ◌++◌, [], true, false, length, IfOk, OnOk, OnErr};
+ghost use Rattle.std.specs.Prelude.{◌≡◌, ◌<◌, ◌≤◌, ◌++◌, [], true, false, length, All, IfOk, OnOk, OnErr};
+ghost use Rattle.columns.specs.Present.{gather};
 ghost use Rattle.col_pages.specs.Pages.{most_rows};
 ghost use Rattle.operator_core.specs.Samples.{has_row};
 ghost use Rattle.col_pages.specs.Fits.{AllFit, IsOfTypes};
-ghost use Rattle.topn_sort.specs.Sorting.{AreTop, BeganRows, IsCutTo, IsGiven, IsNextPage, last_row, rows_ahead_of};
+ghost use Rattle.topn_sort.specs.Sorting.{AreTop, BeganRows, IsCutTo, IsGiven, IsKeptOrLost, IsNextPage, last_row, rows_ahead_of};
 
 use crate::places::{places_before, sorted_places};
 use col_pages::Page;
@@ -18,16 +19,16 @@ pub struct SortBuffer {
     alloc: Global,
     keys: Vec<KeySpec>,
     page: u32,
+    /// In their order, once the output has begun.
     rows: ColumnRows,
-    /// The places of the rows in their order, once the output has begun.
-    order: Vec<u32>,
-    /// How many of these were given.
+    /// How many of them were given.
     given: usize,
     has_begun: bool,
 }
 
 impl Model for SortBuffer {
-    ghost use Rattle.topn_sort.specs.Sorting.{BufferState, IsBuffer, buffered_rows};
+    ghost use Rattle.std.specs.Prelude.{drop};
+    ghost use Rattle.topn_sort.specs.Sorting.{BufferState, IsBuffer};
 
     ghost Value = { BufferState };
 
@@ -35,11 +36,11 @@ impl Model for SortBuffer {
       keys = b.keys.items;
       types = b.rows.types;
       page = b.page;
-      rows = buffered_rows b.has_begun b.rows.rows b.order.items b.given;
+      rows = drop b.given b.rows.rows;
       begun = b.has_begun;
     } };
 
-    ghost invariant = { λ b. IsBuffer b.rows b.order.items b.given b.page b.has_begun };
+    ghost invariant = { λ b. IsBuffer b.rows b.given b.page b.has_begun };
 }
 
 impl SortBuffer {
@@ -59,7 +60,6 @@ impl SortBuffer {
             keys,
             page,
             rows: ColumnRows::new(alloc, types)?,
-            order: Vec::new(alloc),
             given: 0,
             has_begun: false,
         })
@@ -83,10 +83,7 @@ impl SortBuffer {
     pub fn holds_row(&self) -> bool
         ensures { result ≡ has_row self.now.rows }
     {
-        if self.has_begun {
-            return self.given < self.order.len();
-        }
-        self.rows.len() > 0
+        self.given < self.rows.len()
     }
 
     /// The rows of a page as columns.
@@ -193,19 +190,22 @@ impl SortBuffer {
         rows.select(self.alloc, &places)
     }
 
-    /// Puts the rows in the order of the keys, unless that was done before.
+    /// Puts the rows in the order of the keys, unless that was done before. From then on pages share the rows' cells.
+    /// Where memory does not suffice, none may be left.
     fn begin(&mut self) -> Result<(), Memory>
-        ensures ok { OnOk result (self.new ≡ record self.old { rows = self.new.rows; begun = true }) }
+        ensures same { self.new ≡ record self.old { rows = self.new.rows; begun = self.new.begun } }
+        ensures ok { OnOk result (self.new.begun ≡ true) }
         ensures order { OnOk result
             (BeganRows self.old.begun self.old.keys self.old.rows self.new.rows) }
-        ensures err { OnErr result (self.new ≡ self.old) }
+        ensures err { OnErr result (IsKeptOrLost self.old self.new) }
     {
         if self.has_begun {
             return Ok(());
         }
-        self.order = sorted_places(self.alloc, &self.keys, &self.rows)?;
-        self.given = 0;
+        let order = sorted_places(self.alloc, &self.keys, &self.rows)?;
+        let rows = self.take_rows()?;
         self.has_begun = true;
+        self.rows = in_order(self.alloc, rows, &order)?;
         Ok(())
     }
 
@@ -232,9 +232,22 @@ impl SortBuffer {
         ensures page { IfOk result (λ p. IsNextPage self.old p self.new) }
         ensures err { OnErr result (self.new ≡ self.old) }
     {
-        let high = self.given + (self.order.len() - self.given).min(self.page as usize);
-        let rows = self.rows.select(self.alloc, &self.order[self.given..high])?;
+        let high = self.given + (self.rows.len() - self.given).min(self.page as usize);
+        let rows = self.rows.cut(self.alloc, self.given, high)?;
         self.given = high;
         Ok(Page::of_columns(rows))
     }
+}
+
+/// The rows at their places, as columns that share their cells with the pages that are cut out of them.
+fn in_order(alloc: Global, rows: ColumnRows, order: &[u32]) -> Result<ColumnRows, Memory>
+    requires { All (λ p. p < length rows.rows) order.now }
+    ensures rows { IfOk result
+        (λ r. r ≡ record { types = rows.types; rows = gather rows.rows [] order.now; begun = [] }) }
+    ensures fit { IfOk result (λ r. AllFit r.types r.rows) }
+{
+    let shared = rows.into_dictionaries(alloc)?;
+    let ordered = shared.select(alloc, order)?;
+    ordered.rows_fit();
+    Ok(ordered)
 }

@@ -4,3 +4,4 @@ pub mod WordLemmas
 pub mod BucketLemmas
 pub mod TopLemmas
 pub mod BufferLemmas
+mod OrderedLemmas

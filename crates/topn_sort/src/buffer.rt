@@ -1,10 +1,10 @@
-ghost use Rattle.std.specs.Prelude.{◌≡◌, ◌<◌, ◌≤◌, ◌++◌, [], true, false, length, All, IfOk, OnOk, OnErr};
-ghost use Rattle.columns.specs.Present.{gather};
+ghost use Rattle.std.specs.Prelude.{◌≡◌, ◌<◌, ◌≤◌, ◌++◌, [], true, false, length, IfOk, OnOk, OnErr};
 ghost use Rattle.col_pages.specs.Pages.{most_rows};
 ghost use Rattle.operator_core.specs.Samples.{has_row};
 ghost use Rattle.col_pages.specs.Fits.{AllFit, IsOfTypes};
 ghost use Rattle.topn_sort.specs.Sorting.{AreTop, BeganRows, IsCutTo, IsGiven, IsKeptOrLost, IsNextPage, last_row, rows_ahead_of};
 
+use crate::in_order::in_order;
 use crate::places::{places_before, sorted_places};
 use col_pages::Page;
 use column_moves::join_rows;
@@ -237,17 +237,4 @@ impl SortBuffer {
         self.given = high;
         Ok(Page::of_columns(rows))
     }
-}
-
-/// The rows at their places, as columns that share their cells with the pages that are cut out of them.
-fn in_order(alloc: Global, rows: ColumnRows, order: &[u32]) -> Result<ColumnRows, Memory>
-    requires { All (λ p. p < length rows.rows) order.now }
-    ensures rows { IfOk result
-        (λ r. r ≡ record { types = rows.types; rows = gather rows.rows [] order.now; begun = [] }) }
-    ensures fit { IfOk result (λ r. AllFit r.types r.rows) }
-{
-    let shared = rows.into_dictionaries(alloc)?;
-    let ordered = shared.select(alloc, order)?;
-    ordered.rows_fit();
-    Ok(ordered)
 }

@@ -5,6 +5,7 @@
 //!   beside the page that it takes in
 //! - `buffer`: `SortBuffer`, the rows of either, in typed columns. No cell is moved when they are put in
 //!   order: their places are, and become the ids of dictionaries, out of which pages are cut
+//! - `in_order`: rows at their places, as such columns
 //! - `places`: places of rows by the order of keys
 //! - `numbers`: the same where the first key is a number, a date or a truth: what its cells rank by stands beside the
 //!   places, so that most pairs are compared without a look at the rows
@@ -17,6 +18,7 @@
 
 mod buckets;
 mod buffer;
+mod in_order;
 mod numbers;
 mod places;
 mod sort;

@@ -12,3 +12,4 @@ pub mod PartLemmas
 pub mod LineLemmas
 pub mod LineRowLemmas
 pub mod PartRowLemmas
+pub mod PageLemmas

@@ -1,7 +1,7 @@
 -- The records of a result, field after field and row after row.
-use Rattle.std.proofs.Common.{◌≡◌, ◌<◌, ◌≤◌, ◌+◌, ◌-◌, ◌∙◌, ◌==◌, ◌++◌, ◌∷◌, ℕ, zero, suc, List, [], length, take, drop, get_or, refl, sym, ap, arith, add-one, append_assoc, length-append, if◌then◌else◌}
+use Rattle.std.proofs.Common.{◌≡◌, ◌<◌, ◌+◌, ◌∙◌, ◌==◌, ◌++◌, ◌∷◌, ℕ, zero, suc, List, [], length, take, get_or, refl, sym, ap, arith, add-one, append_assoc, length-append, if◌then◌else◌}
 use Rattle.std.proofs.lemmas.Bool.{ne_eqb}
-use Rattle.std.proofs.lemmas.List.{append-nil, get_or-drop, length-drop, length-take, take_all, take_more}
+use Rattle.std.proofs.lemmas.List.{append-nil, length-take, take_more}
 use Rattle.std.proofs.lemmas.Grind.{flat_map-append}
 use Rattle.std.specs.Prelude.{slice_get, Some}
 use Rattle.csv.specs.Writing.{default_writer, fields_text, is_blank, next_sep, quote_mark}
@@ -72,23 +72,17 @@ record_ended before old mid new fields start at_start at_old at_mid at_new =
     rw (at_new, at_mid, test, at_old)
     (append_assoc (before ++ body_text fields) _ (10 ∷ []) ∙ append_assoc before (body_text fields) _)
 
--- one more row, counted from a place
-pub rows_next : (kinds : List SqlType) (rows : List (List Value)) (low place : ℕ) → low ≤ place → place < length rows
-    → rows_text kinds (take (place + 1 - low) (drop low rows)) ≡ rows_text kinds (take (place - low) (drop low rows)) ++ record_text (fields_from 0 kinds (get_or rows place []))
-rows_next kinds rows low place le lt =
+-- one more row
+pub rows_next : (kinds : List SqlType) (rows : List (List Value)) (place : ℕ) → place < length rows
+    → rows_text kinds (take (place + 1) rows) ≡ rows_text kinds (take place rows) ++ record_text (fields_from 0 kinds (get_or rows place []))
+rows_next kinds rows place lt =
     let text : List Value → List ℕ = λ row. record_text (fields_from 0 kinds row) in
-    let size = length-drop low rows in
-    let step : place + 1 - low ≡ (place - low) + 1 = omega (arith, le) in
-    let here : get_or (drop low rows) (place - low) [] ≡ get_or rows place [] = get_or-drop low rows (place - low) [] ∙ ap (λ (k : ℕ). get_or rows k []) (omega (arith, le)) in
-    rw (step, take_more (drop low rows) (place - low) [] (omega (arith, size, le, lt)), flat_map-append text (take (place - low) (drop low rows)) (get_or (drop low rows) (place - low) [] ∷ []), here, append-nil (text (get_or rows place []))) refl
+    rw (take_more rows place [] lt, flat_map-append text (take place rows) (get_or rows place [] ∷ []), append-nil (text (get_or rows place []))) refl
 
-pub rows_put : (before old new : List ℕ) (kinds : List SqlType) (rows : List (List Value)) (low place : ℕ) → low ≤ place → place < length rows
-    → old ≡ before ++ rows_text kinds (take (place - low) (drop low rows)) → new ≡ old ++ record_text (fields_from 0 kinds (get_or rows place []))
-    → new ≡ before ++ rows_text kinds (take (place + 1 - low) (drop low rows))
-rows_put before old new kinds rows low place le lt at_old at_new =
+pub rows_put : (before old new : List ℕ) (kinds : List SqlType) (rows : List (List Value)) (place : ℕ) → place < length rows
+    → old ≡ before ++ rows_text kinds (take place rows) → new ≡ old ++ record_text (fields_from 0 kinds (get_or rows place []))
+    → new ≡ before ++ rows_text kinds (take (place + 1) rows)
+rows_put before old new kinds rows place lt at_old at_new =
     at_new ∙ ap (λ (l : List ℕ). l ++ record_text (fields_from 0 kinds (get_or rows place []))) at_old
-    ∙ append_assoc before (rows_text kinds (take (place - low) (drop low rows))) (record_text (fields_from 0 kinds (get_or rows place [])))
-    ∙ ap (λ (l : List ℕ). before ++ l) (sym (rows_next kinds rows low place le lt))
-
-pub rows_whole : (kinds : List SqlType) (rows : List (List Value)) (n : ℕ) → n ≡ length rows → rows_text kinds (take (n - 0) (drop 0 rows)) ≡ rows_text kinds rows
-rows_whole kinds rows n e = ap (rows_text kinds) (take_all (n - 0) rows (omega (arith, e)))
+    ∙ append_assoc before (rows_text kinds (take place rows)) (record_text (fields_from 0 kinds (get_or rows place [])))
+    ∙ ap (λ (l : List ℕ). before ++ l) (sym (rows_next kinds rows place lt))

@@ -5,3 +5,4 @@ pub mod Lines
 pub mod Tables
 pub mod ResultTexts
 pub mod Parts
+pub mod PageColumns

@@ -1,5 +1,5 @@
 //! The records of a result, appended to a text.
-ghost use Rattle.std.specs.Prelude.{◌≡◌, ◌==◌, ◌<◌, ◌≤◌, ◌-◌, ◌^◌, ◌∷◌, ◌++◌, ℕ, List, [], length, take, drop, if◌then◌else◌, slice_get, slice_index_or, Some, OnOk};
+ghost use Rattle.std.specs.Prelude.{◌≡◌, ◌==◌, ◌<◌, ◌^◌, ◌∷◌, ◌++◌, ℕ, List, [], length, if◌then◌else◌, slice_get, slice_index_or, Some, OnOk};
 ghost use Rattle.std.specs.Fmt.{signed_decimal};
 ghost use Rattle.csv.specs.Writing.{default_writer, escaped as doubled, needs_byte, needs_quotes, next_sep, quote_mark, quoted};
 ghost use Rattle.scalar_texts.specs.Booleans.{boolean_text};
@@ -128,7 +128,7 @@ fn put_date(day: i32, to: &mut Vec<u8>) -> Result<(), Memory>
 }
 
 /// Appends the field that stands for a cell.
-fn put_cell(kind: SqlType, value: ValueRef<'_>, to: &mut Vec<u8>) -> Result<(), Memory>
+pub(crate) fn put_cell(kind: SqlType, value: ValueRef<'_>, to: &mut Vec<u8>) -> Result<(), Memory>
     ensures { OnOk result (to.new.items
         ≡ to.old.items ++ written (field_text kind (lent_value value.entry))) }
 {
@@ -143,7 +143,7 @@ fn put_cell(kind: SqlType, value: ValueRef<'_>, to: &mut Vec<u8>) -> Result<(), 
 }
 
 /// Appends what stands before the field at a place of its record.
-fn put_separator(place: usize, to: &mut Vec<u8>) -> Result<(), Memory>
+pub(crate) fn put_separator(place: usize, to: &mut Vec<u8>) -> Result<(), Memory>
     ensures { OnOk result (to.new.items ≡ to.old.items ++ next_sep default_writer place) }
 {
     if place > 0 {
@@ -164,7 +164,7 @@ fn put_blank(start: usize, to: &mut Vec<u8>) -> Result<(), Memory>
 }
 
 /// Ends a record that begins at a place.
-fn end_record(start: usize, to: &mut Vec<u8>) -> Result<(), Memory>
+pub(crate) fn end_record(start: usize, to: &mut Vec<u8>) -> Result<(), Memory>
     ensures { OnOk result
         ((before : List ℕ) (fields : List (List ℕ)) → start ≡ length before
         → to.old.items ≡ before ++ body_text fields
@@ -206,7 +206,7 @@ pub fn append_header(names: &[Text], to: &mut Vec<u8>) -> Result<(), Memory>
     end_record(start, to)
 }
 
-fn type_at(types: &[SqlType], column: usize) -> SqlType
+pub(crate) fn type_at(types: &[SqlType], column: usize) -> SqlType
     requires { column < length types.now }
     ensures { slice_get types.now column ≡ Some result }
 {
@@ -228,22 +228,12 @@ fn put_row(types: &[SqlType], rows: &RowList, place: usize, to: &mut Vec<u8>) ->
     end_record(start, to)
 }
 
-/// Appends the records of the rows from one place up to, and without, another, with a field for each type. Where memory
-/// was wanting, some of them may stand there.
-pub fn append_rows(
-    types: &[SqlType],
-    rows: &RowList,
-    low: usize,
-    high: usize,
-    to: &mut Vec<u8>,
-) -> Result<(), Memory>
-    requires types { length types.now < 2 ^ 32 }
-    requires order { low ≤ high }
-    requires within { high ≤ length rows.now }
-    ensures { OnOk result (to.new.items ≡ to.old.items
-        ++ rows_text types.now (take (high - low) (drop low rows.now))) }
+/// Appends the records of the rows, with a field for each type.
+pub(crate) fn append_rows(types: &[SqlType], rows: &RowList, to: &mut Vec<u8>) -> Result<(), Memory>
+    requires { length types.now < 2 ^ 32 }
+    ensures { OnOk result (to.new.items ≡ to.old.items ++ rows_text types.now rows.now) }
 {
-    for place in low..high {
+    for place in 0..rows.len() {
         put_row(types, rows, place, to)?;
     }
     Ok(())

@@ -7,7 +7,6 @@ use std::alloc::Global;
 
 /// The text of a result in CSV: a record of the names and then one of each row, with a field for
 /// each type. More types than a `u32` counts are `Memory`.
-#[tactic(auto, using(crate::proofs::TextLemmas::rows_whole))]
 pub fn text_of(
     alloc: Global,
     names: &[Text],
@@ -21,6 +20,6 @@ pub fn text_of(
     }
     let mut text = Vec::new(alloc);
     append_header(names, &mut text)?;
-    append_rows(types, rows, 0, rows.len(), &mut text)?;
+    append_rows(types, rows, &mut text)?;
     Ok(text)
 }

@@ -1,4 +1,5 @@
 pub mod AppendLemmas
+pub mod WritingLemmas
 pub mod ToldLemmas
 pub mod TableLemmas
 pub mod CompletenessLemmas

@@ -9,7 +9,7 @@
 //! - `documents`: those of a demo, in the place of files
 //! - `load`: the plan and its tables, from files
 //! - `top`: `run`
-//! - `results`: the text of what a plan gives
+//! - `results`: the text of what a plan gives, and `writing`: how it is written
 //! - `lines`: the line that is written for each answer, and `counts`: those of the counts of filters
 //! - `status`: the answers, and the exit status of each
 #![tactic(auto)]
@@ -22,6 +22,7 @@ mod results;
 mod status;
 mod top;
 mod words;
+mod writing;
 
 pub use lines::tell_first;
 pub use load::{ROW_LIMIT, files_of, load_plan, load_tables};

@@ -1,5 +1,6 @@
 //! The text of what a plan gives over its tables: on the workers of a shape, or on one thread under picks.
-ghost use Rattle.std.specs.Prelude.{map, MatchResult};
+ghost use Rattle.std.specs.Prelude.{◌≡◌, map, IfOk, MatchResult};
+ghost use Rattle.csv_tables.specs.ResultTexts.{result_text};
 ghost use Rattle.plan_docs.specs.Plans.{plan_view};
 ghost use Rattle.task_executor.specs.Tables.{HaveColumns, WasRead};
 ghost use Rattle.plan_reader.specs.Trees.{tree_of};
@@ -16,21 +17,22 @@ use plan_link_laws::read_plans_are_consistent;
 use plan_reader::{Plan, tree};
 use plan_trees::types_of_tree;
 use run_ports::{Courier, Meet};
-use sql_values::Table;
+use sql_values::{Memory, SqlType, Table, Text};
 use std::alloc::Global;
 use std::marker::PhantomData;
 use std::random::RandomSource;
 use std::sync::Wait;
 use std::thread::Threads;
-use table_parts::text_in_parts;
+use table_parts::{TextChunks, text_in_parts};
 use task_executor::{
-    Net, PassedList, RunDone, RunFault, Shape, Wiring, counts_are_allowed, run_alone, run_workers,
+    Net, PassedList, ResultPages, RunDone, RunFault, Shape, Wiring, counts_are_allowed, run_alone,
+    run_workers,
 };
 
 /// What a plan gave.
 #[derive(Drop)]
 pub struct PlanResult {
-    pub text: Vec<u8>,
+    pub text: TextChunks,
     /// How many rows passed each dynamic filter that is waited for, by ascending id.
     pub passed: PassedList,
 }
@@ -55,7 +57,7 @@ where
     requires fit { TablesFit tables.now }
     requires few { AreFew tables.now }
     ensures { MatchResult result
-        (λ done. IsTextOf (plan_view plan.now) (map rows_of_table tables.now) done.text.items
+        (λ done. IsTextOf (plan_view plan.now) (map rows_of_table tables.now) done.text
         × AreCountsIn (plan_view plan.now) (map rows_of_table tables.now) done.passed)
         (RunFails (plan_view plan.now) (map rows_of_table tables.now)) }
 {
@@ -82,7 +84,7 @@ where
     requires fit { TablesFit tables.now }
     requires few { AreFew tables.now }
     ensures { MatchResult result
-        (λ done. IsTextOf (plan_view plan.now) (map rows_of_table tables.now) done.text.items
+        (λ done. IsTextOf (plan_view plan.now) (map rows_of_table tables.now) done.text
         × AreCountsIn (plan_view plan.now) (map rows_of_table tables.now) done.passed)
         (RunFails (plan_view plan.now) (map rows_of_table tables.now)) }
 {
@@ -107,21 +109,15 @@ fn text_of_run<R: Threads + Sync>(
         × AreCountsIn (plan_view plan.now) (map rows_of_table tables.now) done.passed)
         (FailsFor (tree_of (plan_view plan.now)) (map rows_of_table tables.now)) }
     ensures { MatchResult result
-        (λ done. IsTextOf (plan_view plan.now) (map rows_of_table tables.now) done.text.items
+        (λ done. IsTextOf (plan_view plan.now) (map rows_of_table tables.now) done.text
         × AreCountsIn (plan_view plan.now) (map rows_of_table tables.now) done.passed)
         (RunFails (plan_view plan.now) (map rows_of_table tables.now)) }
 {
     match done {
         Ok(done) => {
             let types = types_of_tree(alloc, &tree(alloc, plan)?)?;
-            let text = text_in_parts(
-                rt,
-                alloc,
-                workers,
-                plan.output.as_slice(),
-                types.as_slice(),
-                &done.rows,
-            )?;
+            let names = plan.output.as_slice();
+            let text = text_of_rows(rt, alloc, workers, names, types.as_slice(), &done.rows)?;
             Ok(PlanResult {
                 text,
                 passed: done.passed,
@@ -130,6 +126,20 @@ fn text_of_run<R: Threads + Sync>(
         Err(RunFault::ExprFailed { node, kind }) => Err(Status::ExprFailed { node, kind }),
         Err(RunFault::Memory) => Err(Status::Memory),
     }
+}
+
+/// The text of rows, printed by at most so many workers.
+fn text_of_rows<R: Threads + Sync>(
+    rt: &R,
+    alloc: Global,
+    workers: u32,
+    names: &[Text],
+    types: &[SqlType],
+    rows: &ResultPages,
+) -> Result<TextChunks, Memory>
+    ensures { IfOk result (λ text. text ≡ result_text names.now types.now rows.now) }
+{
+    text_in_parts(rt, alloc, workers, names, types, rows.pages())
 }
 
 /// What the drivers of the plan give over its tables, shared by the workers of the shape.

@@ -16,14 +16,16 @@ use crate::lines::{tell, tell_first};
 use crate::load::{files_of, load_plan, load_tables};
 use crate::results::{PlanResult, result_of};
 use crate::status::Status;
+use crate::writing::write_result;
 use command_line::{Job, WordsFault, lend_words, read_words};
 use plan_reader::Plan;
-use run_ports::{Courier, Files, Meet, Sink, write_whole};
+use run_ports::{Courier, Files, Meet, Sink};
 use sql_values::{Table, Text};
 use std::alloc::Global;
 use std::random::RandomSource;
 use std::sync::Wait;
 use std::thread::Threads;
+use table_parts::TextChunks;
 use task_executor::{FilterPassed, PassedList, Shape};
 
 /// Runs the plan that the arguments name over the tables that they name, and writes the result's text
@@ -253,13 +255,13 @@ where
         courier,
         meet,
     )?;
-    results_are_typed(plan, tables.as_slice(), text.as_slice());
-    write_whole(out, text.as_slice())?;
+    results_are_typed(plan, tables.as_slice(), &text);
+    write_result(out, &text)?;
     Ok(passed)
 }
 
 /// The law that a text which the plan allows over tables that were read has rows of the types of its columns.
-fn results_are_typed(plan: &Plan, tables: &[Table], text: &[u8])
+fn results_are_typed(plan: &Plan, tables: &[Table], text: &TextChunks)
     requires read { WasRead (plan_view plan.now) }
     requires columns { HaveColumns (plan_view plan.now).tables tables.now }
     requires fit { TablesFit tables.now }

@@ -123,13 +123,23 @@ fn tables_give<R: Threads + Wait + Sync + RandomSource + AllocGlobal>(
         picks,
     ) {
         Ok(done) => Ok(
-            is_text(done.text.as_slice(), text) && evaluates_to(rt.alloc(), plan, tables, text)?,
+            are_text(rt.alloc(), done.text.chunks(), text)?
+                && evaluates_to(rt.alloc(), plan, tables, text)?,
         ),
         Err(Status::ExprFailed { node, .. }) => {
             Ok(format!(in rt.alloc(); "node {node}")?.as_str() == text)
         }
         Err(_) => Ok(false),
     }
+}
+
+/// Whether chunks, one behind the other, are this text.
+fn are_text(alloc: Global, chunks: &[Vec<u8>], text: &str) -> Result<bool, Fail> {
+    let mut bytes = Vec::new(alloc);
+    for chunk in chunks {
+        bytes.extend_from_slice(chunk.as_slice())?;
+    }
+    Ok(is_text(bytes.as_slice(), text))
 }
 
 /// Whether the plain evaluator gives this text.

@@ -12,21 +12,20 @@ ghost use Rattle.net_closing.specs.Closing.{AreWholeDrivers};
 ghost use Rattle.task_executor.specs.Passed.{HavePassed};
 ghost use Rattle.task_executor.specs.Turns.{AreFailing, AreFinished};
 
-use crate::result::rows_of;
+use crate::result::{ResultPages, rows_of};
 use driver_loop::{Driver, RunFault, Stage};
 use net_closing::{Closed, PassedList, close};
 use net_laws::{plans_fail, plans_give};
 use plan_layout::Pipe;
 use plan_reader::Plan;
 use run_ports::Courier;
-use sql_values::RowList;
 use std::alloc::Global;
 use std::marker::PhantomData;
 
 /// What a run gave.
 #[derive(Drop)]
 pub struct RunDone {
-    pub rows: RowList,
+    pub rows: ResultPages,
     /// How many rows passed each dynamic filter that is waited for, by ascending id.
     pub passed: PassedList,
 }

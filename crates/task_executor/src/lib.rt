@@ -10,7 +10,7 @@
 //! - `answer`: what a net gives whose drivers had their turns. Where it is rows, the plan's tree allows them over the
 //!   tables, and with them comes how many rows passed the dynamic filters (`specs/Passed.antt`); where an expression failed,
 //!   its node may fail with this kind
-//! - `result`: the rows of a result, as one list
+//! - `result`: the rows of a result, in the pages in which they came
 //! - `passed`: the law that these counts are what the plan's filters allow
 //!
 //! A run is of any plan that was read, in any number of fragments, tasks and drivers. What its drivers are made of stands
@@ -35,6 +35,7 @@ pub use driver_loop::RunFault;
 pub use net::Net;
 pub use net_closing::{FilterPassed, PassedList};
 pub use passed::counts_are_allowed;
+pub use result::ResultPages;
 pub use shape::Shape;
 pub use wiring::Wiring;
 pub use workers::run_workers;

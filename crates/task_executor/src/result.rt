@@ -1,34 +1,46 @@
-//! The rows of a result, as one list.
-ghost use Rattle.std.specs.Prelude.{◌≡◌, ◌++◌, [], IfOk, OnOk};
+//! The rows of a result, in the pages in which they came.
+ghost use Rattle.std.specs.Prelude.{◌≡◌, IfOk};
+ghost use Rattle.col_pages.specs.Pages.{rows_in};
 
 use col_pages::Page;
 use operator_core::HeldPages;
-use plan_trees::are_same;
-use sql_values::{Memory, RowList};
+use sql_values::Memory;
 use std::alloc::Global;
-use tree_evaluator::{NodeRows, list_of};
+use std::marker::Model;
 
-/// The rows of pages of the same types. A page of others counts as want of memory: a target takes none.
-pub(crate) fn rows_of(alloc: Global, mut pages: HeldPages) -> Result<RowList, Memory>
-    ensures { IfOk result (λ rows. rows ≡ pages) }
-{
-    let Some(first) = pages.take_first() else {
-        return Ok(RowList::new(alloc));
-    };
-    let mut rows = NodeRows::new(alloc, first.types())?;
-    push_page(&mut rows, first)?;
-    while let Some(page) = pages.take_first() {
-        push_page(&mut rows, page)?;
-    }
-    list_of(alloc, rows)
+/// The rows of a result. Contracts see them as one list.
+#[derive(Drop)]
+pub struct ResultPages {
+    pages: Vec<Page>,
 }
 
-fn push_page(rows: &mut NodeRows, page: Page) -> Result<(), Memory>
-    ensures { OnOk result (rows.new ≡ record rows.old { rows = rows.old.rows ++ page.rows }) }
-{
-    if !are_same(page.types(), rows.types()) {
-        return Err(Memory);
+impl Model for ResultPages {
+    ghost use Rattle.std.specs.Prelude.{List};
+    ghost use Rattle.sql_values.specs.declared.value.Value.{Value as Cell};
+
+    ghost Value = { List (List Cell) };
+
+    ghost use Rattle.col_pages.specs.Pages.{rows_in};
+
+    ghost view = { λ r. rows_in r.pages.items };
+}
+
+impl ResultPages {
+    /// The pages, in order: each with rows, none of whose cells was copied.
+    pub fn pages(&self) -> &[Page]
+        ensures { rows_in result.now ≡ self.now }
+    {
+        self.pages.as_slice()
     }
-    page.rows_fit();
-    rows.push(page)
+}
+
+/// The rows of pages.
+pub(crate) fn rows_of(alloc: Global, mut held: HeldPages) -> Result<ResultPages, Memory>
+    ensures { IfOk result (λ rows. rows ≡ held) }
+{
+    let mut pages = Vec::new(alloc);
+    while let Some(page) = held.take_first() {
+        pages.push(page)?;
+    }
+    Ok(ResultPages { pages })
 }

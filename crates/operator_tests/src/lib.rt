@@ -16,7 +16,7 @@
 //! - `filters`: its cells of two parts, and what its operator lets through
 //! - `trees`: small trees over constants, by `tree_evaluator`
 //! - `cell_texts`: values as texts, and two results as one
-//! - `sorts`: rows by one key, through `topn_sort`
+//! - `sorts`: rows by one key, through `topn_sort`; `many_sorts` has more rows than are sorted without buckets
 //! - `exprs`: expressions over a column of whole numbers
 #![tactic(auto)]
 
@@ -38,6 +38,8 @@ mod keys;
 mod lookups;
 #[cfg(test)]
 mod many_groups;
+#[cfg(test)]
+mod many_sorts;
 #[cfg(test)]
 mod operators;
 #[cfg(test)]

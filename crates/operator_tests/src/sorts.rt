@@ -3,7 +3,7 @@
 ghost use Rattle.std.specs.Prelude.{◌<◌, length};
 
 use crate::page_texts::{drained, page, take_in};
-use col_pages::Page;
+use col_pages::{Form, Page};
 use operator_core::OpFault;
 use sql_values::{KeySpec, Memory, Order, SqlType, ValueRef};
 use std::alloc::Global;
@@ -58,6 +58,48 @@ fn are_sorted(alloc: Global, kind: SqlType, lines: &str) -> Result<bool, OpFault
         }
     }
     Ok(true)
+}
+
+/// Whether the first two columns of a page are dictionaries.
+fn is_shared(page: &Page) -> bool {
+    for column in 0..2 {
+        match page.block(column).map(|block| block.form()) {
+            Some(Form::Dictionary) => {}
+            _ => return false,
+        }
+    }
+    true
+}
+
+/// How many pages these rows make in the order of their key: none where a page is not shared.
+fn shared_pages(alloc: Global, rows: &str) -> Result<usize, OpFault> {
+    let rows = rows.replace(alloc, ',', "\n")?;
+    let pages = sorted(
+        alloc,
+        &[SqlType::Bigint, SqlType::Varchar],
+        Order::Ascending,
+        rows.as_str(),
+    )?;
+    for page in &pages {
+        if !is_shared(page) {
+            return Ok(0);
+        }
+    }
+    Ok(pages.len())
+}
+
+#[test]
+fn pages_share_the_sorted_rows(rt: HostRuntime) -> Result<(), OpFault> {
+    let rows = "9 i,1 a,- j,2 b,8 h,3 c,7 g,4 d,6 f,5 e";
+    assert!(rt; shared_pages(rt.alloc(), rows)? == 2);
+    Ok(())
+}
+
+#[test]
+fn rows_of_more_pages_than_one_keep_their_order(rt: HostRuntime) -> Result<(), OpFault> {
+    let lines = "9 i,1 a,- j,2 b,8 h,3 c,7 g,4 d,6 f,5 e | abcdefghij ihgfedcbaj";
+    assert!(rt; are_sorted(rt.alloc(), SqlType::Bigint, lines)?);
+    Ok(())
 }
 
 #[test]

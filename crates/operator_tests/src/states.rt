@@ -1,15 +1,17 @@
 //! Groups whose partial rows and results were worked out by hand, and each public call once. Cells stand between
 //! blanks, and `-` is NULL.
-ghost use Rattle.std.specs.Prelude.{[], ◌∷◌, IsTrue};
+ghost use Rattle.std.specs.Prelude.{[], ◌∷◌, ◌<◌, IsTrue, length};
 ghost use Rattle.accumulators.specs.Limits.{are_allowed};
 ghost use Rattle.sql_values.specs.declared.types.SqlType.TheVariants as kind;
 
 use crate::cell_texts::show_value;
 use accumulators::Accumulator;
-use sql_values::{Call, EvalFault, Memory, Row, SqlType, Text, Value};
+use sql_values::{Call, ColumnRows, EvalFault, Memory, Row, SqlType, Text, Value};
 use std::alloc::Global;
 
 const WHOLE: SqlType = SqlType::Bigint;
+
+const SUM: SqlType = SqlType::Decimal { p: 38, s: 0 };
 
 const SHORT: SqlType = SqlType::Decimal { p: 3, s: 1 };
 
@@ -75,6 +77,41 @@ fn show_part(text: &mut String, group: &Accumulator) -> Result<(), Memory> {
     show(text, &group.part()?)
 }
 
+/// Puts the group's partial row into columns, where each takes its cell, and appends the cells of the row.
+fn show_put(text: &mut String, rows: &mut ColumnRows, group: &Accumulator) -> Result<(), Memory> {
+    if group.put_part(rows).is_ok() && rows.end_row() {
+        show_first(text, rows)?;
+    }
+    Ok(())
+}
+
+fn show_first(text: &mut String, rows: &ColumnRows) -> Result<(), Memory> {
+    let Ok(width) = u32::try_from(rows.types().len()) else {
+        return Err(Memory);
+    };
+    if 0 < rows.len() {
+        for column in 0..width {
+            show_value(text, rows.cell(0, column))?;
+        }
+    }
+    Ok(())
+}
+
+/// Whether the group's partial row stands so in columns of these types.
+fn stands_so(
+    alloc: Global,
+    types: &[SqlType],
+    group: &Accumulator,
+    wanted: &str,
+) -> Result<bool, Memory>
+    requires { 0 < length types.now }
+{
+    let mut text = String::new(alloc);
+    let mut rows = ColumnRows::new(alloc, types)?;
+    show_put(&mut text, &mut rows, group)?;
+    Ok(text.as_str() == wanted)
+}
+
 fn show_outcome(text: &mut String, outcome: Result<Row, EvalFault>) -> Result<(), Memory> {
     match outcome {
         Ok(row) => show(text, &row),
@@ -119,6 +156,23 @@ fn whole_numbers_are_counted_and_added(rt: HostRuntime) -> Result<(), Memory> {
         - 9223372036854775807 1 -5|4d 3 9223372036854775803d 4 3 9223372036854775803 \n\
         - 9223372036854775807 1|3d 2 9223372036854775808d fails";
     assert!(rt; are_told(rt.alloc(), WHOLE, &calls, cases)?);
+    Ok(())
+}
+
+/// Whether a group of these cells puts this partial row into columns, and none into columns of other types.
+fn is_put(alloc: Global, calls: &[Call], cells: &str, wanted: &str) -> Result<bool, Memory>
+    requires { IsTrue (are_allowed (kind.Bigint ∷ []) calls.now) }
+{
+    let group = group(alloc, WHOLE, calls, cells)?;
+    let told = stands_so(alloc, &[SUM, WHOLE, SUM, WHOLE], &group, wanted)?;
+    let refused = stands_so(alloc, &[SUM, WHOLE, WHOLE, WHOLE], &group, "")?;
+    Ok(told & refused)
+}
+
+#[test]
+fn a_part_is_put_into_columns(rt: HostRuntime) -> Result<(), Memory> {
+    let calls = [Call::CountAll, Call::Count(0), Call::Sum(0), Call::Max(0)];
+    assert!(rt; is_put(rt.alloc(), &calls, "- 5 7", "3d 2 12d 7 ")?);
     Ok(())
 }
 

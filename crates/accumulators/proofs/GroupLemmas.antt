@@ -199,7 +199,7 @@ none-kinds : (types : List SqlType) (calls : List Call) → kinds_of (map (kept_
 none-kinds types [] = refl
 none-kinds types (call ∷ calls) = ap (λ ks. kind_in types call ∷ ks) (none-kinds types calls)
 
-none-column : (call : Call) → columns_of call [] ≡ call_columns [] call
+pub none-column : (call : Call) → columns_of call [] ≡ call_columns [] call
 none-column CountAll = refl
 none-column (Count column) = refl
 none-column (Sum column) = refl

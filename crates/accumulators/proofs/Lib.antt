@@ -10,3 +10,7 @@ pub mod GroupLemmas
 pub mod StateLemmas
 pub mod StateRules
 pub mod NoneLemmas
+pub mod SlotLemmas
+pub mod SlotRules
+pub mod HeldColumnLemmas
+pub mod GroupListLemmas

@@ -4,3 +4,7 @@ pub mod Held
 pub mod Firsts
 pub mod Limits
 pub mod Groups
+pub mod HeldStates
+pub mod KeptColumns
+pub mod HeldColumns
+pub mod GroupLists

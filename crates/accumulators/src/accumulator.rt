@@ -1,9 +1,10 @@
-ghost use Rattle.std.specs.Prelude.{◌≡◌, ◌≤◌, ◌^◌, [], ◌∷◌, ◌++◌, List, IfOk, IsTrue, OnOk, OnErr, map, nat_abs, drop};
+ghost use Rattle.std.specs.Prelude.{◌≡◌, ◌≤◌, ◌^◌, [], ◌∷◌, ◌++◌, List, IfOk, IsTrue, OnOk, OnErr, map, nat_abs, drop, replicate, sum_by};
 ghost use Rattle.sql_values.specs.declared.types.SqlType.{SqlType};
+ghost use Rattle.sql_values.specs.declared.value.Value.TheVariants as value_is;
 ghost use Rattle.sql_values.specs.Cells.{lent_value};
 ghost use Rattle.sql_values.specs.Order.{number_in};
 ghost use Rattle.relation_laws.specs.Aggregates.{aggregates_of};
-ghost use Rattle.relation_laws.specs.Partials.{partial_of, results_from};
+ghost use Rattle.relation_laws.specs.Partials.{call_width, partial_of, results_from};
 ghost use Rattle.accumulators.specs.Columns.{kind_in};
 ghost use Rattle.accumulators.specs.Groups.{Answers, HasTaken, empty_group, with_part, with_row};
 ghost use Rattle.accumulators.specs.Limits.{are_allowed, is_partial, is_row_count as is_row_count_value, takes_row};
@@ -22,7 +23,7 @@ use std::alloc::Global;
 use std::marker::Model;
 
 /// The most calls of a group, so that 32 bits count the columns of a partial row.
-const MOST_CALLS: usize = 1_048_576;
+pub const MOST_CALLS: usize = 1_048_576;
 
 /// The state of one group.
 #[derive(Drop)]
@@ -176,6 +177,15 @@ impl Accumulator {
         put_all_columns(&self.states, rows)
     }
 
+    /// Puts a NULL in place of each column of the calls into a row.
+    pub(crate) fn put_nulls(&self, rows: &mut ColumnRows) -> Result<(), Memory>
+        ensures { OnOk result (rows.new ≡ record rows.old {
+          begun = rows.old.begun ++ replicate (sum_by call_width self.now.calls) value_is.Null;
+        }) }
+    {
+        put_all_nulls(&self.states, rows)
+    }
+
     /// The law that another group of these calls can take the group's partial row.
     pub fn part_fits(&self)
         ensures { IsTrue (is_partial self.now.calls self.now.kinds self.now.partial) }
@@ -228,7 +238,7 @@ fn is_row_count(value: ValueRef<'_>) -> bool
 }
 
 /// How many rows a partial row stands for.
-fn row_count(value: ValueRef<'_>) -> u64
+pub fn row_count(value: ValueRef<'_>) -> u64
     requires { IsTrue (is_row_count_value (lent_value value)) }
     ensures number { result ≡ nat_abs (number_in (lent_value value.entry)) }
     ensures few { result ≤ 2 ^ 63 }

@@ -334,7 +334,7 @@ impl CallState {
 }
 
 /// Adds the number of a cell, where it is one of the type, and answers whether it is.
-fn add_number(kind: SqlType, sum: &mut Option<i128>, cell: ValueRef<'_>) -> bool
+pub fn add_number(kind: SqlType, sum: &mut Option<i128>, cell: ValueRef<'_>) -> bool
     requires short { IsTrue (is_short kind) }
     requires room { IsTrue (is_number_of_type kind (lent_value cell))
         → magnitude sum.old + magnitude (summand (lent_value cell)) < 2 ^ 127 }
@@ -350,18 +350,22 @@ fn add_number(kind: SqlType, sum: &mut Option<i128>, cell: ValueRef<'_>) -> bool
 }
 
 /// The same beside a count of the numbers.
-fn add_counted(kind: SqlType, sum: &mut Option<i128>, count: &mut u64, cell: ValueRef<'_>) -> bool
+pub fn add_counted(
+    kind: SqlType,
+    sum: &mut Option<i128>,
+    count: &mut u64,
+    cell: ValueRef<'_>,
+) -> bool
     requires short { IsTrue (is_short kind) }
     requires room { IsTrue (is_number_of_type kind (lent_value cell))
         → (magnitude sum.old + magnitude (summand (lent_value cell)) < 2 ^ 127)
         × (count.old + length (filter is_present (lent_value cell ∷ [])) ≤ most_group_rows) }
-    requires few { count.old ≤ most_group_rows }
     ensures number { result ≡ is_number_of_type kind (lent_value cell.entry) }
     ensures sum { IsTrue result → sum_cell sum.new
         ≡ added_sums (sum_cell sum.old) (partial_sum (filter is_present (lent_value cell.entry ∷ []))) }
     ensures count { IsTrue result → value_is.Bigint (pos count.new)
         ≡ added_counts (value_is.Bigint (pos count.old)) (count_of (filter is_present (lent_value cell.entry ∷ []))) }
-    ensures few { count.new ≤ most_group_rows }
+    ensures few { count.old ≤ most_group_rows → count.new ≤ most_group_rows }
 {
     let taken = add_number(kind, sum, cell);
     if taken {
@@ -371,7 +375,7 @@ fn add_counted(kind: SqlType, sum: &mut Option<i128>, count: &mut u64, cell: Val
 }
 
 /// The type of the column at a place: boolean where there is none.
-fn type_at(types: &[SqlType], column: u32) -> SqlType
+pub fn type_at(types: &[SqlType], column: u32) -> SqlType
     ensures { result ≡ type_of types.now column }
 {
     match types.get(column as usize) {

@@ -20,11 +20,17 @@
 #![tactic(auto)]
 
 mod accumulator;
+mod averages;
+mod call_column;
+mod call_columns;
 mod call_state;
 mod call_states;
 mod firsts;
+mod group_states;
+mod kept_states;
 mod limits;
 mod puts;
 mod sums;
 
 pub use accumulator::Accumulator;
+pub use group_states::GroupStates;

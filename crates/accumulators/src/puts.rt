@@ -1,6 +1,7 @@
-ghost use Rattle.std.specs.Prelude.{◌≡◌, ◌++◌, ◌∷◌, [], OnOk, replicate};
+ghost use Rattle.std.specs.Prelude.{◌≡◌, ◌≤◌, ◌++◌, ◌∷◌, [], OnOk, pos, replicate};
 ghost use Rattle.sql_values.specs.declared.value.Value.TheVariants as value_is;
 ghost use Rattle.sql_values.specs.Cells.{lent_value};
+ghost use Rattle.relation_laws.specs.Aggregates.{most_group_rows};
 ghost use Rattle.accumulators.specs.Columns.{sum_cell};
 
 use sql_values::{ColumnRows, Memory, ValueRef};
@@ -20,6 +21,21 @@ pub fn put_sum(rows: &mut ColumnRows, sum: Option<i128>) -> Result<(), Memory>
         None => put_cell(rows, ValueRef::Null),
         Some(total) => put_cell(rows, ValueRef::Decimal(total)),
     }
+}
+
+/// Puts a count into a row.
+pub fn put_count(rows: &mut ColumnRows, count: u64) -> Result<(), Memory>
+    requires { count ≤ most_group_rows }
+    ensures { OnOk result (rows.new ≡ record rows.old { begun = rows.old.begun ++ value_is.Bigint (pos count) ∷ [] }) }
+{
+    put_cell(rows, ValueRef::Bigint(count as i64))
+}
+
+/// Puts a number of rows into a row.
+pub fn put_row_count(rows: &mut ColumnRows, count: u64) -> Result<(), Memory>
+    ensures { OnOk result (rows.new ≡ record rows.old { begun = rows.old.begun ++ value_is.Decimal (pos count) ∷ [] }) }
+{
+    put_cell(rows, ValueRef::Decimal(i128::from(count)))
 }
 
 /// Puts so many NULLs into a row.

@@ -46,6 +46,14 @@ pub fn sum_value(sum: Option<i128>) -> Value
     }
 }
 
+/// The count as a value.
+pub fn count_value(count: u64) -> Value
+    requires { count ≤ most_group_rows }
+    ensures { result ≡ Value.Bigint (pos count) }
+{
+    Value::Bigint(count as i64)
+}
+
 /// The count that a value is, if it is one.
 pub fn count_in(value: ValueRef<'_>) -> u64
     ensures { result ≡ count_of (lent_value value.entry) }

@@ -1,5 +1,4 @@
-use Rattle.std.proofs.Common.{ap, ◌∙◌, arith}
-use Rattle.sql_values.specs.ColumnRows.{TypedRows}
+use Rattle.std.proofs.Common.{arith}
 use Rattle.accumulators.proofs.GroupLemmas.{nulls-put}
 use Rattle.accumulators.proofs.call_states.put_all_nulls.Goals as goal
 

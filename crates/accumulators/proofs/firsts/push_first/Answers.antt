@@ -1,1 +1,0 @@
-use Rattle.accumulators.proofs.firsts.push_first.Goals as goal

@@ -1,1 +1,0 @@
-use Rattle.accumulators.proofs.sums.added.Goals as goal

@@ -1,1 +1,0 @@
-use Rattle.accumulators.proofs.sums.counted.Goals as goal

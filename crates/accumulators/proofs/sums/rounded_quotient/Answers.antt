@@ -1,1 +1,0 @@
-use Rattle.accumulators.proofs.sums.rounded_quotient.Goals as goal

@@ -1,1 +1,0 @@
-use Rattle.accumulators.proofs.sums.sum_result.Goals as goal

@@ -1,1 +1,0 @@
-use Rattle.accumulators.proofs.accumulator.Accumulator.part.Goals as goal

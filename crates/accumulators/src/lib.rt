@@ -12,6 +12,9 @@
 //! that a group which wants memory is as it was.
 //!
 //! - `accumulator`: the group
+//! - `group_states`: the groups of a table together (`specs/GroupLists.antt`)
+//! - `call_column`, `call_columns`: what all groups keep of one call, each at its place, and of all calls
+//! - `kept_states`, `averages`: the state at a place, and sums beside their counts
 //! - `call_state`, `call_states`: what a group keeps of one call, and of all. `specs/Columns.antt` says which
 //!   columns the cells of a group make, `specs/Kept.antt` how cells and columns are merged in
 //! - `sums`, `firsts`: sums, counts and averages, and the first of some values

@@ -11,7 +11,7 @@ use Rattle.sql_functions.specs.Truth.{is_false, is_null, is_true, truth_and, tru
 use Rattle.sql_exprs.specs.declared.expr.Expr.{Expr}
 use Rattle.sql_exprs.specs.Forms.{Form, Forms, call, form_view, forms_of, more, none}
 use Rattle.sql_exprs.specs.Meaning.{kind_of, kinds_of, value_of}
-use Rattle.sql_exprs.specs.Rows.{and_of, call_of, coalesce_of, or_of}
+use Rattle.sql_exprs.specs.Rows.{call_of, coalesce_of}
 use Rattle.sql_exprs.proofs.TruthLemmas.{and_from, and_of_from, or_from, or_of_from}
 use Rattle.column_exprs.specs.declared.chain.Chain.{Chain}
 use Rattle.column_exprs.specs.declared.chain.Chain.TheVariants.{And, Or, Coalesce}
@@ -133,7 +133,7 @@ chain_made chain kind forms rows a o e start goes = record {
 }
 
 -- the arguments from a place on
-from_place : (xs : List Expr) (i : ℕ) (x : Expr) → i < length xs → x ≡ get_or xs i x → drop i xs ≡ x ∷ drop (suc i) xs
+pub from_place : {A : Type 0} (xs : List A) (i : ℕ) (x : A) → i < length xs → x ≡ get_or xs i x → drop i xs ≡ x ∷ drop (suc i) xs
 from_place [] i x l e = absurd (omega arith)
 from_place (y ∷ ys) zero x l e = ap (λ z. z ∷ ys) (sym e)
 from_place (y ∷ ys) (suc i) x l e = from_place ys i x (omega (arith, l)) e
@@ -147,7 +147,7 @@ next_goes chain kind args i arg rows a b o l e one rest =
     (sym (from_place args i arg l e ∙ ap (λ n. arg ∷ drop n args) (sym step)))
     (goes_more chain kind (form_view arg) (forms_of (map form_view (drop (i + 1) args))) rows a b o one rest)
 
-past_end : (xs : List Expr) (i : ℕ) → length xs ≤ i → drop i xs ≡ []
+pub past_end : {A : Type 0} (xs : List A) (i : ℕ) → length xs ≤ i → drop i xs ≡ []
 past_end [] zero l = refl
 past_end [] (suc i) l = refl
 past_end (x ∷ xs) zero l = absurd (omega arith)

@@ -19,9 +19,9 @@ true_if : (b : Bool) (p : ℕ) → 1 ≤ length (if b then p ∷ [] else []) →
 true_if true p h = refl
 true_if false p h = absurd (omega arith)
 
-within_if : (b : Bool) (p m : ℕ) → p < m → All (λ q. q < m) (if b then p ∷ [] else [])
-within_if true p m l = All-append (λ q. q < m) (p ∷ []) [] (λ i d n. let first : i ≡ 0 = omega arith in subst (λ j. get_or (p ∷ []) j d < m) (sym first) l) (All-nil (λ q. q < m))
-within_if false p m l = All-nil (λ q. q < m)
+each_if : (P : ℕ → Type 0) (b : Bool) (p : ℕ) → (b ≡ true → P p) → All P (if b then p ∷ [] else [])
+each_if P true p h = All-append P (p ∷ []) [] (λ i d n. let first : i ≡ 0 = omega arith in subst (λ j. P (get_or (p ∷ []) j d)) (sym first) (h refl)) (All-nil P)
+each_if P false p h = All-nil P
 
 module _ (test : Test) (values : ℕ → Value) (positions : List ℕ) where
   abbrev here : ℕ → List ℕ
@@ -91,14 +91,18 @@ module _ (test : Test) (values : ℕ → Value) (positions : List ℕ) where
   pub kept_all : length (kept test values positions (length positions)) ≡ length positions → kept test values positions (length positions) ≡ positions
   kept_all e = first_all (length positions) (omega arith) (omega (arith, e)) ∙ take_all (length positions) positions (omega arith)
 
-  first_within : (m n : ℕ) → n ≤ length positions → All (λ p. p < m) positions → All (λ p. p < m) (kept test values positions n)
-  first_within m zero le all = All-nil (λ p. p < m)
-  first_within m (suc n) le all =
-      All-append (λ p. p < m) (kept test values positions n) (here n) (first_within m n (omega (arith, le)) all)
-      (within_if (meets test (values n)) (get_or positions n 0) m (all n 0 (omega (arith, le))))
+  -- what holds of each position beside a value that meets the test holds of each that is kept
+  first_each : (P : ℕ → Type 0) (n : ℕ) → n ≤ length positions → ((k : ℕ) → k < length positions → meets test (values k) ≡ true → P (get_or positions k 0)) → All P (kept test values positions n)
+  first_each P zero le h = All-nil P
+  first_each P (suc n) le h =
+      All-append P (kept test values positions n) (here n) (first_each P n (omega (arith, le)) h)
+      (each_if P (meets test (values n)) (get_or positions n 0) (h n (omega (arith, le))))
+
+  pub kept_each : (P : ℕ → Type 0) → ((k : ℕ) → k < length positions → meets test (values k) ≡ true → P (get_or positions k 0)) → All P (kept test values positions (length positions))
+  kept_each P h = first_each P (length positions) (omega arith) h
 
   pub kept_within : (m : ℕ) → All (λ p. p < m) positions → All (λ p. p < m) (kept test values positions (length positions))
-  kept_within m all = first_within m (length positions) (omega arith) all
+  kept_within m all = kept_each (λ p. p < m) (λ k l h. all k 0 l)
 
   -- the count of those before a place, and of those up to it
   pub counted_on : (n next new : ℕ) (b : Bool) → b ≡ meets test (values n) → next ≡ length (kept test values positions n) → (IsTrue b → new ≡ next + 1) → (b ≡ false → new ≡ next)

@@ -5,3 +5,4 @@ pub mod LaneLemmas
 pub mod MarkLemmas
 pub mod KeptLemmas
 pub mod ChainLemmas
+pub mod ChoiceLemmas

@@ -84,7 +84,7 @@ column_cell [] n p = sym (cell_none n)
 column_cell (row ∷ rows) n zero = refl
 column_cell (row ∷ rows) n (suc p) = column_cell rows n p
 
-gathered : (xs : List Value) (ps : List ℕ) (k : ℕ) → k < length ps → get_or (gather xs Null ps) k Null ≡ get_or xs (get_or ps k 0) Null
+pub gathered : (xs : List Value) (ps : List ℕ) (k : ℕ) → k < length ps → get_or (gather xs Null ps) k Null ≡ get_or xs (get_or ps k 0) Null
 gathered xs [] k l = absurd (omega arith)
 gathered xs (p ∷ ps) zero l = refl
 gathered xs (p ∷ ps) (suc k) l = gathered xs ps k (omega arith)

@@ -3,3 +3,4 @@ pub mod Comparisons
 pub mod Lanes
 pub mod Kept
 pub mod Chains
+pub mod Choices

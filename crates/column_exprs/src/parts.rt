@@ -1,15 +1,18 @@
 ghost use Rattle.std.specs.Prelude.{◌≡◌, length, map, IfOk, IfSome, IsTrue};
-ghost use Rattle.sql_exprs.specs.Forms.{Form, call, cast, column, form_view, forms_of, more, none};
+ghost use Rattle.sql_exprs.specs.Forms.{Form, branch_view, call, cast, choice, choices_of, column, form_view, forms_of, last, more, none};
 ghost use Rattle.sql_exprs.specs.Meaning.{kind_of};
 ghost use Rattle.column_exprs.specs.Chains.{GoesOn, chain_name};
+ghost use Rattle.column_exprs.specs.Choices.{AreUnsettled, IsChoice, TakesBranch};
 ghost use Rattle.column_exprs.specs.Operands.{AreRows, HasCells, IsOperand, is_strict};
 
 use crate::chain::{Chain, joined_made};
-use crate::kept::{kept_positions, part_at};
+use crate::choice::{Choice, Settled, branch_made, choice_made};
+use crate::kept::{Test, kept_positions, part_at};
 use crate::made::{binary_made, cast_made, unary_made};
 use crate::operand::Operand;
 use crate::rows::Rows;
-use sql_exprs::{Expr, kind_of};
+use col_pages::Page;
+use sql_exprs::{Branch, Expr, kind_of};
 use sql_functions::CallName;
 use sql_values::{Memory, SqlType, ValueRef};
 use std::alloc::Global;
@@ -39,7 +42,13 @@ pub fn operand_of<'a>(
             call_operand(alloc, *name, kind, args.as_slice(), rows)
         }
         Expr::Cast { arg, kind } => cast_operand(alloc, arg, *kind, rows),
-        Expr::Case { .. } => Ok(None),
+        Expr::Case { branches, other } => {
+            let kind = kind_of(rows.page.types(), other);
+            match branches_taken(alloc, kind, branches.as_slice(), rows)? {
+                Some(so_far) => other_taken(alloc, other, so_far, rows),
+                None => Ok(None),
+            }
+        }
     }
 }
 
@@ -208,6 +217,100 @@ fn second_operand<'a>(
 {
     match operand_of(alloc, right, rows)? {
         Some(second) => binary_made(alloc, name, first, &second, rows),
+        None => Ok(None),
+    }
+}
+
+/// What the branches of a case choose, one after the other, where its default has the type.
+#[cycle(parts)]
+fn branches_taken(
+    alloc: Global,
+    kind: SqlType,
+    branches: &[Branch],
+    rows: Rows<'_>,
+) -> Result<Option<Choice>, Memory>
+    requires { AreRows rows }
+    ensures many { IfOk result (λ o. IfSome o (λ c.
+        length c.settled.values.cells ≡ length c.settled.positions.items)) }
+    ensures left { IfOk result (λ o. IfSome o (λ c.
+        AreUnsettled rows.entry.page.now c.unsettled)) }
+    ensures chosen { IfOk result (λ o. IfSome o (λ c. (other : Form)
+        → kind ≡ kind_of rows.entry.page.now.types other
+        → IsChoice (choice (choices_of (map branch_view branches.now)) other) (choice last other)
+        rows.entry.page.now c)) }
+{
+    let mut so_far = Choice::new(alloc, kind, rows)?;
+    for branch in branches {
+        match branch_taken(alloc, branch, so_far, rows.page)? {
+            Some(next) => so_far = next,
+            None => return Ok(None),
+        }
+    }
+    Ok(Some(so_far))
+}
+
+/// The choice so far with one more branch, whose condition is evaluated at the rows that are left.
+#[cycle(parts)]
+fn branch_taken(
+    alloc: Global,
+    branch: &Branch,
+    so_far: Choice,
+    page: &Page,
+) -> Result<Option<Choice>, Memory>
+    requires { AreUnsettled page.now so_far.unsettled }
+    ensures { IfOk result (λ o. IfSome o (TakesBranch
+        (form_view branch.now.test) (form_view branch.now.result) page.now so_far.settled
+        so_far.unsettled.positions.items)) }
+{
+    let Choice { settled, unsettled } = so_far;
+    let rows = unsettled.rows(page);
+    match operand_of(alloc, &branch.test, rows)? {
+        Some(tests) => result_taken(alloc, &branch.result, &tests, settled, rows),
+        None => Ok(None),
+    }
+}
+
+/// The same by the operand of the condition. The result is evaluated at the rows that it chose.
+#[cycle(parts)]
+fn result_taken(
+    alloc: Global,
+    then: &Expr,
+    tests: &Operand<'_>,
+    settled: Settled,
+    rows: Rows<'_>,
+) -> Result<Option<Choice>, Memory>
+    requires rows { AreRows rows }
+    requires tests { HasCells tests.now (length rows.positions.now) }
+    ensures { IfOk result (λ o. IfSome o (λ next. (test : Form) → IsOperand test rows.entry tests.now
+        → TakesBranch test (form_view then.now) rows.entry.page.now settled
+        rows.entry.positions.now next)) }
+{
+    let chosen = kept_positions(alloc, Test::True, tests, rows.positions)?;
+    let part = part_at(Test::True, tests, rows, chosen.as_slice());
+    match operand_of(alloc, then, part)? {
+        Some(results) => branch_made(alloc, tests, &results, settled, rows, part),
+        None => Ok(None),
+    }
+}
+
+/// The rows that no condition chose take the default.
+#[cycle(parts)]
+fn other_taken<'a>(
+    alloc: Global,
+    other: &Expr,
+    so_far: Choice,
+    rows: Rows<'a>,
+) -> Result<Option<Operand<'a>>, Memory>
+    requires rows { AreUnsettled rows.page.now so_far.unsettled }
+    requires values { length so_far.settled.values.cells ≡ length so_far.settled.positions.items }
+    ensures { IfOk result (λ o. IfSome o (λ x. (form : Form)
+        → IsChoice form (choice last (form_view other.now)) rows.entry.page.now so_far
+        → IsOperand form rows.entry x)) }
+{
+    let Choice { settled, unsettled } = so_far;
+    let left = unsettled.rows(rows.page);
+    match operand_of(alloc, other, left)? {
+        Some(others) => choice_made(alloc, settled, &others, left, rows),
         None => Ok(None),
     }
 }

@@ -14,7 +14,7 @@ use std::alloc::Global;
 const TRUTHS: &str = "1 1\n1 0\n1 NULL\n0 1\n0 0\n0 NULL\nNULL 1\nNULL 0\nNULL NULL";
 
 /// Rows of which two have a 0 in the first column.
-const DIVISORS: &str = "0 7\n2 NULL\n0 NULL\n20 9\nNULL 4";
+pub(crate) const DIVISORS: &str = "0 7\n2 NULL\n0 NULL\n20 9\nNULL 4";
 
 const ALL: [u32; 9] = [0, 1, 2, 3, 4, 5, 6, 7, 8];
 
@@ -28,16 +28,16 @@ fn is_above_zero(alloc: Global, column: u32) -> Result<Expr, Memory> {
 }
 
 /// A comparison of the first column with 0.
-fn against_zero(alloc: Global, name: CallName) -> Result<Expr, Memory> {
+pub(crate) fn against_zero(alloc: Global, name: CallName) -> Result<Expr, Memory> {
     binary(alloc, name, Expr::Column(0), literal(alloc, WHOLE, "0")?)
 }
 
 /// 10 divided by the first column.
-fn quotient(alloc: Global) -> Result<Expr, Memory> {
+pub(crate) fn quotient(alloc: Global) -> Result<Expr, Memory> {
     binary(alloc, Divide, literal(alloc, WHOLE, "10")?, Expr::Column(0))
 }
 
-fn is_large_quotient(alloc: Global) -> Result<Expr, Memory> {
+pub(crate) fn is_large_quotient(alloc: Global) -> Result<Expr, Memory> {
     binary(
         alloc,
         Greater,
@@ -59,7 +59,7 @@ fn truths_are(
     Ok(is_twice(text.as_str(), wanted))
 }
 
-fn numbers_are(
+pub(crate) fn numbers_are(
     alloc: Global,
     page: &Page,
     expr: &Expr,

@@ -5,13 +5,15 @@
 //!   `decimals`, `scalar_texts`, `sql_values` and `col_pages`
 //! - `function_tests`: `sql_functions`
 //! - `expr_tests`, with its `expr_cases`, and `typing_tests`: `sql_exprs`
-//! - `column_expr_tests`, `lane_tests`, `chain_tests`: `column_exprs`
+//! - `column_expr_tests`, `lane_tests`, `chain_tests`, `choice_tests`: `column_exprs`
 #![tactic(auto)]
 
 #[cfg(test)]
 mod block_tests;
 #[cfg(test)]
 mod chain_tests;
+#[cfg(test)]
+mod choice_tests;
 #[cfg(test)]
 mod column_expr_tests;
 #[cfg(test)]

@@ -1,4 +1,4 @@
-use Rattle.std.proofs.Common.{◌≡◌, ◌<◌, ◌∙◌, ap, sym, subst, length}
+use Rattle.std.proofs.Common.{◌<◌, ◌∙◌, ap, sym, subst, length}
 use Rattle.std.specs.Prelude.{All}
 use Rattle.column_exprs.specs.Operands.{operand_cell}
 use Rattle.column_exprs.proofs.KeptLemmas.{kept_all, kept_within}
